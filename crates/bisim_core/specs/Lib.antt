@@ -1,0 +1,4 @@
+pub mod Data
+pub mod Ids
+pub mod Edges
+pub mod Model

@@ -1,0 +1,10 @@
+pub mod Bools
+pub mod Refuses
+pub mod Sorts
+pub mod Merging
+pub mod Over
+pub mod Pointwise
+pub mod Seeks
+pub mod Spans
+pub mod Sums
+pub mod Alls

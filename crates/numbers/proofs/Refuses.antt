@@ -1,0 +1,33 @@
+-- Laws of checks in a row, and of tests in a row.
+use mathlib.Core.Path.{_≡_, refl, sym, _∙_}
+use mathlib.Core.Bool.{Bool, true, false, _||_, true≢false, false≢true}
+use Prim.Native.Nat.{ℕ, suc}
+use native.Mathlib.Omega.{arith}
+use Rattle.numbers.specs.Refuse.{check}
+
+-- a check fails: those before it are skipped
+pub check-hit : (n : ℕ) (b : Bool) (later : ℕ) → b ≡ true → check n b later ≡ n
+check-hit n true later e = refl
+check-hit n false later e = absurd (false≢true e)
+
+pub check-skip : (n : ℕ) (b : Bool) (later r : ℕ) → b ≡ false → later ≡ r → check n b later ≡ r
+check-skip n true later r e f = absurd (true≢false e)
+check-skip n false later r e f = f
+
+-- none fails
+pub check-none : (n : ℕ) (b : Bool) (later : ℕ) → check (suc n) b later ≡ 0 → (b ≡ false) × (later ≡ 0)
+check-none n true later e = absurd (omega arith)
+check-none n false later e = (refl, e)
+
+-- a row of tests: the one that holds, those before it that do not
+pub hit : (a b : Bool) → true ≡ a → true ≡ (a || b)
+hit true b e = refl
+hit false b e = absurd (true≢false e)
+
+pub skip : (r a b : Bool) → a ≡ false → r ≡ b → r ≡ (a || b)
+skip r true b e f = absurd (true≢false e)
+skip r false b e f = f
+
+pub none : (a b : Bool) → a ≡ false → b ≡ false → (a || b) ≡ false
+none true b e f = absurd (true≢false e)
+none false b e f = f

@@ -1,0 +1,5 @@
+pub mod Real
+pub mod Refuse
+pub mod Lists
+pub mod Search
+pub mod Sort
