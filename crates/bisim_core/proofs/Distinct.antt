@@ -110,3 +110,17 @@ single-intern known (x ∷ xs) s = pick (known-or-new x known) (single-intern kn
 
 pub single-distinct : (xs : List ℕ) → Single (distinct xs)
 single-distinct xs = single-intern [] xs (λ i h. absurd (omega arith))
+
+-- no more are known than there were values
+pub intern-most : (known xs : List ℕ) → length (intern known xs) ≤ length known + length xs
+unfolding intern
+intern-most known [] = omega arith
+intern-most known (x ∷ xs) = pick (known-or-new x known) (intern-most known xs) (intern-most (known ++ (x ∷ [])) xs)
+  where
+    pick : (seek x known < length known) ⊎ (length known ≤ seek x known) → length (intern known xs) ≤ length known + length xs
+        → length (intern (known ++ (x ∷ [])) xs) ≤ length (known ++ (x ∷ [])) + length xs → length (intern known (x ∷ xs)) ≤ length known + suc (length xs)
+    pick (inl g) p q = let e = ap length (intern-old known x xs g) in omega arith
+    pick (inr g) p q = let e = ap length (intern-new known x xs g) in let m = length-append known (x ∷ []) in omega arith
+
+pub distinct-length : (xs : List ℕ) → length (distinct xs) ≤ length xs
+distinct-length xs = let a = intern-most [] xs in omega arith

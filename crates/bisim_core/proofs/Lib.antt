@@ -5,3 +5,5 @@ pub mod Offsets
 pub mod Orders
 pub mod Ranks
 pub mod Weights
+pub mod Interning
+pub mod IdsExamples

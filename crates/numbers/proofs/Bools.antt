@@ -4,7 +4,7 @@ use mathlib.Core.Logic.{_⊎_, inl, inr, _≢_}
 use mathlib.Core.Bool.{Bool, true, false, _&&_, _||_, not, false≢true, true≢false}
 use Prim.Native.Nat.{ℕ, zero, suc, _+_, _≤_, _<_}
 use native.Mathlib.Omega.{arith}
-use lib.Dec.{ltb}
+use lib.Dec.{T, ltb, eqb}
 use borrow.Author.Tests.{ltb-true, ltb-false}
 
 pub lt-or-ge : (m n : ℕ) → (m < n) ⊎ (n ≤ m)
@@ -65,3 +65,30 @@ and-second false b r e f = absurd (false≢true e)
 pub and-first : (a b : Bool) → a ≡ false → a ≡ (a && b)
 and-first true b e = absurd (true≢false e)
 and-first false b e = refl
+
+pub or-t : (a b : Bool) → (a || b) ≡ true → (a ≡ true) ⊎ (b ≡ true)
+or-t true b e = inl refl
+or-t false b e = inr e
+
+-- ---- a test as a type, as the library's laws of floats have it
+
+pub t-of : {b : Bool} → b ≡ true → T b
+t-of e = subst T (sym e) tt
+
+pub of-t : (b : Bool) → T b → b ≡ true
+of-t true t = refl
+of-t false t = absurd t
+
+-- ---- a test as a number
+
+abbrev pub one-if : Bool → ℕ
+one-if true = 1
+one-if false = 0
+
+pub one-if-le : (b : Bool) → one-if b ≤ 1
+one-if-le true = omega arith
+one-if-le false = omega arith
+
+pub one-if-test : (b : Bool) → eqb (one-if b) 1 ≡ b
+one-if-test true = refl
+one-if-test false = refl

@@ -8,3 +8,6 @@ pub mod Seeks
 pub mod Spans
 pub mod Sums
 pub mod Alls
+pub mod Masks
+pub mod Packed
+pub mod Constants

@@ -3,3 +3,4 @@ pub mod Refuse
 pub mod Lists
 pub mod Search
 pub mod Sort
+pub mod Bits

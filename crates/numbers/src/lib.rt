@@ -1,4 +1,4 @@
-// Numbers: `Real` of semiring.rs, and the ordered search that stands in for hash maps.
+// Numbers: `Real` of semiring.rs, the constants of document 01, the ordered search that stands in for hash maps, and the bits of a byte store.
 ghost use mathlib.Core.Path.{_≡_};
 ghost use Prim.Native.Nat.{_≤_};
 ghost use mathlib.Core.Bool.{false};
@@ -6,6 +6,35 @@ ghost use lib.ListN.{length, take};
 ghost use lib.Ieee.{inf};
 ghost use Rattle.numbers.specs.Real.{isZero, isValid, sum};
 ghost use Rattle.numbers.specs.Search;
+ghost use Rattle.numbers.specs.Bits.{bitAt, cleared};
+
+// The constants of document 01; the definition of each is in specs/Real.antt.
+
+pub const ONE: f64 = 1.0; // one
+
+pub const HALF: f64 = 0.5; // half
+
+pub const TENTH: f64 = 0.1; // tenth
+
+pub const LEAST_WEIGHT: f64 = 9.094947017729282e-13; // leastWeight, 2^-40
+
+pub const GREATEST_WEIGHT: f64 = 1099511627776.0; // greatestWeight, 2^40
+
+pub const GREATEST_JOINED: f64 = 4503599627370496.0; // greatestJoined, 2^52
+
+pub const LEAST_OBSERVATION: f64 = -1099511627776.0; // leastObservation, -2^40
+
+pub const GREATEST_FACTOR: f64 = 1048576.0; // greatestFactor, 2^20
+
+pub const GREATEST_RATE: f64 = 18446744073709551616.0; // greatestRate, 2^64
+
+pub const EPS: f64 = 1e-12; // eps
+
+pub const SLACK: f64 = 1e-9; // slack
+
+pub const MARGIN: f64 = 1e-15; // margin
+
+pub const FINENESS: f64 = 1e-4; // fineness
 
 // A weight: a rate or a probability.
 pub struct Real(pub f64);
@@ -75,4 +104,27 @@ pub fn seek(list: &[u32], n: usize, x: u32) -> usize
         return place_in(list, n, x);
     }
     place_in(list, list.len(), x)
+}
+
+// Bit i of a store of bytes, lowest bit of a byte first; false past its end.
+pub fn bit(store: &[u8], i: usize) -> bool
+    ensures { λ b. ⌜ b ≡ bitAt (now (store .entry)) i ⌝ }
+{
+    let k = i >> 3;
+    if store.len() <= k {
+        return false;
+    }
+    (store[k] >> (i & 7)) & 1 == 1
+}
+
+// Clears bit i of a store; past its end nothing is changed.
+pub fn clear_bit(store: &mut [u8], i: usize)
+    ensures { λ r. ⌜ now (store .exit) ≡ cleared (now (store .entry)) i ⌝ }
+{
+    let k = i >> 3;
+    if k < store.len() {
+        let byte = store[k];
+        let mask = 1u8 << (i & 7);
+        store[k] = byte - (byte & mask);
+    }
 }

@@ -1,0 +1,9 @@
+pub mod Merges
+pub mod Halving
+pub mod Interns
+pub mod Notes
+pub mod Crowds
+pub mod Joins
+pub mod Makes
+pub mod Writes
+pub mod Builds

@@ -1,0 +1,84 @@
+use mathlib.Core.Path.{_≡_, refl, ap, sym, _∙_}
+use mathlib.Core.Logic.{⊎-elim}
+use Prim.Native.Nat.{ℕ, _+_, _-_, _≤_}
+use native.Mathlib.Omega.{arith}
+use lib.ListN.{length, length-set}
+use Rattle.bisim_build.proofs.Crowds.{Crowding, crowding, Ready, ready-same, ready-new, crowd-self, crowd-more, crowd-found, crowd-none}
+use borrow.Author.Needs.{needs}
+use Rattle.bisim_build.proofs.checks.crowded.Statement.{statement}
+use Rattle.bisim_build.proofs.checks.crowded.Tie as tie
+use Rattle.bisim_build.proofs.checks.crowded.Reads as reads
+use Rattle.bisim_build.proofs.checks.crowded.Lts as lts
+use Rattle.bisim_build.proofs.checks.note.Reads as note-reads
+
+abbrev Inv-loop : tie.InvT-loop
+Inv-loop triples m seen₀ count₀ state₀ j₀ seen count state j = Crowding triples m seen count state j
+
+abbrev μ-loop : tie.MeasureT-loop
+μ-loop triples m seen₀ count₀ state₀ j₀ seen count state j = m - j
+
+ready : (c : tie.Joined1 Inv-loop μ-loop) → Ready (c .before .before .before .loop .inv) (c .before .before .before .before .before .pre .1) (c .before .before .loop-test .taken) (c .if1 .count)
+ready c =
+    let d = c .before .before .before in
+    ⊎-elim
+    (λ w. ready-new (d .loop .inv) (d .before .before .pre .1) (c .before .before .loop-test .taken) (w .0 .taken) _ (w .1))
+    (λ w. ready-same (d .loop .inv) (d .before .before .pre .1) (c .before .before .loop-test .taken) (w .0 .left) _ (w .1))
+    (c .if1 .came)
+
+loop-holds : tie.Need-loop-holds Inv-loop μ-loop
+loop-holds c = crowding _ _ _ refl
+
+mul-q : tie.Need-mul-q Inv-loop μ-loop
+mul-q c = let p = c .before .before .before .pre .0 in omega arith
+
+shared-slice-read-q : tie.Need-shared-slice-read-q Inv-loop μ-loop
+shared-slice-read-q c = let p = c .before .before .before .before .pre .0 in omega arith
+
+slice-aggregate-note : tie.Need-slice-aggregate-note Inv-loop μ-loop
+slice-aggregate-note c = sym (c .before .before .before .before .before .loop .inv .size)
+
+cast-note : tie.Need-cast-note Inv-loop μ-loop
+cast-note c = search needs
+
+note-requires : tie.Need-note-requires Inv-loop μ-loop
+note-requires c κs = let e = c .before .before .before .before .before .loop .inv .size in let f = ready (c .before .before) .few in (omega arith, omega arith)
+
+returns : tie.Need-returns Inv-loop μ-loop
+returns c =
+    let d = c .before .before .before .before .before .before .before .before in
+    crowd-found (d .loop .inv) (d .before .before .pre .1) (c .before .before .before .before .before .before .before .loop-test .taken) _ (ready (c .before .before .before .before .before)) (c .before .before .before .before .if2 .taken) _ _ (c .before .before .note .ensures) (c .if3 .taken)
+
+add-j : tie.Need-add-j Inv-loop μ-loop
+add-j c = search needs
+
+loop-less : tie.Need-loop-less Inv-loop μ-loop
+loop-less c = search needs
+
+loop-again : tie.Need-loop-again Inv-loop μ-loop
+loop-again c =
+    let d = c .before .before .before .before in
+    ⊎-elim
+    (λ w. crowd-more (d .loop .inv) (d .before .before .pre .1) (c .before .before .before .loop-test .taken) _ (ready (c .before)) (w .0 .taken) _ _ (w .2 .ensures) (w .2 .kept .0) (w .4 .left) _ _ (w .5) (w .6))
+    (λ w. crowd-self (d .loop .inv) (d .before .before .pre .1) (c .before .before .before .loop-test .taken) _ (ready (c .before)) (w .0 .left) _ _ (w .1) (w .2))
+    (c .if2 .came)
+
+returns-2 : tie.Need-returns-2 Inv-loop μ-loop
+returns-2 c = crowd-none (c .before .loop .inv) (c .loop-test .left)
+
+pub crowded-spec : {M : Type 1} → statement M
+crowded-spec =
+    tie.close
+    (tie.spec
+    Inv-loop
+    μ-loop
+    loop-holds
+    mul-q
+    shared-slice-read-q
+    slice-aggregate-note
+    cast-note
+    note-requires
+    returns
+    add-j
+    loop-less
+    loop-again
+    returns-2)

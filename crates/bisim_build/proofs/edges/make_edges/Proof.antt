@@ -1,0 +1,52 @@
+use mathlib.Core.Path.{_≡_, refl, ap, sym, _∙_}
+use native.Mathlib.Omega.{arith}
+use Rattle.bisim_build.proofs.Makes.{keyable, within, front-length, joinable, edges-made}
+use borrow.Author.Needs.{needs}
+use Rattle.bisim_build.proofs.edges.make_edges.Statement.{statement}
+use Rattle.bisim_build.proofs.edges.make_edges.Tie as tie
+use Rattle.bisim_build.proofs.edges.make_edges.Reads as reads
+use Rattle.bisim_build.proofs.edges.make_edges.Lts as lts
+use Rattle.bisim_build.proofs.sort.sort_keys.Reads as sort-keys-reads
+use Rattle.bisim_build.proofs.edges.join_runs.Reads as join-runs-reads
+use Rattle.bisim_build.proofs.edges.make_keys.Reads as make-keys-reads
+
+make-keys-requires : tie.Need-make-keys-requires
+make-keys-requires c κs = search needs
+
+slice-relend-prefix-sort-keys : tie.Need-slice-relend-prefix-sort-keys
+slice-relend-prefix-sort-keys c = search needs
+
+slice-aggregate-sort-keys : tie.Need-slice-aggregate-sort-keys
+slice-aggregate-sort-keys c = sym (front-length (c .before .before .before .before .before .before .before .before .before .before .before .before .args .sources .now) (c .before .before .before .before .before .before .before .before .before .before .before .before .args .ids .now) (c .before .before .before .before .before .before .before .before .before .before .before .before .args .targets .now) (c .before .before .before .before .before .before .before .before .before .before .before .before .args .weights .now) (c .before .before .before .before .before .before .before .before .before .before .before .before .args .n) (c .before .before .before .before .before .before .before .before .before .before .before .before .args .keys .now) (c .before .before .before .before .before .before .before .before .before .before .before .before .args .spare .now) (c .before .before .before .before .before .before .before .before .before .before .before .before .args .sums .now) (c .before .before .before .before .before .before .before .before .before .before .before .before .pre) (c .before .before .before .make-keys .last .1 .1 .1 .1 .0) (c .before .before .before .make-keys .kept .1 .1 .1 .1 .0) (c .before .before .before .make-keys .ensures))
+
+sort-keys-requires : tie.Need-sort-keys-requires
+sort-keys-requires c κs = let e = front-length (c .before .before .before .before .before .before .before .before .before .before .before .before .before .args .sources .now) (c .before .before .before .before .before .before .before .before .before .before .before .before .before .args .ids .now) (c .before .before .before .before .before .before .before .before .before .before .before .before .before .args .targets .now) (c .before .before .before .before .before .before .before .before .before .before .before .before .before .args .weights .now) (c .before .before .before .before .before .before .before .before .before .before .before .before .before .args .n) (c .before .before .before .before .before .before .before .before .before .before .before .before .before .args .keys .now) (c .before .before .before .before .before .before .before .before .before .before .before .before .before .args .spare .now) (c .before .before .before .before .before .before .before .before .before .before .before .before .before .args .sums .now) (c .before .before .before .before .before .before .before .before .before .before .before .before .before .pre) (c .before .before .before .before .make-keys .last .1 .1 .1 .1 .0) (c .before .before .before .before .make-keys .kept .1 .1 .1 .1 .0) (c .before .before .before .before .make-keys .ensures) in let s = c .before .before .before .before .before .before .before .before .before .before .before .before .before .pre .s-room in omega arith
+
+join-runs-requires : tie.Need-join-runs-requires
+join-runs-requires c κs = joinable (c .before .before .before .before .before .before .before .before .before .before .before .before .before .before .before .before .before .before .before .before .before .args .sources .now) (c .before .before .before .before .before .before .before .before .before .before .before .before .before .before .before .before .before .before .before .before .before .args .ids .now) (c .before .before .before .before .before .before .before .before .before .before .before .before .before .before .before .before .before .before .before .before .before .args .targets .now) (c .before .before .before .before .before .before .before .before .before .before .before .before .before .before .before .before .before .before .before .before .before .args .weights .now) (c .before .before .before .before .before .before .before .before .before .before .before .before .before .before .before .before .before .before .before .before .before .args .n) (c .before .before .before .before .before .before .before .before .before .before .before .before .before .before .before .before .before .before .before .before .before .args .keys .now) (c .before .before .before .before .before .before .before .before .before .before .before .before .before .before .before .before .before .before .before .before .before .args .spare .now) (c .before .before .before .before .before .before .before .before .before .before .before .before .before .before .before .before .before .before .before .before .before .args .sums .now) (c .before .before .before .before .before .before .before .before .before .before .before .before .before .before .before .before .before .before .before .before .before .pre) (c .before .before .before .before .before .before .before .before .before .before .before .before .make-keys .last .1 .1 .1 .1 .0) (c .before .before .before .before .before .before .before .before .before .before .before .before .make-keys .kept .1 .1 .1 .1 .0) (c .before .before .before .before .before .before .before .before .before .before .before .before .make-keys .ensures) (c .before .before .before .before .before .before .before .sort-keys .last .0) (c .before .before .before .before .before .before .before .sort-keys .ensures) _ (c .before .before .before .before .before .before .before .sort-keys .kept .1 .0)
+
+same-length : tie.Need-same-length
+same-length c = search needs
+
+same-length-2 : tie.Need-same-length-2
+same-length-2 c = search needs
+
+same-length-3 : tie.Need-same-length-3
+same-length-3 c = search needs
+
+returns : tie.Need-returns
+returns c = edges-made (c .before .before .before .before .before .before .before .before .before .before .before .before .before .before .before .before .before .before .before .before .before .before .before .before .before .before .args .sources .now) (c .before .before .before .before .before .before .before .before .before .before .before .before .before .before .before .before .before .before .before .before .before .before .before .before .before .before .args .ids .now) (c .before .before .before .before .before .before .before .before .before .before .before .before .before .before .before .before .before .before .before .before .before .before .before .before .before .before .args .targets .now) (c .before .before .before .before .before .before .before .before .before .before .before .before .before .before .before .before .before .before .before .before .before .before .before .before .before .before .args .weights .now) (c .before .before .before .before .before .before .before .before .before .before .before .before .before .before .before .before .before .before .before .before .before .before .before .before .before .before .args .n) (c .before .before .before .before .before .before .before .before .before .before .before .before .before .before .before .before .before .before .before .before .before .before .before .before .before .before .args .keys .now) (c .before .before .before .before .before .before .before .before .before .before .before .before .before .before .before .before .before .before .before .before .before .before .before .before .before .before .args .spare .now) (c .before .before .before .before .before .before .before .before .before .before .before .before .before .before .before .before .before .before .before .before .before .before .before .before .before .before .args .sums .now) (c .before .before .before .before .before .before .before .before .before .before .before .before .before .before .before .before .before .before .before .before .before .before .before .before .before .before .pre) (c .before .before .before .before .before .before .before .before .before .before .before .before .before .before .before .before .before .make-keys .last .1 .1 .1 .1 .0) (c .before .before .before .before .before .before .before .before .before .before .before .before .before .before .before .before .before .make-keys .kept .1 .1 .1 .1 .0) (c .before .before .before .before .before .before .before .before .before .before .before .before .before .before .before .before .before .make-keys .ensures) (c .before .before .before .before .before .before .before .before .before .before .before .before .sort-keys .last .0) (c .before .before .before .before .before .before .before .before .before .before .before .before .sort-keys .ensures) _ _ _ (c .before .before .before .before .join-runs .ensures)
+
+pub make-edges-spec : {M : Type 1} → statement M
+make-edges-spec =
+    tie.close
+    (tie.spec
+    make-keys-requires
+    slice-relend-prefix-sort-keys
+    slice-aggregate-sort-keys
+    sort-keys-requires
+    join-runs-requires
+    same-length
+    same-length-2
+    same-length-3
+    returns)

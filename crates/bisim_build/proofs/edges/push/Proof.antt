@@ -1,0 +1,47 @@
+use mathlib.Core.Path.{_≡_, refl, ap, _∙_}
+use borrow.Author.Needs.{needs}
+use Rattle.bisim_build.proofs.edges.push.Statement.{statement}
+use Rattle.bisim_build.proofs.edges.push.Tie as tie
+use Rattle.bisim_build.proofs.edges.push.Reads as reads
+use Rattle.bisim_build.proofs.edges.push.Lts as lts
+
+returns : tie.Need-returns
+returns c = record { triples = rw (c .if1 .taken); sums = rw (c .if1 .taken); count = rw (c .if1 .taken) }
+
+mul-triples : tie.Need-mul-triples
+mul-triples c = search needs
+
+slice-write-triples : tie.Need-slice-write-triples
+slice-write-triples c = search needs
+
+mul-sums : tie.Need-mul-sums
+mul-sums c = search needs
+
+slice-write-sums : tie.Need-slice-write-sums
+slice-write-sums c = search needs
+
+add-result : tie.Need-add-result
+add-result c = search needs
+
+same-length : tie.Need-same-length
+same-length c = search needs
+
+same-length-2 : tie.Need-same-length-2
+same-length-2 c = search needs
+
+returns-2 : tie.Need-returns-2
+returns-2 c = record { triples = rw (c .if1 .left); sums = rw (c .if1 .left); count = rw (c .if1 .left) }
+
+pub push-spec : {M : Type 1} → statement M
+push-spec =
+    tie.close
+    (tie.spec
+    returns
+    mul-triples
+    slice-write-triples
+    mul-sums
+    slice-write-sums
+    add-result
+    same-length
+    same-length-2
+    returns-2)
