@@ -1,8 +1,8 @@
 -- Tests read as facts, and tests that are put together.
-use mathlib.Core.Path.{_≡_, refl, sym, subst, ap, _∙_}
+use mathlib.Core.Path.{_≡_, refl, sym, subst}
 use mathlib.Core.Logic.{_⊎_, inl, inr, _≢_}
-use mathlib.Core.Bool.{Bool, true, false, _&&_, _||_, not, false≢true, true≢false}
-use Prim.Native.Nat.{ℕ, zero, suc, _+_, _≤_, _<_}
+use mathlib.Core.Bool.{Bool, true, false, _&&_, _||_, false≢true, true≢false}
+use Prim.Native.Nat.{ℕ, _≤_, _<_}
 use native.Mathlib.Omega.{arith}
 use lib.Dec.{T, ltb, eqb}
 use borrow.Author.Tests.{ltb-true, ltb-false}
@@ -70,14 +70,10 @@ pub or-t : (a b : Bool) → (a || b) ≡ true → (a ≡ true) ⊎ (b ≡ true)
 or-t true b e = inl refl
 or-t false b e = inr e
 
--- ---- a test as a type, as the library's laws of floats have it
+-- ---- a test as a type, as the library's laws of floats have it; back by its `is-true` (lib.Ieee.Bits)
 
 pub t-of : {b : Bool} → b ≡ true → T b
 t-of e = subst T (sym e) tt
-
-pub of-t : (b : Bool) → T b → b ≡ true
-of-t true t = refl
-of-t false t = absurd t
 
 -- ---- a test as a number
 

@@ -3,7 +3,7 @@
 use mathlib.Core.Path.{_≡_, refl}
 use mathlib.Core.Bool.{true, false}
 use lib.IntN.{pos, negsuc}
-use lib.Ieee.{Float, fin, binary64, ofBits, ofFields}
+use lib.Ieee.{fin, ofBits, ofFields}
 use Rattle.numbers.specs.Real.{nought, one, half, tenth, leastWeight, greatestWeight, greatestJoined, leastObservation, greatestFactor, greatestRate, eps, slack, margin, fineness}
 
 pub nought-is : nought ≡ fin false 0 (pos 0)

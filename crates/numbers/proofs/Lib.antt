@@ -11,3 +11,8 @@ pub mod Alls
 pub mod Masks
 pub mod Packed
 pub mod Constants
+pub mod Floats
+pub mod Comparisons
+pub mod Members
+pub mod Parts
+pub mod Choices

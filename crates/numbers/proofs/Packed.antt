@@ -1,13 +1,13 @@
 -- The bytes of a packed list: its bits are the entries, clearing a bit clears the entry, and unpacking gives the list back.
 -- A byte's bits by induction on the eight entries that it holds; a store's by induction on its bytes.
-use mathlib.Core.Path.{_≡_, refl, sym, subst, ap, _∙_}
+use mathlib.Core.Path.{_≡_, refl, sym, ap, _∙_}
 use mathlib.Core.Logic.{_⊎_, inl, inr}
 use Prim.Native.Nat.{ℕ, zero, suc, _≤_, _<_, _+_, _*_, _-_, _/_, _%_, _^_}
 use mathlib.Core.Bool.{Bool, true, false}
 use mathlib.Core.List.{List, [], _∷_}
 use native.Mathlib.Omega.{arith}
 use native.Mathlib.Nat.{not-suc-le-zero, div-div-eq-div-mul, pow-succ', zero-div, mul-left-comm}
-use lib.Dec.{eqb, ltb}
+use lib.Dec.{eqb}
 use lib.ListN.{length, getD, set, take, drop, length-set, List·getD-eq-default}
 use lib.Seq.{getD-take, getD-drop, drop-drop, take-set-lt, take-set-le, drop-set-lt, drop-set-add, ext-getD, set-out, set-getD}
 use Rattle.numbers.specs.Bits.{bits, pack, packed, bitAt, unpack, without, cleared}

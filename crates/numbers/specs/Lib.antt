@@ -1,4 +1,5 @@
 pub mod Real
+pub mod Choice
 pub mod Refuse
 pub mod Lists
 pub mod Search

@@ -1,5 +1,4 @@
 -- `Real` of semiring.rs, and the constants of document 01. Numbers are binary64, one rounding per operation.
-use Prim.Native.Nat.{ℕ}
 use mathlib.Core.Bool.{Bool, false, _&&_}
 use mathlib.Core.List.{List, [], _∷_}
 use lib.Ieee.{Float, inf, binary64, ofBits, add, eq, le, lt}

@@ -5,6 +5,7 @@ ghost use mathlib.Core.Bool.{false};
 ghost use lib.ListN.{length, take};
 ghost use lib.Ieee.{inf};
 ghost use Rattle.numbers.specs.Real.{isZero, isValid, sum};
+ghost use Rattle.numbers.specs.Choice;
 ghost use Rattle.numbers.specs.Search;
 ghost use Rattle.numbers.specs.Bits.{bitAt, cleared};
 
@@ -81,17 +82,39 @@ pub fn infinity() -> f64
     1.0 / 0.0
 }
 
+// The lesser of two numbers, x where they are equal.
+pub fn smaller(x: f64, y: f64) -> f64
+    ensures { λ r. ⌜ r ≡ Choice.smaller x y ⌝ }
+{
+    if y < x { y } else { x }
+}
+
+// The greater of two numbers, x where they are equal.
+pub fn larger(x: f64, y: f64) -> f64
+    ensures { λ r. ⌜ r ≡ Choice.larger x y ⌝ }
+{
+    if x < y { y } else { x }
+}
+
+// How far apart two numbers are.
+pub fn apart(x: f64, y: f64) -> f64
+    ensures { λ r. ⌜ r ≡ Choice.apart x y ⌝ }
+{
+    let d = x - y;
+    if d < 0.0 { -d } else { d }
+}
+
 // Where x first stands in list[..n]; n if it does not.
 fn place_in(list: &[u32], n: usize, x: u32) -> usize
     requires { ⌜ n ≤ length (now list) ⌝ }
     ensures { λ r. ⌜ r ≡ Search.seek x (take n (now (list .entry))) ⌝ }
 {
-    let mut i = 0;
-    while i < n {
-        if list[i] == x {
-            return i;
+    let mut at = 0;
+    while at < n {
+        if list[at] == x {
+            return at;
         }
-        i += 1;
+        at += 1;
     }
     n
 }

@@ -1,65 +1,56 @@
-use mathlib.Core.Path.{_≡_, refl, sym, ap, _∙_}
+-- `numbers::place_in` meets its contract. The invariant: the place sought is `at` entries past its place in what is still to come. A turn finds it there at once, or passes one entry.
+use mathlib.Core.Path.{_≡_, ap, _∙_}
 use Prim.Native.Nat.{ℕ, _-_, _+_, _≤_}
 use native.Mathlib.Omega.{arith}
-use lib.ListN.{length, take}
+use lib.ListN.{take}
 use lib.Seq.{slice}
 use Rattle.numbers.specs.Search as I
 use Rattle.numbers.proofs.Seeks.{sought, unsought, seek-nil}
 use borrow.Author.Needs.{needs}
 use Rattle.numbers.proofs.place_in.Statement.{statement}
 use Rattle.numbers.proofs.place_in.Tie as tie
-use Rattle.numbers.proofs.place_in.Reads as reads
-use Rattle.numbers.proofs.place_in.Lts as lts
 
 abbrev Inv-loop : tie.InvT-loop
-Inv-loop list n x i₀ i = (i ≤ n) × (I.seek x (take n list) ≡ i + I.seek x (slice i n list))
+Inv-loop list n x at₀ at = (at ≤ n) × (I.seek x (take n list) ≡ at + I.seek x (slice at n list))
 
 abbrev μ-loop : tie.MeasureT-loop
-μ-loop list n x i₀ i = n - i
+μ-loop list n x at₀ at = n - at
 
--- src/lib.rt:36:5
 loop-holds : tie.Need-loop-holds Inv-loop μ-loop
 loop-holds c = (omega arith, omega arith)
 
--- src/lib.rt:37:12
 mul-if1 : tie.Need-mul-if1 Inv-loop μ-loop
 mul-if1 c = let p = c .before .before .pre in let h = c .loop-test .taken in omega arith
 
--- src/lib.rt:37:12
 shared-slice-read-if1 : tie.Need-shared-slice-read-if1 Inv-loop μ-loop
 shared-slice-read-if1 c = let p = c .before .before .before .pre in let h = c .before .loop-test .taken in omega arith
 
--- src/lib.rt:38:13
 returns : tie.Need-returns Inv-loop μ-loop
 returns c =
     let d = c .before .before .before in
-    let z = sought (d .before .args .x) (d .before .args .list .now) (d .before .args .n) (d .loop .i) (c .before .before .loop-test .taken) (d .before .pre) (c .if1 .taken) in
+    let z = sought (d .before .args .x) (d .before .args .list .now) (d .before .args .n) (d .loop .at) (c .before .before .loop-test .taken) (d .before .pre) (c .if1 .taken) in
     let e = d .loop .inv .1 in omega arith
 
--- src/lib.rt:40:9
-add-i : tie.Need-add-i Inv-loop μ-loop
-add-i c = search needs
+add-at : tie.Need-add-at Inv-loop μ-loop
+add-at c = search needs
 
--- src/lib.rt:36:5
 loop-less : tie.Need-loop-less Inv-loop μ-loop
 loop-less c = search needs
 
--- src/lib.rt:36:5
 loop-again : tie.Need-loop-again Inv-loop μ-loop
 loop-again c =
     let d = c .before .before .before in
     let h = c .before .before .loop-test .taken in
-    let z = unsought (d .before .args .x) (d .before .args .list .now) (d .before .args .n) (d .loop .i) h (d .before .pre) (c .if1 .left) in
+    let z = unsought (d .before .args .x) (d .before .args .list .now) (d .before .args .n) (d .loop .at) h (d .before .pre) (c .if1 .left) in
     let e = d .loop .inv .1 in (omega arith, omega arith)
 
--- src/lib.rt:31:1
 returns-2 : tie.Need-returns-2 Inv-loop μ-loop
 returns-2 c =
     let d = c .before in
     let h = c .loop-test .left in
     let l = d .loop .inv .0 in
     let e = d .loop .inv .1 in
-    let q : d .loop .i ≡ d .before .args .n = omega arith in
+    let q : d .loop .at ≡ d .before .args .n = omega arith in
     let z = ap (λ (j : ℕ). I.seek (d .before .args .x) (slice j (d .before .args .n) (d .before .args .list .now))) q ∙ seek-nil (d .before .args .x) (d .before .args .list .now) (d .before .args .n) in
     omega arith
 
@@ -73,7 +64,7 @@ place-in-spec =
     mul-if1
     shared-slice-read-if1
     returns
-    add-i
+    add-at
     loop-less
     loop-again
     returns-2)

@@ -1,0 +1,97 @@
+//! Times the Rust and the static library on the same inputs, in turn; `bench [NAME..]` selects cases by prefix.
+//!
+//! Prints `NAME rust_ns A ours_ns B ratio A/B`, medians over the samples. The Rust side is a new builder, each
+//! transition added, `build` and the release of the model. Our side is `build` into stores that are allocated once and
+//! not cleared between calls.
+
+use std::hint::black_box;
+use std::time::Instant;
+
+use oracle::answers::built;
+use oracle::args::BuildArgs;
+use oracle::generate::Rng;
+use oracle::generate::build::{Size, good};
+use oracle::ours;
+
+const SAMPLES: usize = 31;
+/// A sample lasts at least this long.
+const SAMPLE_NS: u128 = 2_000_000;
+
+fn input(states: usize, given: usize, labels: usize) -> BuildArgs {
+    let size = Size {
+        states,
+        given,
+        labels,
+        targets: 16,
+    };
+    let mut args = good(&mut Rng::new(1), size);
+    let mut rng = Rng::new(2);
+    args.weights.fill_with(|| rng.unit() + 0.1);
+    args
+}
+
+/// The same transitions by source, label value and target.
+fn sorted(args: &BuildArgs) -> BuildArgs {
+    let mut order: Vec<usize> = (0..args.given).collect();
+    order.sort_by_key(|&i| (args.sources[i], args.labels[i], args.targets[i]));
+    let column = |from: &[u32]| order.iter().map(|&i| from[i]).collect();
+    BuildArgs {
+        sources: column(&args.sources),
+        labels: column(&args.labels),
+        targets: column(&args.targets),
+        weights: order.iter().map(|&i| args.weights[i]).collect(),
+        ..args.clone()
+    }
+}
+
+fn cases() -> Vec<(&'static str, BuildArgs)> {
+    let random = input(400, 4_096, 4);
+    vec![
+        ("build_20", input(8, 20, 3)),
+        ("build_400", input(60, 400, 4)),
+        ("build_4096", random.clone()),
+        ("build_4096_256_labels", input(400, 4_096, 256)),
+        ("build_4096_sorted", sorted(&random)),
+    ]
+}
+
+fn nanoseconds(turns: u128, run: &mut dyn FnMut()) -> u128 {
+    let start = Instant::now();
+    for _ in 0..turns {
+        run();
+    }
+    start.elapsed().as_nanos() / turns
+}
+
+fn median(mut times: Vec<u128>) -> u128 {
+    times.sort_unstable();
+    times[times.len() / 2]
+}
+
+fn measure(name: &str, args: &BuildArgs) {
+    let mut lent = args.clone();
+    let mut rust = || drop(black_box(built(black_box(args))));
+    let (mut edges, mut labels) = (0, 0);
+    let mut library = || {
+        let refusal = ours::build(black_box(&mut lent), &mut edges, &mut labels);
+        assert_eq!(black_box(refusal), 0);
+    };
+    let turns = 1 + SAMPLE_NS / nanoseconds(3, &mut rust).max(1);
+    let (mut a, mut b) = (Vec::new(), Vec::new());
+    for _ in 0..SAMPLES {
+        a.push(nanoseconds(turns, &mut rust));
+        b.push(nanoseconds(turns, &mut library));
+    }
+    let (a, b) = (median(a), median(b));
+    let ratio = a as f64 / b.max(1) as f64;
+    println!("{name} rust_ns {a} ours_ns {b} ratio {ratio:.2}");
+}
+
+fn main() {
+    let names: Vec<String> = std::env::args().skip(1).collect();
+    for (name, args) in cases() {
+        if names.is_empty() || names.iter().any(|prefix| name.starts_with(prefix.as_str())) {
+            measure(name, &args);
+        }
+    }
+}

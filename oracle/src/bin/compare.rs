@@ -1,0 +1,211 @@
+//! Runs the Rust and the static library on the same inputs and compares answers and lent memory.
+//!
+//! `compare [--seed N] [--scale K]`: K times as many random inputs. Exit status 1 where something differs or a floor
+//! is not reached, 2 on bad usage.
+
+use std::collections::BTreeMap;
+use std::process::ExitCode;
+
+use oracle::generate::{Rng, build, labels, model};
+use oracle::ours::Ours;
+use oracle::refusals::ROWS;
+use oracle::sample;
+use oracle::text::{Case, Field, Value, same, write_case};
+
+/// Least number of comparisons of every entry.
+const FLOOR: u64 = 10_000;
+/// Least number of comparisons of every entry for each refusal number of its row, and of those not refused.
+const REFUSAL_FLOOR: u64 = 200;
+/// Differences printed of each entry.
+const SHOWN: u64 = 3;
+/// Tries to make a difference shorter.
+const TRIES: usize = 600;
+
+#[derive(Default)]
+struct Entry {
+    compared: u64,
+    differ: u64,
+    /// Comparisons by the oracle's refusal number, 0 for none.
+    refused: BTreeMap<u32, u64>,
+}
+
+#[derive(Default)]
+struct Tally {
+    entries: BTreeMap<&'static str, Entry>,
+}
+
+/// Each answer line with the lent lists after it.
+fn by_entry(fields: &[Field]) -> impl Iterator<Item = &[Field]> {
+    fields.chunk_by(|_, next| !matches!(next.value, Value::Answer(..)))
+}
+
+fn alike(a: &[Field], b: &[Field]) -> bool {
+    a.len() == b.len() && a.iter().zip(b).all(|(a, b)| same(&a.value, &b.value))
+}
+
+/// Takes parts out as long as the two sides still differ on what is left, in at most [`TRIES`] tries.
+fn shrunk<C: Ours>(case: &C) -> C {
+    let mut least = case.clone();
+    let mut chunk = least.parts();
+    let mut tries = 0;
+    while chunk > 0 && tries < TRIES {
+        let mut at = 0;
+        while at + chunk <= least.parts() && tries < TRIES {
+            tries += 1;
+            let shorter = least.without(at, at + chunk);
+            if alike(&shorter.oracle(), &shorter.ours()) {
+                at += chunk;
+            } else {
+                least = shorter;
+            }
+        }
+        chunk /= 2;
+    }
+    least
+}
+
+/// Prints the case, shortened, and what the library answers.
+fn show<C: Ours>(case: &C) {
+    let case = shrunk(case);
+    let ours = Case {
+        kind: C::KIND,
+        fields: case.ours(),
+    };
+    print!(
+        "differs:\n{}ours:\n{}",
+        write_case(&case.case()),
+        write_case(&ours)
+    );
+}
+
+impl Tally {
+    fn check<C: Ours>(&mut self, case: &C) {
+        let (oracle, ours) = (case.oracle(), case.ours());
+        for (expected, got) in by_entry(&oracle).zip(by_entry(&ours)) {
+            let Value::Answer(refusal, _) = expected[0].value else {
+                panic!("{} is no answer", expected[0].name);
+            };
+            let entry = self.entries.entry(expected[0].name).or_default();
+            entry.compared += 1;
+            *entry.refused.entry(refusal).or_default() += 1;
+            if !alike(expected, got) {
+                entry.differ += 1;
+                if entry.differ <= SHOWN {
+                    show(case);
+                }
+            }
+        }
+    }
+
+    /// Prints a line per entry; true where a floor is not reached.
+    fn report(&self) -> bool {
+        let mut short = false;
+        for &(name, row) in ROWS {
+            let none = Entry::default();
+            let entry = self.entries.get(name).unwrap_or(&none);
+            let count = |number: u32| entry.refused.get(&number).copied().unwrap_or(0);
+            let refused: Vec<String> = row.iter().map(|&r| format!("{r} {}", count(r))).collect();
+            let refused = if row.is_empty() {
+                "none".into()
+            } else {
+                refused.join(", ")
+            };
+            println!(
+                "{name}: {} compared, {} differ (refused: {refused})",
+                entry.compared, entry.differ
+            );
+            let low = |number: &u32| count(*number) < REFUSAL_FLOOR;
+            if entry.compared < FLOOR || row.iter().chain(&[0]).any(low) {
+                println!(
+                    "{name}: floor of {FLOOR} compared, {REFUSAL_FLOOR} per outcome, not reached"
+                );
+                short = true;
+            }
+        }
+        short
+    }
+}
+
+/// The fixed list that is replayed without Rust.
+fn samples(tally: &mut Tally) {
+    sample::reals().iter().for_each(|a| tally.check(a));
+    sample::interns().iter().for_each(|a| tally.check(a));
+    sample::labels().iter().for_each(|a| tally.check(a));
+    sample::builds().iter().for_each(|a| tally.check(a));
+    sample::models().iter().for_each(|a| tally.check(a));
+}
+
+fn reals_and_labels(tally: &mut Tally, rng: &mut Rng, scale: usize) {
+    labels::short_reals(&mut |a| tally.check(&a));
+    labels::short_interns(&mut |a| tally.check(&a));
+    labels::short_labels(&mut |a| tally.check(&a));
+    for i in 0..20_000 * scale {
+        let longest = if i % 100 == 0 { 5_000 } else { 40 };
+        tally.check(&labels::real(rng, longest));
+        tally.check(&labels::intern(rng, 256));
+        tally.check(&labels::label(rng, 256));
+    }
+}
+
+fn builds(tally: &mut Tally, rng: &mut Rng, scale: usize) {
+    build::short_values(&mut |a| tally.check(&a));
+    build::short_sums(&mut |a| tally.check(&a));
+    build::short_lengths(&mut |a| tally.check(&a));
+    for i in 0..100_000 * scale {
+        let size = build::small(rng);
+        tally.check(&build::random(rng, size));
+        if i % 12 == 0 {
+            tally.check(&build::at_limit(rng));
+        }
+        if i % 40 == 0 {
+            tally.check(&build::large_random(rng));
+        }
+    }
+}
+
+fn models(tally: &mut Tally, rng: &mut Rng, scale: usize) {
+    model::short(&mut |a| tally.check(&a));
+    for i in 0..100_000 * scale {
+        let size = build::small(rng);
+        model::random(rng, size).iter().for_each(|a| tally.check(a));
+        if i % 20 == 0 {
+            tally.check(&model::star(rng));
+        }
+        if i % 60 == 0 {
+            model::large(rng).iter().for_each(|a| tally.check(a));
+        }
+    }
+}
+
+/// Seed and scale.
+fn options() -> Option<(u64, usize)> {
+    let (mut seed, mut scale) = (1, 1);
+    let mut words = std::env::args().skip(1);
+    while let Some(word) = words.next() {
+        let value = words.next();
+        match word.as_str() {
+            "--seed" => seed = value?.parse().ok()?,
+            "--scale" => scale = value?.parse().ok()?,
+            _ => return None,
+        }
+    }
+    Some((seed, scale))
+}
+
+fn main() -> ExitCode {
+    let Some((seed, scale)) = options() else {
+        eprintln!("usage: compare [--seed N] [--scale K]");
+        return ExitCode::from(2);
+    };
+    let mut tally = Tally::default();
+    let mut rng = Rng::new(seed);
+    samples(&mut tally);
+    reals_and_labels(&mut tally, &mut rng, scale);
+    builds(&mut tally, &mut rng, scale);
+    models(&mut tally, &mut rng, scale);
+    let short = tally.report();
+    let compared: u64 = tally.entries.values().map(|e| e.compared).sum();
+    let differ: u64 = tally.entries.values().map(|e| e.differ).sum();
+    println!("{compared} compared, {differ} differ");
+    ExitCode::from(u8::from(short || differ > 0))
+}

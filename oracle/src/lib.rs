@@ -1,0 +1,13 @@
+//! The Rust side of the comparison: the Rust that was ported (`bisim_core`, `bisim_metric`), the refusals of
+//! document 01, the answers, the inputs and the text form of cases.
+
+pub mod answers;
+pub mod args;
+pub mod bisim_core;
+pub mod bisim_metric;
+pub mod generate;
+#[cfg(feature = "ours")]
+pub mod ours;
+pub mod refusals;
+pub mod sample;
+pub mod text;

@@ -1,0 +1,436 @@
+//! The text form of cases: a block of lines per case, ended by an empty line.
+//!
+//! The first line is `case KIND`; each other line is a name and its values. The order and the form of the lines are
+//! fixed for each kind by [`shape`], so that a reader need not tell lists and numbers apart by looking.
+
+use std::fmt::Write;
+
+/// A value of a line.
+#[derive(Debug, Clone, PartialEq)]
+pub enum Value {
+    Number(u64),
+    /// Written `-`.
+    Absent,
+    /// Written as the 16 hex digits of its bits.
+    Real(f64),
+    Numbers(Vec<u64>),
+    Reals(Vec<f64>),
+    /// Refusal number (0: none), then as many values on every outcome.
+    Answer(u32, Vec<Value>),
+}
+
+/// A line of a case after the first.
+#[derive(Debug, Clone, PartialEq)]
+pub struct Field {
+    pub name: &'static str,
+    pub value: Value,
+}
+
+/// A case: inputs, then answers, each answer followed by the lent lists as they are at the end.
+#[derive(Debug, Clone, PartialEq)]
+pub struct Case {
+    pub kind: &'static str,
+    pub fields: Vec<Field>,
+}
+
+/// What a line holds.
+#[derive(Debug, Clone, Copy, PartialEq)]
+pub enum Form {
+    Number,
+    /// A number, or absent.
+    Maybe,
+    Real,
+    /// A float, or absent.
+    MaybeReal,
+    Numbers,
+    Reals,
+    Answer(&'static [Form]),
+}
+
+use Form::{Answer, Maybe, MaybeReal, Number, Numbers, Real, Reals};
+
+type Shape = &'static [(&'static str, Form)];
+
+const REAL: Shape = &[
+    ("x", Real),
+    ("xs", Reals),
+    ("is_valid", Answer(&[Number])),
+    ("is_zero", Answer(&[Number])),
+    ("sum", Answer(&[Real])),
+];
+
+const INTERN: Shape = &[
+    ("labels", Numbers),
+    ("count", Number),
+    ("value", Number),
+    ("intern", Answer(&[Number, Number])),
+    ("labels", Numbers),
+];
+
+const LABEL: Shape = &[
+    ("labels", Numbers),
+    ("count", Number),
+    ("value", Number),
+    ("id", Number),
+    ("get", Answer(&[Maybe])),
+    ("resolve", Answer(&[Number])),
+];
+
+const BUILD: Shape = &[
+    ("states", Number),
+    ("initial", Maybe),
+    ("given", Number),
+    ("sources", Numbers),
+    ("labels", Numbers),
+    ("targets", Numbers),
+    ("weights", Reals),
+    ("label_values", Numbers),
+    ("offsets", Numbers),
+    ("edge_labels", Numbers),
+    ("edge_targets", Numbers),
+    ("edge_weights", Reals),
+    ("build", Answer(&[Number, Number])),
+    ("label_values", Numbers),
+    ("offsets", Numbers),
+    ("edge_labels", Numbers),
+    ("edge_targets", Numbers),
+    ("edge_weights", Reals),
+];
+
+const MODEL: Shape = &[
+    ("states", Number),
+    ("edges", Number),
+    ("labels", Number),
+    ("initial", Maybe),
+    ("label_values", Numbers),
+    ("offsets", Numbers),
+    ("edge_labels", Numbers),
+    ("edge_targets", Numbers),
+    ("edge_weights", Reals),
+    ("s", Number),
+    ("id", Number),
+    ("value", Number),
+    ("model_refusal", Answer(&[])),
+    ("num_states", Answer(&[Number])),
+    ("num_transitions", Answer(&[Number])),
+    ("num_labels", Answer(&[Number])),
+    ("initial", Answer(&[Maybe])),
+    ("successors", Answer(&[Number, Number])),
+    ("label", Answer(&[Number])),
+    ("label_id", Answer(&[Maybe])),
+];
+
+/// A network, and what `max_flow` gives: flow, phases, pushes, capacities left (two per added link).
+const FLOW: Shape = &[
+    ("nodes", Number),
+    ("from", Numbers),
+    ("to", Numbers),
+    ("capacities", Reals),
+    ("costs", Reals),
+    ("source", Number),
+    ("sink", Number),
+    ("max_flow", Answer(&[Real, Number, Number])),
+    ("left", Reals),
+];
+
+/// Masses and costs by row, and what `transport` gives: total, cells; then the plan.
+const TRANSPORT: Shape = &[
+    ("a", Reals),
+    ("b", Reals),
+    ("costs", Reals),
+    ("transport", Answer(&[Real, Number])),
+    ("plan_rows", Numbers),
+    ("plan_columns", Numbers),
+    ("plan_masses", Reals),
+];
+
+/// Two models (given as for `build`, stores aside), classes and tolerances; the relation's bytes.
+const RELATION: Shape = &[
+    ("left_states", Number),
+    ("left_initial", Maybe),
+    ("left_sources", Numbers),
+    ("left_labels", Numbers),
+    ("left_targets", Numbers),
+    ("left_weights", Reals),
+    ("left_classes", Numbers),
+    ("right_states", Number),
+    ("right_initial", Maybe),
+    ("right_sources", Numbers),
+    ("right_labels", Numbers),
+    ("right_targets", Numbers),
+    ("right_weights", Reals),
+    ("right_classes", Numbers),
+    ("epsilon", Real),
+    ("rho", Real),
+    ("epsdelta", Answer(&[])),
+    ("relation", Numbers),
+    ("epsdelta_bisimilar", Answer(&[Number])),
+    ("min_epsilon", Answer(&[MaybeReal])),
+];
+
+/// Two chains and options; what `distance` gives: value, bound, γ, pairs, rounds; then the contributions.
+const DISTANCE: Shape = &[
+    ("left_initial", Number),
+    ("left_offsets", Numbers),
+    ("left_targets", Numbers),
+    ("left_probabilities", Reals),
+    ("left_observations", Reals),
+    ("right_initial", Number),
+    ("right_offsets", Numbers),
+    ("right_targets", Numbers),
+    ("right_probabilities", Reals),
+    ("right_observations", Reals),
+    ("gamma", Real),
+    ("tolerance", Real),
+    ("max_rounds", Number),
+    ("top", Number),
+    ("distance", Answer(&[Real, Real, Real, Number, Number])),
+    ("lefts", Numbers),
+    ("rights", Numbers),
+    ("gaps", Reals),
+    ("occupancies", Reals),
+    ("contributions", Reals),
+];
+
+const CARD: Shape = &[("card", Numbers), ("report", Numbers)];
+
+/// All kinds with their lines.
+pub const SHAPES: &[(&str, Shape)] = &[
+    ("real", REAL),
+    ("intern", INTERN),
+    ("label", LABEL),
+    ("build", BUILD),
+    ("model", MODEL),
+    ("flow", FLOW),
+    ("transport", TRANSPORT),
+    ("relation", RELATION),
+    ("distance", DISTANCE),
+    ("card", CARD),
+];
+
+/// The kind's own name and its lines.
+pub fn shape(kind: &str) -> Option<(&'static str, Shape)> {
+    SHAPES.iter().find(|s| s.0 == kind).copied()
+}
+
+/// The bits as written: every NaN is the one NaN.
+pub fn bits(x: f64) -> u64 {
+    if x.is_nan() {
+        0x7ff8_0000_0000_0000
+    } else {
+        x.to_bits()
+    }
+}
+
+/// Equal for the comparison: same bits, or both zero, or both NaN.
+pub fn same_real(a: f64, b: f64) -> bool {
+    a == b || (a.is_nan() && b.is_nan())
+}
+
+/// Equal for the comparison; floats by [`same_real`].
+pub fn same(a: &Value, b: &Value) -> bool {
+    match (a, b) {
+        (Value::Real(x), Value::Real(y)) => same_real(*x, *y),
+        (Value::Reals(x), Value::Reals(y)) => {
+            x.len() == y.len() && x.iter().zip(y).all(|(&x, &y)| same_real(x, y))
+        }
+        (Value::Answer(r, x), Value::Answer(q, y)) => {
+            r == q && x.len() == y.len() && x.iter().zip(y).all(|(x, y)| same(x, y))
+        }
+        _ => a == b,
+    }
+}
+
+fn write_value(out: &mut String, value: &Value) {
+    let done = match value {
+        Value::Number(n) => write!(out, " {n}"),
+        Value::Absent => write!(out, " -"),
+        Value::Real(x) => write!(out, " {:016x}", bits(*x)),
+        Value::Numbers(list) => {
+            let head = write!(out, " {}", list.len());
+            list.iter().fold(head, |ok, n| ok.and(write!(out, " {n}")))
+        }
+        Value::Reals(list) => {
+            let head = write!(out, " {}", list.len());
+            list.iter()
+                .fold(head, |ok, &x| ok.and(write!(out, " {:016x}", bits(x))))
+        }
+        Value::Answer(refusal, values) => {
+            let head = write!(out, " {refusal}");
+            values.iter().for_each(|v| write_value(out, v));
+            head
+        }
+    };
+    done.expect("a string takes all");
+}
+
+/// The case as text, its ending empty line included.
+pub fn write_case(case: &Case) -> String {
+    let mut out = format!("case {}\n", case.kind);
+    for field in &case.fields {
+        out.push_str(field.name);
+        write_value(&mut out, &field.value);
+        out.push('\n');
+    }
+    out.push('\n');
+    out
+}
+
+type Words<'a> = std::str::Split<'a, char>;
+
+fn number(words: &mut Words) -> Result<u64, String> {
+    let word = words.next().ok_or("value missing")?;
+    word.parse().map_err(|_| format!("no number: {word}"))
+}
+
+fn real(words: &mut Words) -> Result<f64, String> {
+    let word = words.next().ok_or("value missing")?;
+    match u64::from_str_radix(word, 16) {
+        Ok(bits) if word.len() == 16 => Ok(f64::from_bits(bits)),
+        _ => Err(format!("no float: {word}")),
+    }
+}
+
+/// True where the next word is `-`, which is then taken.
+fn absent(words: &mut Words) -> bool {
+    let here = words.clone().next() == Some("-");
+    if here {
+        words.next();
+    }
+    here
+}
+
+fn read_value(words: &mut Words, form: Form) -> Result<Value, String> {
+    Ok(match form {
+        Maybe | MaybeReal if absent(words) => Value::Absent,
+        Number | Maybe => Value::Number(number(words)?),
+        Real | MaybeReal => Value::Real(real(words)?),
+        Numbers => {
+            let count = number(words)?;
+            Value::Numbers(
+                (0..count)
+                    .map(|_| number(words))
+                    .collect::<Result<_, _>>()?,
+            )
+        }
+        Reals => {
+            let count = number(words)?;
+            Value::Reals((0..count).map(|_| real(words)).collect::<Result<_, _>>()?)
+        }
+        Answer(forms) => {
+            let refusal = number(words)? as u32;
+            let values = forms.iter().map(|&f| read_value(words, f));
+            Value::Answer(refusal, values.collect::<Result<_, _>>()?)
+        }
+    })
+}
+
+fn read_field(line: &str, name: &'static str, form: Form) -> Result<Field, String> {
+    let mut words = line.split(' ');
+    if words.next() != Some(name) {
+        return Err(format!("{name} expected: {line}"));
+    }
+    let value = read_value(&mut words, form)?;
+    match words.next() {
+        None => Ok(Field { name, value }),
+        Some(word) => Err(format!("{name}: {word} is too much")),
+    }
+}
+
+/// All cases of a text.
+pub fn read_cases(text: &str) -> Result<Vec<Case>, String> {
+    let mut lines = text.lines();
+    let mut cases = Vec::new();
+    while let Some(head) = lines.next() {
+        let kind = head
+            .strip_prefix("case ")
+            .ok_or(format!("case expected: {head}"))?;
+        let (kind, shape) = shape(kind).ok_or(format!("no such kind: {kind}"))?;
+        let mut fields = Vec::new();
+        for &(name, form) in shape {
+            let line = lines.next().ok_or("line missing")?;
+            fields.push(read_field(line, name, form)?);
+        }
+        if lines.next() != Some("") {
+            return Err(format!("empty line expected after a case of {kind}"));
+        }
+        cases.push(Case { kind, fields });
+    }
+    Ok(cases)
+}
+
+#[cfg(test)]
+mod tests {
+    use super::*;
+
+    /// A value of the form, different for each `salt`.
+    fn example(form: Form, salt: u64) -> Value {
+        match form {
+            Maybe | MaybeReal if salt.is_multiple_of(2) => Value::Absent,
+            Number | Maybe => Value::Number(salt * 1_000_003),
+            Real | MaybeReal => Value::Real(salt as f64 / 7.0),
+            Numbers => Value::Numbers((0..salt % 4).collect()),
+            Reals => Value::Reals((0..salt % 3).map(|i| -(i as f64) / 3.0).collect()),
+            Answer(forms) => {
+                let values = forms.iter().map(|&f| example(f, salt + 1)).collect();
+                Value::Answer(salt as u32 % 20, values)
+            }
+        }
+    }
+
+    #[test]
+    fn every_kind_survives_writing_and_reading() {
+        let mut cases = Vec::new();
+        for salt in 0..12 {
+            for &(kind, shape) in SHAPES {
+                let lines = shape.iter().zip(salt..);
+                let fields = lines.map(|(&(name, form), i)| Field {
+                    name,
+                    value: example(form, i),
+                });
+                cases.push(Case {
+                    kind,
+                    fields: fields.collect(),
+                });
+            }
+        }
+        let text: String = cases.iter().map(write_case).collect();
+        assert_eq!(read_cases(&text).unwrap(), cases);
+    }
+
+    #[test]
+    fn floats_are_bits_and_every_nan_is_one() {
+        let other_nan = f64::from_bits(0xfff8_0000_0000_0001);
+        let mut out = String::new();
+        write_value(
+            &mut out,
+            &Value::Reals(vec![-0.0, other_nan, f64::INFINITY]),
+        );
+        assert_eq!(out, " 3 8000000000000000 7ff8000000000000 7ff0000000000000");
+    }
+
+    #[test]
+    fn faults_are_found() {
+        for text in [
+            "case other\n\n",
+            "case card\ncard 1 2\nreport 0\n",
+            "case card\ncard 2 2\nreport 0\n\n",
+            "case card\ncard 1 2 3\nreport 0\n\n",
+            "case card\nreport 0\ncard 0\n\n",
+            "case card\ncard 1 -\nreport 0\n\n",
+        ] {
+            assert!(read_cases(text).is_err(), "{text}");
+        }
+    }
+
+    #[test]
+    fn zeros_and_nans_count_as_equal() {
+        assert!(same(&Value::Real(0.0), &Value::Real(-0.0)));
+        assert!(same(
+            &Value::Reals(vec![f64::NAN]),
+            &Value::Reals(vec![-f64::NAN])
+        ));
+        assert!(!same(&Value::Real(1.0), &Value::Real(1.0 + f64::EPSILON)));
+        assert!(!same(&Value::Number(0), &Value::Real(0.0)));
+    }
+}
