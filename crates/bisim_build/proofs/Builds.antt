@@ -1,7 +1,7 @@
 -- How `build` ends, check by check: what each check that passed says, what the parts left behind, and the outcome at the number of the first check that fails.
 use mathlib.Core.Path.{_≡_, refl, sym, subst, ap, _∙_}
 use mathlib.Core.Bool.{Bool, true, false, _||_, not}
-use Prim.Native.Nat.{ℕ, zero, suc, _+_, _≤_, _<_, min}
+use Prim.Native.Nat.{ℕ, suc, _+_, _≤_, _<_}
 use mathlib.Core.List.{List, map}
 use native.Mathlib.Omega.{arith}
 use lib.Dec.{ltb}
@@ -16,13 +16,12 @@ use Rattle.numbers.proofs.Refuses.{check-hit, check-skip, hit, skip, none}
 use Rattle.numbers.proofs.Alls.{all-front}
 use Rattle.bisim_core.specs.Data.{Edge, Transitions, Columns, columns}
 use Rattle.bisim_core.specs.Edges.{edges, numberedAt, offsets, crowdedIn}
-use Rattle.bisim_core.specs.Model.{startsOutside, weighs}
+use Rattle.bisim_core.specs.Model.{startsOutside}
 use Rattle.bisim_core.specs.declared.wlts.Initial.{Initial}
 use Rattle.bisim_core.proofs.Steps.{edgesIn, Interned, Makeable, EdgesMade, Crowded, Written}
 use Rattle.bisim_core.proofs.Distinct.{intern-has, distinct-length}
 use Rattle.bisim_core.proofs.Rows.{edges-length}
 use Rattle.bisim_build.specs.Build.{present, labelsOf, oversized, outside, unweighed, crowded, short, refusal, Outcome, ends, made, settled, build}
-use Rattle.bisim_build.specs.declared.builder.Built.{Built}
 use Rattle.bisim_build.specs.declared.builder.Built.the-variants.{Model, Refused}
 
 -- the outcome of a refusal, and of none

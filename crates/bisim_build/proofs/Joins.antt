@@ -1,8 +1,8 @@
--- The turns of `join_runs`.
+-- The turns of `join_runs`: the run under way goes on, or it ends and another begins. `Joining` says that the edges stored, and after them those still to come, are those of all keys.
 use mathlib.Core.Path.{_≡_, refl, sym, subst, ap, _∙_}
 use mathlib.Core.Logic.{_⊎_, inl, inr, _≢_}
 use mathlib.Core.Bool.{Bool, true, false, _&&_, true≢false, false≢true}
-use Prim.Native.Nat.{ℕ, zero, suc, _+_, _*_, _/_, _%_, _≤_, _<_}
+use Prim.Native.Nat.{ℕ, zero, suc, _+_, _/_, _%_, _≤_, _<_}
 use mathlib.Core.List.{List, [], _∷_, _++_, map, append-assoc, append-nil}
 use native.Mathlib.Omega.{arith}
 use native.Mathlib.Numerals.{add-one}
@@ -46,24 +46,30 @@ same-ne p q v w h = pick (same (edgeIn p v) (edgeIn q w)) refl
 
 -- ---- the edges stored
 
-pub arcs-kept : (T : List ℕ) (U : List Float) (m q : ℕ) (w : Float) (k : ℕ) → k ≤ m → edgesIn (set T m q) (set U m w) k ≡ edgesIn T U k
+pub edges-kept : (T : List ℕ) (U : List Float) (m q : ℕ) (w : Float) (k : ℕ) → k ≤ m → edgesIn (set T m q) (set U m w) k ≡ edgesIn T U k
 unfolding edgesIn
-arcs-kept T U m q w zero h = refl
-arcs-kept T U m q w (suc k) h =
-    rw (arcs-kept T U m q w k (omega arith), getD-set-other T m k q 0 (omega arith), getD-set-other U m k w nan (omega arith))
+edges-kept T U m q w zero h = refl
+edges-kept T U m q w (suc k) h =
+    rw (edges-kept T U m q w k (omega arith), getD-set-other T m k q 0 (omega arith), getD-set-other U m k w nan (omega arith))
 
-pub arcs-more : (T : List ℕ) (U : List Float) (m q : ℕ) (w : Float) → m < length T → m < length U
+pub edges-more : (T : List ℕ) (U : List Float) (m q : ℕ) (w : Float) → m < length T → m < length U
     → edgesIn (set T m q) (set U m w) (m + 1) ≡ edgesIn T U m ++ (edgeIn q w ∷ [])
 unfolding edgesIn
-arcs-more T U m q w h k = rw (add-one m, arcs-kept T U m q w m (omega arith), getD-set-same T m q 0 h, getD-set-same U m w nan k)
+edges-more T U m q w h k = rw (add-one m, edges-kept T U m q w m (omega arith), getD-set-same T m q 0 h, getD-set-same U m w nan k)
 
-pub push-arcs : (T : List ℕ) (U : List Float) (m q : ℕ) (w : Float) (T' : List ℕ) (U' : List Float) (r : ℕ) → m < length T → m < length U → Pushed T U m q w T' U' r
+pub push-none : (T : List ℕ) (U : List Float) (m q : ℕ) (w : Float) → isZero w ≡ true → Pushed T U m q w T U m
+push-none T U m q w e = record { triples = rw e; sums = rw e; count = rw e }
+
+pub push-one : (T : List ℕ) (U : List Float) (m q : ℕ) (w : Float) → isZero w ≡ false → Pushed T U m q w (set T m q) (set U m w) (m + 1)
+push-one T U m q w e = record { triples = rw e; sums = rw e; count = rw e }
+
+pub push-edges : (T : List ℕ) (U : List Float) (m q : ℕ) (w : Float) (T' : List ℕ) (U' : List Float) (r : ℕ) → m < length T → m < length U → Pushed T U m q w T' U' r
     → (rest : List Edge) → edgesIn T' U' r ++ rest ≡ edgesIn T U m ++ keep (isZero w) (edgeIn q w) rest
-push-arcs T U m q w T' U' r h k P rest = rw (P .triples, P .sums, P .count) (pick (isZero w))
+push-edges T U m q w T' U' r h k P rest = rw (P .triples, P .sums, P .count) (pick (isZero w))
   where
     pick : (b : Bool) → edgesIn (stored b T m q) (stored b U m w) (grown b m) ++ rest ≡ edgesIn T U m ++ keep b (edgeIn q w) rest
     pick true = refl
-    pick false = ap (λ (l : List Edge). l ++ rest) (arcs-more T U m q w h k) ∙ append-assoc (edgesIn T U m) (edgeIn q w ∷ []) rest
+    pick false = ap (λ (l : List Edge). l ++ rest) (edges-more T U m q w h k) ∙ append-assoc (edgesIn T U m) (edgeIn q w ∷ []) rest
 
 -- ---- the loop
 
@@ -79,7 +85,7 @@ pub record Joining (K : List ℕ) (n : ℕ) (W : List Float) (T₀ : List ℕ) (
   pub under : (j : ℕ) → j < m → getD T j 0 < run
   pub rising : Rising T m
   pub run-under : (b : ℕ) → ((p : ℕ) → p < n → getD K p 0 / 4096 < b) → run < b
-  pub same-arcs : edgesIn T U m ++ nonzero (runs (edgeIn run sum) (map (edgeOf W) (slice i n K))) ≡ result K n W
+  pub same-edges : edgesIn T U m ++ nonzero (runs (edgeIn run sum) (map (edgeOf W) (slice i n K))) ≡ result K n W
 
 module _ (K : List ℕ) (n : ℕ) (W : List Float) (T₀ : List ℕ) (U₀ : List Float) (J : Joinable K n W T₀ U₀) where
   pub joining : n ≢ 0 → Joining K n W T₀ U₀ T₀ U₀ (getD K 0 0 / 4096) (getD W (getD K 0 0 % 4096) nan) 0 1
@@ -93,7 +99,7 @@ module _ (K : List ℕ) (n : ℕ) (W : List Float) (T₀ : List ℕ) (U₀ : Lis
     under = λ j l. absurd (omega arith);
     rising = λ i j l k. absurd (omega arith);
     run-under = λ b all. all 0 (omega arith);
-    same-arcs = ap (λ (l : List ℕ). nonzero (join (map (edgeOf W) l))) (sym (slice-cons 0 n K 0 (omega arith) (J .within)));
+    same-edges = ap (λ (l : List ℕ). nonzero (join (map (edgeOf W) l))) (sym (slice-cons 0 n K 0 (omega arith) (J .within)));
   }
 
   module _ {T : List ℕ} {U : List Float} {run : ℕ} {sum : Float} {m i : ℕ} (I : Joining K n W T₀ U₀ T U run sum m i) where
@@ -143,7 +149,7 @@ module _ (K : List ℕ) (n : ℕ) (W : List Float) (T₀ : List ℕ) (U₀ : Lis
         under = I .under;
         rising = I .rising;
         run-under = I .run-under;
-        same-arcs = rw (add-one i) (ap (λ (l : List Edge). edgesIn T U m ++ nonzero l) (sym step) ∙ I .same-arcs);
+        same-edges = rw (add-one i) (ap (λ (l : List Edge). edgesIn T U m ++ nonzero l) (sym step) ∙ I .same-edges);
       })
         where
           pick : (b : Bool) → same (edgeIn run sum) (edgeIn q w) ≡ b → b ≡ true
@@ -169,8 +175,8 @@ module _ (K : List ℕ) (n : ℕ) (W : List Float) (T₀ : List ℕ) (U₀ : Lis
         under = λ j l. let a = at-most j l in let b = reached in omega arith;
         rising = rising-next;
         run-under = λ b all. all i h;
-        same-arcs = rw (add-one i) (push-arcs T U m run sum T' U' m' m-in-t m-in-u P (nonzero (runs (edgeIn q w) (map (edgeOf W) (slice (suc i) n K))))
-            ∙ ap (λ (l : List Edge). edgesIn T U m ++ nonzero l) (sym step) ∙ I .same-arcs);
+        same-edges = rw (add-one i) (push-edges T U m run sum T' U' m' m-in-t m-in-u P (nonzero (runs (edgeIn q w) (map (edgeOf W) (slice (suc i) n K))))
+            ∙ ap (λ (l : List Edge). edgesIn T U m ++ nonzero l) (sym step) ∙ I .same-edges);
       })
         where
           m-next : m' ≤ m + 1
@@ -240,7 +246,7 @@ module _ (K : List ℕ) (n : ℕ) (W : List Float) (T₀ : List ℕ) (U₀ : Lis
       count = let a = I .m-low in let b = I .i-in in subst (λ (x : ℕ). x ≤ n) (sym (P .count)) (few (isZero sum));
       rising = rising-end;
       under = under-end;
-      edges = sym (append-nil (edgesIn T' U' r)) ∙ push-arcs T U m run sum T' U' r m-in-t m-in-u P [] ∙ ap (λ (l : List Edge). edgesIn T U m ++ nonzero l) (sym step) ∙ I .same-arcs;
+      edges = sym (append-nil (edgesIn T' U' r)) ∙ push-edges T U m run sum T' U' r m-in-t m-in-u P [] ∙ ap (λ (l : List Edge). edgesIn T U m ++ nonzero l) (sym step) ∙ I .same-edges;
     }
       where
         few : (b : Bool) → grown b m ≤ n

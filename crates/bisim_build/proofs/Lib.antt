@@ -7,3 +7,6 @@ pub mod Joins
 pub mod Makes
 pub mod Writes
 pub mod Builds
+pub mod Backs
+pub mod Accepts
+pub mod Examples

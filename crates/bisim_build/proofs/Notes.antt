@@ -1,10 +1,10 @@
--- One value more, as `note` has it.
-use mathlib.Core.Path.{_≡_, refl, sym, subst, ap, _∙_}
-use Prim.Native.Nat.{ℕ, zero, suc, _+_, _≤_, _<_}
+-- One value more, as `note` has it: known, new with room for it, or new without.
+use mathlib.Core.Path.{_≡_, sym, ap, _∙_}
+use Prim.Native.Nat.{ℕ, _+_, _≤_, _<_}
 use mathlib.Core.List.{List, [], _∷_, _++_}
 use native.Mathlib.Omega.{arith}
 use native.Mathlib.Numerals.{add-one}
-use lib.ListN.{length, getD, take, set, length-append}
+use lib.ListN.{length, take, set, length-append}
 use lib.Seq.{length-take-le, take-suc-set}
 use Rattle.numbers.specs.Search.{seek}
 use Rattle.bisim_core.specs.Ids.{intern}

@@ -1,13 +1,13 @@
--- The turns of `write_edges`.
-use mathlib.Core.Path.{_≡_, refl, sym, subst, ap, _∙_}
-use Prim.Native.Nat.{ℕ, zero, suc, _+_, _/_, _%_, _≤_, _<_}
-use mathlib.Core.List.{List, [], _∷_, _++_, map}
+-- The turns of `write_edges`: one more entry in each of the three columns.
+use mathlib.Core.Path.{_≡_, refl, sym, _∙_}
+use Prim.Native.Nat.{ℕ, _+_, _/_, _%_, _≤_, _<_}
+use mathlib.Core.List.{List, map}
 use native.Mathlib.Omega.{arith}
 use lib.Ieee.{Float, nan}
 use lib.ListN.{length, getD, set, length-set}
 use Rattle.numbers.proofs.Over.{over, over-next, over-done}
 use Rattle.bisim_core.specs.Data.{Edge}
-use Rattle.bisim_core.proofs.Steps.{edgeIn, edgesIn, Writable, Written}
+use Rattle.bisim_core.proofs.Steps.{edgesIn, Writable, Written}
 use Rattle.bisim_core.proofs.Rows.{column-length, column-at}
 
 abbrev labelOf : Edge → ℕ

@@ -3,7 +3,7 @@ use crate::sort::sort_keys;
 ghost use mathlib.Core.Path.{_≡_};
 ghost use Prim.Native.Nat.{_<_};
 ghost use lib.ListN.{length};
-ghost use Rattle.bisim_core.proofs.Steps.{Keyable, Keyed, Pushed, Joinable, Joined, Makeable, EdgesMade};
+ghost use Rattle.bisim_core.proofs.Steps.{packed, Keyable, Keyed, Pushed, Joinable, Joined, Makeable, EdgesMade};
 
 // A value below 2^32, as a wider number.
 fn wider(x: u32) -> u64
@@ -12,7 +12,15 @@ fn wider(x: u32) -> u64
     x as u64
 }
 
-// The key of a transition: source, label id, target, and its position.
+// The key of a transition, by which a sort of numbers is the stable sort: source, label id, target, position.
+fn key(s: u64, l: u64, t: u64, i: u64) -> u64
+    requires { ⌜ (s < 4294967296) × (l < 4294967296) × (t < 4294967296) × (i < 4096) ⌝ }
+    ensures { λ r. ⌜ r ≡ packed s l t i ⌝ }
+{
+    ((s * 256 + l) * 2048 + t) * 4096 + i
+}
+
+// The keys of the first n transitions.
 fn make_keys(sources: &[u32], ids: &[u32], targets: &[u32], n: usize, keys: &mut [u64])
     requires { ⌜ Keyable (now sources) (now ids) (now targets) n (now keys) ⌝ }
     ensures { λ r. ⌜ Keyed (now (sources .entry)) (now (ids .entry)) (now (targets .entry)) n (now (keys .exit)) ⌝ }
@@ -22,7 +30,7 @@ fn make_keys(sources: &[u32], ids: &[u32], targets: &[u32], n: usize, keys: &mut
         let s = wider(sources[i]);
         let l = wider(ids[i]);
         let t = wider(targets[i]);
-        keys[i] = ((s * 256 + l) * 2048 + t) * 4096 + i as u64;
+        keys[i] = key(s, l, t, i as u64);
         i += 1;
     }
 }

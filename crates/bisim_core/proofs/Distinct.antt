@@ -1,18 +1,17 @@
 -- Laws of `intern`: ids by first appearance.
 use mathlib.Core.Path.{_≡_, refl, sym, subst, ap, _∙_}
-use mathlib.Core.Logic.{_⊎_, inl, inr, _≢_}
-use mathlib.Core.Bool.{Bool, true, false, true≢false, false≢true}
+use mathlib.Core.Logic.{_⊎_, inl, inr}
+use mathlib.Core.Bool.{Bool, true, false}
 use Prim.Native.Nat.{ℕ, zero, suc, _+_, _≤_, _<_}
 use mathlib.Core.List.{List, [], _∷_, _++_, append-assoc, append-nil}
 use native.Mathlib.Omega.{arith}
-use native.Mathlib.Numerals.{add-one}
-use lib.Dec.{eqb, ltb}
-use lib.ListN.{length, getD, take, drop, length-append, set, List·getD-append}
-use lib.Seq.{slice, slice-cons, slice-empty, take-suc-set, length-take-le, getD-append-seam}
-use borrow.Author.Tests.{eq-eqb, ne-eqb, lt-ltb, le-ltb, ltb-true, ltb-false, eqb-true, eqb-false}
-use Rattle.numbers.specs.Search.{here, seek}
-use Rattle.numbers.proofs.Seeks.{seek-here, seek-le, seek-more, seek-new}
-use Rattle.bisim_core.specs.Ids.{noted, intern, distinct}
+use lib.Dec.{ltb}
+use lib.ListN.{length, getD, length-append, List·getD-append}
+use lib.Seq.{getD-append-seam}
+use borrow.Author.Tests.{lt-ltb, le-ltb, ltb-true, ltb-false}
+use Rattle.numbers.specs.Search.{seek}
+use Rattle.numbers.proofs.Seeks.{seek-more, seek-new}
+use Rattle.bisim_core.specs.Ids.{intern, distinct}
 
 pub intern-old : (known : List ℕ) (x : ℕ) (xs : List ℕ) → seek x known < length known → intern known (x ∷ xs) ≡ intern known xs
 unfolding intern

@@ -7,3 +7,8 @@ pub mod Ranks
 pub mod Weights
 pub mod Interning
 pub mod IdsExamples
+pub mod Models
+pub mod RowChecks
+pub mod Fits
+pub mod Answers
+pub mod Accepted

@@ -126,9 +126,3 @@ pub record EdgesMade (S I T : List ℕ) (W : List Float) (n : ℕ) (triples : Li
   pub under : (b : ℕ) → ((j : ℕ) → j < n → getD S j 0 < b) → (j : ℕ) → j < r → getD triples j 0 / 524288 < b
   pub edges : (f : ℕ → Edge) → ((j : ℕ) → j < n → f j ≡ record { source = getD S j 0; label = getD I j 0; target = getD T j 0; weight = getD W j nan })
       → edgesIn triples sums r ≡ nonzero (join (sortEdges (map f (span 0 n))))
-
-pub record Shorter (a b r : ℕ) : Type 0 where
-  pub left : r ≤ a
-  pub right : r ≤ b
-  pub first : a ≤ b → r ≡ a
-  pub second : b ≤ a → r ≡ b

@@ -1,23 +1,23 @@
 -- Joined weights: from 2^-40 to 2^52.
 use mathlib.Core.Path.{_≡_, refl, sym, subst, subst⁻¹, ap, _∙_}
-use mathlib.Core.Logic.{_⊎_, inl, inr, _≢_}
-use mathlib.Core.Bool.{Bool, true, false, _&&_, _||_, not, cond, true≢false, false≢true}
-use Prim.Native.Nat.{ℕ, zero, suc, _+_, _-_, _*_, _^_, _≤_, _<_}
+use mathlib.Core.Logic.{_⊎_, inl, inr}
+use mathlib.Core.Bool.{Bool, true, false, _&&_, _||_, true≢false, false≢true}
+use Prim.Native.Nat.{ℕ, zero, suc, _+_, _-_, _*_, _≤_, _<_}
 use mathlib.Core.List.{List, [], _∷_}
 use native.Mathlib.Omega.{arith}
-use native.Mathlib.Nat.{mul-pos, mul-le-mul-right, mul-le-mul-left, mul-comm, mul-assoc, zero-mul}
-use lib.Dec.{T, ltb, eqb, eqb→eq, ltb→lt, lt→ltb}
-use lib.IntN.{ℤ, pos, negsuc}
+use native.Mathlib.Nat.{mul-pos, mul-le-mul-right, mul-comm, mul-assoc, zero-mul}
+use lib.Dec.{T, eqb}
+use lib.IntN.{pos, negsuc}
 use lib.ListN.{length}
-use lib.Ieee.{Float, nan, inf, fin, binary64, ofBits, ofFields, lt, le, eq, add, sum, round, up, down}
-use lib.Ieee.Fits.{down-pos, up-pos, and-l, and-r}
+use lib.Ieee.{Float, nan, inf, fin, binary64, ofBits, ofFields, le, eq, add, sum, round, up, down}
+use lib.Ieee.Fits.{down-pos, up-pos}
 use lib.Ieee.Exact.{HasValue}
 use lib.Ieee.Back.{round-whole}
 use lib.Ieee.Scale.{round-same}
 use lib.Ieee.Order.{round-mono}
 use lib.Ieee.Positive.{num, den, positive, den-pos, own-value, positive-of-value, le→cross, cross→le, values-of-le, between}
 use borrow.Author.Tests.{lt-ltb, le-ltb, eqb-true}
-use Rattle.numbers.proofs.Bools.{and-t, or-r}
+use Rattle.numbers.proofs.Bools.{and-t}
 use Rattle.bisim_core.specs.Data.{Edge}
 use Rattle.numbers.specs.Real.{isZero}
 use Rattle.bisim_core.specs.Edges.{same, taken, ended, runs, join}

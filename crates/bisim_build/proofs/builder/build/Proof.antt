@@ -1,7 +1,7 @@
 -- The counts of check 3 that need no list come first; then `build_in` is called with lists that are long enough, and its outcome is that of the call.
-use mathlib.Core.Path.{_≡_, refl, sym, ap, _∙_}
+use mathlib.Core.Path.{_≡_, ap, _∙_}
 use native.Mathlib.Omega.{arith}
-use Prim.Native.Nat.{ℕ, min}
+use Prim.Native.Nat.{min}
 use lib.ListN.{length}
 use Rattle.bisim_core.specs.Data.{Transitions, Columns, transitions, columns}
 use Rattle.bisim_build.specs.Build.{present}
@@ -9,10 +9,6 @@ use Rattle.bisim_build.proofs.Builds.{too-many-states, too-many-given, 
 use borrow.Author.Needs.{needs}
 use Rattle.bisim_build.proofs.builder.build.Statement.{statement}
 use Rattle.bisim_build.proofs.builder.build.Tie as tie
-use Rattle.bisim_build.proofs.builder.build.Reads as reads
-use Rattle.bisim_build.proofs.builder.build.Lts as lts
-use Rattle.bisim_build.proofs.builder.build_in.Reads as build-in-reads
-use Rattle.bisim_build.proofs.checks.shorter.Reads as shorter-reads
 
 abbrev col : tie.Start → Transitions
 col s = transitions (s .args .sources .now) (s .args .labels .now) (s .args .targets .now) (s .args .weights .now)

@@ -9,17 +9,6 @@ use Rattle.bisim_build.proofs.Builds.{Call, n-given, s-in, l-in, t-in, 
 use borrow.Author.Needs.{needs}
 use Rattle.bisim_build.proofs.builder.build_in.Statement.{statement}
 use Rattle.bisim_build.proofs.builder.build_in.Tie as tie
-use Rattle.bisim_build.proofs.builder.build_in.Reads as reads
-use Rattle.bisim_build.proofs.builder.build_in.Lts as lts
-use Rattle.bisim_build.proofs.checks.all_weigh.Reads as all-weigh-reads
-use Rattle.bisim_build.proofs.checks.crowded.Reads as crowded-reads
-use Rattle.bisim_build.proofs.checks.outside.Reads as outside-reads
-use Rattle.bisim_build.proofs.checks.short.Reads as short-reads
-use Rattle.bisim_build.proofs.edges.make_edges.Reads as make-edges-reads
-use Rattle.bisim_build.proofs.labels.intern_all.Reads as intern-all-reads
-use Rattle.bisim_build.proofs.write.write_edges.Reads as write-edges-reads
-use Rattle.bisim_build.proofs.write.write_labels.Reads as write-labels-reads
-use Rattle.bisim_build.proofs.write.write_offsets.Reads as write-offsets-reads
 
 abbrev col : tie.Start → Transitions
 col s = transitions (s .args .sources .now) (s .args .labels .now) (s .args .targets .now) (s .args .weights .now)

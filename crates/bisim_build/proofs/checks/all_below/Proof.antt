@@ -1,7 +1,8 @@
-use mathlib.Core.Path.{_≡_, refl, sym, ap, subst, _∙_}
-use Prim.Native.Nat.{ℕ, _-_, _+_, _≤_, _<_}
+-- The invariant: the answer for all n entries is the answer for entries i to n - 1. An entry that fails decides, one that holds is passed.
+use mathlib.Core.Path.{_≡_, refl, sym, subst, _∙_}
+use Prim.Native.Nat.{ℕ, _-_, _≤_, _<_}
 use native.Mathlib.Omega.{arith}
-use lib.ListN.{length, take}
+use lib.ListN.{take}
 use lib.Seq.{slice}
 use lib.Dec.{ltb}
 use borrow.Author.Tests.{lt-ltb, le-ltb}
@@ -10,9 +11,6 @@ use Rattle.numbers.proofs.Alls.{all-stop, all-on, all-end}
 use borrow.Author.Needs.{needs}
 use Rattle.bisim_build.proofs.checks.all_below.Statement.{statement}
 use Rattle.bisim_build.proofs.checks.all_below.Tie as tie
-use Rattle.bisim_build.proofs.checks.all_below.Reads as reads
-use Rattle.bisim_build.proofs.checks.all_below.Lts as lts
-use Rattle.bisim_build.proofs.checks.wide.Reads as wide-reads
 
 abbrev Inv-loop : tie.InvT-loop
 Inv-loop column n bound i₀ i = (i ≤ n) × (all (λ x. ltb x bound) (take n column) ≡ all (λ x. ltb x bound) (slice i n column))

@@ -1,8 +1,9 @@
+-- The invariant: the answer for all n weights is the answer for weights i to n - 1. A weight that fails decides, one that holds is passed.
 use borrow.Author.Tests.{not-true, not-false}
-use mathlib.Core.Path.{_≡_, refl, sym, ap, subst, _∙_}
-use Prim.Native.Nat.{ℕ, _-_, _+_, _≤_, _<_}
+use mathlib.Core.Path.{_≡_, refl, sym, _∙_}
+use Prim.Native.Nat.{_-_, _≤_}
 use native.Mathlib.Omega.{arith}
-use lib.ListN.{length, take}
+use lib.ListN.{take}
 use lib.Seq.{slice}
 use lib.Ieee.{nan}
 use Rattle.numbers.specs.Lists.{all}
@@ -11,9 +12,6 @@ use Rattle.bisim_core.specs.Model.{weighs}
 use borrow.Author.Needs.{needs}
 use Rattle.bisim_build.proofs.checks.all_weigh.Statement.{statement}
 use Rattle.bisim_build.proofs.checks.all_weigh.Tie as tie
-use Rattle.bisim_build.proofs.checks.all_weigh.Reads as reads
-use Rattle.bisim_build.proofs.checks.all_weigh.Lts as lts
-use Rattle.bisim_build.proofs.checks.weighs.Reads as weighs-reads
 
 abbrev Inv-loop : tie.InvT-loop
 Inv-loop weights n i₀ i = (i ≤ n) × (all weighs (take n weights) ≡ all weighs (slice i n weights))

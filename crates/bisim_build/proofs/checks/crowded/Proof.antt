@@ -1,15 +1,13 @@
-use mathlib.Core.Path.{_≡_, refl, ap, sym, _∙_}
+-- The triples rise, so those of a state stand together: `seen` holds the distinct targets of the state at hand, other than itself, and no state before has over 31 (`Crowding`).
+-- A turn takes one triple; a 32nd target answers true, the end false.
+use mathlib.Core.Path.{refl, sym}
 use mathlib.Core.Logic.{⊎-elim}
-use Prim.Native.Nat.{ℕ, _+_, _-_, _≤_}
+use Prim.Native.Nat.{_-_}
 use native.Mathlib.Omega.{arith}
-use lib.ListN.{length, length-set}
 use Rattle.bisim_build.proofs.Crowds.{Crowding, crowding, Ready, ready-same, ready-new, crowd-self, crowd-more, crowd-found, crowd-none}
 use borrow.Author.Needs.{needs}
 use Rattle.bisim_build.proofs.checks.crowded.Statement.{statement}
 use Rattle.bisim_build.proofs.checks.crowded.Tie as tie
-use Rattle.bisim_build.proofs.checks.crowded.Reads as reads
-use Rattle.bisim_build.proofs.checks.crowded.Lts as lts
-use Rattle.bisim_build.proofs.checks.note.Reads as note-reads
 
 abbrev Inv-loop : tie.InvT-loop
 Inv-loop triples m seen₀ count₀ state₀ j₀ seen count state j = Crowding triples m seen count state j

@@ -1,15 +1,11 @@
-use mathlib.Core.Path.{_≡_, refl, ap, sym, _∙_}
+-- By where t stands: among the values seen, or not; and then by whether there is room for one more.
+use mathlib.Core.Path.{ap, _∙_}
 use mathlib.Core.Logic.{⊎-elim}
-use Prim.Native.Nat.{ℕ, _+_, _-_, _≤_}
-use native.Mathlib.Omega.{arith}
 use lib.ListN.{length, length-set}
 use Rattle.bisim_build.proofs.Notes.{note-old, note-new, note-full}
 use borrow.Author.Needs.{needs}
 use Rattle.bisim_build.proofs.checks.note.Statement.{statement}
 use Rattle.bisim_build.proofs.checks.note.Tie as tie
-use Rattle.bisim_build.proofs.checks.note.Reads as reads
-use Rattle.bisim_build.proofs.checks.note.Lts as lts
-use Rattle.numbers.proofs.seek.Reads as seek-reads
 
 seek-requires : tie.Need-seek-requires
 seek-requires c κs = search needs

@@ -1,5 +1,5 @@
 -- The tests in their order: the one that holds, those before it that do not.
-use mathlib.Core.Path.{_≡_, refl, sym, ap, _∙_}
+use mathlib.Core.Path.{sym, ap, _∙_}
 use mathlib.Core.Bool.{not}
 use Rattle.numbers.proofs.Refuses.{hit, skip}
 use borrow.Author.Needs.{needs}

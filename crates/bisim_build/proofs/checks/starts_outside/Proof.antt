@@ -1,4 +1,5 @@
-use mathlib.Core.Path.{_≡_, refl, sym, ap, _∙_}
+-- By cases on the initial state, as the definition has it.
+use mathlib.Core.Path.{sym, ap, _∙_}
 use mathlib.Core.Bool.{not}
 use Prim.Native.Nat.{ℕ}
 use lib.Dec.{ltb}
@@ -7,9 +8,6 @@ use Rattle.bisim_core.specs.Model.{startsOutside}
 use borrow.Author.Needs.{needs}
 use Rattle.bisim_build.proofs.checks.starts_outside.Statement.{statement}
 use Rattle.bisim_build.proofs.checks.starts_outside.Tie as tie
-use Rattle.bisim_build.proofs.checks.starts_outside.Reads as reads
-use Rattle.bisim_build.proofs.checks.starts_outside.Lts as lts
-use Rattle.bisim_build.proofs.checks.wide.Reads as wide-reads
 
 enum-known-initial : tie.Need-enum-known-initial
 enum-known-initial c = search needs

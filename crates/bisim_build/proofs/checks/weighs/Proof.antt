@@ -1,8 +1,7 @@
+-- The tests of the definition, in its order.
 use Rattle.numbers.proofs.Bools.{or-first, or-second, or-third}
 use Rattle.bisim_build.proofs.checks.weighs.Statement.{statement}
 use Rattle.bisim_build.proofs.checks.weighs.Tie as tie
-use Rattle.bisim_build.proofs.checks.weighs.Reads as reads
-use Rattle.bisim_build.proofs.checks.weighs.Lts as lts
 
 returns : tie.Need-returns
 returns c = or-first _ _ (c .if1 .taken)

@@ -1,15 +1,13 @@
-use mathlib.Core.Path.{_≡_, refl, sym, ap, _∙_}
+-- The invariant: the edges stored, and after them those of the run under way and of the keys that are left, are the edges of all keys (`Joining`).
+-- A turn goes on with the run or ends it; the last run ends after the loop.
+use mathlib.Core.Path.{_∙_}
 use mathlib.Core.Logic.{⊎-elim}
-use Prim.Native.Nat.{ℕ, _-_, _+_, _≤_, _<_}
+use Prim.Native.Nat.{_-_}
 use native.Mathlib.Omega.{arith}
-use lib.ListN.{length, getD}
 use Rattle.bisim_build.proofs.Joins.{Joining, joining, goes-on, begins, joined, joined-none, room}
 use borrow.Author.Needs.{needs}
 use Rattle.bisim_build.proofs.edges.join_runs.Statement.{statement}
 use Rattle.bisim_build.proofs.edges.join_runs.Tie as tie
-use Rattle.bisim_build.proofs.edges.join_runs.Reads as reads
-use Rattle.bisim_build.proofs.edges.join_runs.Lts as lts
-use Rattle.bisim_build.proofs.edges.push.Reads as push-reads
 
 abbrev Inv-loop : tie.InvT-loop
 Inv-loop keys n weights triples₀ sums₀ first run₀ sum₀ m₀ i₀ triples sums run sum m i = Joining keys n weights triples₀ sums₀ triples sums run sum m i

@@ -1,14 +1,10 @@
-use mathlib.Core.Path.{_≡_, refl, ap, sym, _∙_}
+-- Keys, sorted, then joined: a stable sort of the transitions is a sort of their keys (Makes), since the position is the last part of a key.
+use mathlib.Core.Path.{sym}
 use native.Mathlib.Omega.{arith}
-use Rattle.bisim_build.proofs.Makes.{keyable, within, front-length, joinable, edges-made}
+use Rattle.bisim_build.proofs.Makes.{front-length, joinable, edges-made}
 use borrow.Author.Needs.{needs}
 use Rattle.bisim_build.proofs.edges.make_edges.Statement.{statement}
 use Rattle.bisim_build.proofs.edges.make_edges.Tie as tie
-use Rattle.bisim_build.proofs.edges.make_edges.Reads as reads
-use Rattle.bisim_build.proofs.edges.make_edges.Lts as lts
-use Rattle.bisim_build.proofs.sort.sort_keys.Reads as sort-keys-reads
-use Rattle.bisim_build.proofs.edges.join_runs.Reads as join-runs-reads
-use Rattle.bisim_build.proofs.edges.make_keys.Reads as make-keys-reads
 
 make-keys-requires : tie.Need-make-keys-requires
 make-keys-requires c κs = search needs

@@ -1,12 +1,11 @@
-use mathlib.Core.Path.{_≡_, refl, ap, _∙_}
+-- By cases on the sum: zero leaves everything as it is, any other is stored.
 use borrow.Author.Needs.{needs}
+use Rattle.bisim_build.proofs.Joins.{push-none, push-one}
 use Rattle.bisim_build.proofs.edges.push.Statement.{statement}
 use Rattle.bisim_build.proofs.edges.push.Tie as tie
-use Rattle.bisim_build.proofs.edges.push.Reads as reads
-use Rattle.bisim_build.proofs.edges.push.Lts as lts
 
 returns : tie.Need-returns
-returns c = record { triples = rw (c .if1 .taken); sums = rw (c .if1 .taken); count = rw (c .if1 .taken) }
+returns c = push-none _ _ _ _ _ (c .if1 .taken)
 
 mul-triples : tie.Need-mul-triples
 mul-triples c = search needs
@@ -30,7 +29,7 @@ same-length-2 : tie.Need-same-length-2
 same-length-2 c = search needs
 
 returns-2 : tie.Need-returns-2
-returns-2 c = record { triples = rw (c .if1 .left); sums = rw (c .if1 .left); count = rw (c .if1 .left) }
+returns-2 c = push-one _ _ _ _ _ (c .if1 .left)
 
 pub push-spec : {M : Type 1} → statement M
 push-spec =

@@ -1,15 +1,13 @@
-use mathlib.Core.Path.{_≡_, refl, sym, ap, _∙_}
-use mathlib.Core.Logic.{⊎-elim, inl, inr}
-use Prim.Native.Nat.{ℕ, _-_, _+_, _≤_}
+-- The invariant: interning what is left, the values of the store known, gives the distinct values of the whole column; and the ids so far are the final ones (`Interning`).
+-- A turn meets a known value or a new one; a new one that the store has no room for ends the loop.
+use mathlib.Core.Path.{sym, _∙_}
+use mathlib.Core.Logic.{⊎-elim}
+use Prim.Native.Nat.{_-_}
 use native.Mathlib.Omega.{arith}
-use lib.ListN.{length, take}
 use Rattle.bisim_build.proofs.Interns.{Interning, interning, turn-old, turn-new, full, interned, overfull, place-small}
 use borrow.Author.Needs.{needs}
 use Rattle.bisim_build.proofs.labels.intern_all.Statement.{statement}
 use Rattle.bisim_build.proofs.labels.intern_all.Tie as tie
-use Rattle.bisim_build.proofs.labels.intern_all.Reads as reads
-use Rattle.bisim_build.proofs.labels.intern_all.Lts as lts
-use Rattle.numbers.proofs.seek.Reads as seek-reads
 
 abbrev Inv-loop : tie.InvT-loop
 Inv-loop values n store₀ ids₀ i₀ count₀ store ids i count = Interning values n store₀ ids₀ store ids i count

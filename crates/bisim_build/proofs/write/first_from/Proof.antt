@@ -1,14 +1,11 @@
-use mathlib.Core.Path.{_≡_, refl, sym, ap, _∙_}
-use Prim.Native.Nat.{ℕ, _-_, _+_, _≤_, _<_}
+-- The invariant: the numbers from p to k - 1 are below the bound.
+use Prim.Native.Nat.{ℕ, _-_, _≤_, _<_}
 use native.Mathlib.Omega.{arith}
-use lib.ListN.{length, getD}
-use borrow.Author.Count.{below-more}
+use lib.ListN.{getD}
 use Rattle.numbers.proofs.Pointwise.{span-next}
 use borrow.Author.Needs.{needs}
 use Rattle.bisim_build.proofs.write.first_from.Statement.{statement}
 use Rattle.bisim_build.proofs.write.first_from.Tie as tie
-use Rattle.bisim_build.proofs.write.first_from.Reads as reads
-use Rattle.bisim_build.proofs.write.first_from.Lts as lts
 
 abbrev Inv-loop : tie.InvT-loop
 Inv-loop triples m p bound k₀ k = (p ≤ k) × (k ≤ m) × ((j : ℕ) → p ≤ j → j < k → getD triples j 0 < bound)

@@ -1,17 +1,9 @@
-use mathlib.Core.Path.{_≡_, refl, ap, sym, _∙_}
-use mathlib.Core.List.{map}
-use Prim.Native.Nat.{ℕ, _-_, _≤_}
-use native.Mathlib.Omega.{arith}
-use lib.ListN.{length, length-set}
-use Rattle.numbers.proofs.Over.{over}
-use Rattle.bisim_core.specs.Data.{Edge}
-use Rattle.bisim_core.proofs.Steps.{edgesIn}
+-- The invariant: the first i entries of each column are those of the edges (`Writing`).
+use Prim.Native.Nat.{_-_}
 use Rattle.bisim_build.proofs.Writes.{Writing, writing, writes, written}
 use borrow.Author.Needs.{needs}
 use Rattle.bisim_build.proofs.write.write_edges.Statement.{statement}
 use Rattle.bisim_build.proofs.write.write_edges.Tie as tie
-use Rattle.bisim_build.proofs.write.write_edges.Reads as reads
-use Rattle.bisim_build.proofs.write.write_edges.Lts as lts
 
 abbrev Inv-loop : tie.InvT-loop
 Inv-loop triples sums m labels₀ targets₀ weights₀ i₀ labels targets weights i = Writing triples sums m labels₀ targets₀ weights₀ labels targets weights i

@@ -1,5 +1,6 @@
-use mathlib.Core.Path.{_≡_, refl, ap, sym, _∙_}
-use Prim.Native.Nat.{ℕ, _-_, _≤_}
+-- The invariant: the first i values stand over those of `to`.
+use mathlib.Core.Path.{_≡_, refl, sym}
+use Prim.Native.Nat.{_-_, _≤_}
 use native.Mathlib.Omega.{arith}
 use lib.ListN.{length, length-set, take}
 use lib.Seq.{getD-take, length-take-le}
@@ -7,8 +8,6 @@ use Rattle.numbers.proofs.Over.{over, over-next, over-done}
 use borrow.Author.Needs.{needs}
 use Rattle.bisim_build.proofs.write.write_labels.Statement.{statement}
 use Rattle.bisim_build.proofs.write.write_labels.Tie as tie
-use Rattle.bisim_build.proofs.write.write_labels.Reads as reads
-use Rattle.bisim_build.proofs.write.write_labels.Lts as lts
 
 abbrev Inv-loop : tie.InvT-loop
 Inv-loop store n to₀ i₀ to i = (i ≤ n) × (length to ≡ length to₀) × (to ≡ over (take n store) i to₀)

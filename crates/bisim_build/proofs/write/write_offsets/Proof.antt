@@ -1,14 +1,11 @@
-use mathlib.Core.Path.{_≡_, refl, ap, sym, _∙_}
-use Prim.Native.Nat.{ℕ, _+_, _-_, _≤_}
+-- The invariant: the first s offsets are written, and p edges have a source below s (`Offsetting`): the triples rise, so the next offset is found from p on.
+use mathlib.Core.Path.{refl}
+use Prim.Native.Nat.{_+_, _-_}
 use native.Mathlib.Omega.{arith}
-use lib.ListN.{length, length-set}
 use Rattle.bisim_core.proofs.Offsets.{Offsetting, offsetting, offset-next, offsets-done}
 use borrow.Author.Needs.{needs}
 use Rattle.bisim_build.proofs.write.write_offsets.Statement.{statement}
 use Rattle.bisim_build.proofs.write.write_offsets.Tie as tie
-use Rattle.bisim_build.proofs.write.write_offsets.Reads as reads
-use Rattle.bisim_build.proofs.write.write_offsets.Lts as lts
-use Rattle.bisim_build.proofs.write.first_from.Reads as first-from-reads
 
 abbrev Inv-loop : tie.InvT-loop
 Inv-loop triples m states offsets₀ s₀ p₀ offsets s p = Offsetting triples m states offsets₀ offsets s p

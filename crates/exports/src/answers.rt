@@ -1,0 +1,108 @@
+// An answer as numbers: 0, with what it holds put behind the references; or a refusal's number, the references left as they were.
+use bisim_build::builder::Built;
+use bisim_core::ids::Found;
+use bisim_core::ids::Interned;
+use bisim_core::ids::Resolved;
+use bisim_core::wlts::Counted;
+use bisim_core::wlts::Start;
+use bisim_core::wlts::Successors;
+ghost use mathlib.Core.Path.{_≡_};
+ghost use mathlib.Core.List.{[], _∷_};
+ghost use Rattle.exports.specs.Answers.{ofInterned, ofFound, ofResolved, ofCounted, ofStart, ofSuccessors, ofBuilt};
+
+pub(crate) fn put_interned(answer: Interned, id: &mut u32, total: &mut usize) -> u32
+    ensures { λ r. ⌜ r ∷ now (id .exit) ∷ now (total .exit) ∷ [] ≡ ofInterned answer (now (id .entry)) (now (total .entry)) ⌝ }
+{
+    match answer {
+        Interned::Id(l, n) => {
+            *id = l.0;
+            *total = n;
+            0
+        }
+        Interned::Refused(k) => k,
+    }
+}
+
+pub(crate) fn put_found(answer: Found, present: &mut u32, id: &mut u32) -> u32
+    ensures { λ r. ⌜ r ∷ now (present .exit) ∷ now (id .exit) ∷ [] ≡ ofFound answer (now (present .entry)) (now (id .entry)) ⌝ }
+{
+    match answer {
+        Found::Id(l) => {
+            *present = 1;
+            *id = l.0;
+            0
+        }
+        Found::Absent => {
+            *present = 0;
+            0
+        }
+        Found::Refused(k) => k,
+    }
+}
+
+pub(crate) fn put_resolved(answer: Resolved, value: &mut u32) -> u32
+    ensures { λ r. ⌜ r ∷ now (value .exit) ∷ [] ≡ ofResolved answer (now (value .entry)) ⌝ }
+{
+    match answer {
+        Resolved::Label(v) => {
+            *value = v;
+            0
+        }
+        Resolved::Refused(k) => k,
+    }
+}
+
+pub(crate) fn put_counted(answer: Counted, count: &mut usize) -> u32
+    ensures { λ r. ⌜ r ∷ now (count .exit) ∷ [] ≡ ofCounted answer (now (count .entry)) ⌝ }
+{
+    match answer {
+        Counted::Number(n) => {
+            *count = n;
+            0
+        }
+        Counted::Refused(k) => k,
+    }
+}
+
+pub(crate) fn put_start(answer: Start, found: &mut u32, state: &mut u32) -> u32
+    ensures { λ r. ⌜ r ∷ now (found .exit) ∷ now (state .exit) ∷ [] ≡ ofStart answer (now (found .entry)) (now (state .entry)) ⌝ }
+{
+    match answer {
+        Start::At(s) => {
+            *found = 1;
+            *state = s.0;
+            0
+        }
+        Start::Absent => {
+            *found = 0;
+            0
+        }
+        Start::Refused(k) => k,
+    }
+}
+
+pub(crate) fn put_successors(answer: Successors, from: &mut usize, to: &mut usize) -> u32
+    ensures { λ r. ⌜ r ∷ now (from .exit) ∷ now (to .exit) ∷ [] ≡ ofSuccessors answer (now (from .entry)) (now (to .entry)) ⌝ }
+{
+    match answer {
+        Successors::Edges(f, t) => {
+            *from = f;
+            *to = t;
+            0
+        }
+        Successors::Refused(k) => k,
+    }
+}
+
+pub(crate) fn put_built(answer: Built, edges: &mut usize, labels: &mut usize) -> u32
+    ensures { λ r. ⌜ r ∷ now (edges .exit) ∷ now (labels .exit) ∷ [] ≡ ofBuilt answer (now (edges .entry)) (now (labels .entry)) ⌝ }
+{
+    match answer {
+        Built::Model(shape) => {
+            *edges = shape.edges;
+            *labels = shape.labels;
+            0
+        }
+        Built::Refused(k) => k,
+    }
+}
