@@ -21,7 +21,7 @@ use Rattle.bisim_core.specs.declared.wlts.Shape.{Shape}
 use Rattle.bisim_core.specs.declared.wlts.Initial.{Initial}
 use Rattle.bisim_core.specs.declared.wlts.Initial.the-variants.{At}
 use Rattle.bisim_core.specs.Model.{begins, edgeAt, row, rows, follows, rises, large, startsOutside, unfit, joinedWeighs, modelRefusal}
-use Rattle.bisim_core.proofs.Models.{row-is, crowded-at, crowded-by}
+use Rattle.bisim_core.proofs.Models.{begins-up, row-is, crowded-at, crowded-by}
 use Rattle.bisim_core.proofs.RowChecks.{rise-at}
 use Rattle.bisim_core.proofs.Fits.{Small, small, Fit, fit, weigh-rows, target-in, label-in, weight-in}
 
@@ -44,6 +44,7 @@ pub record Accepted (S : Shape) (M : Columns) : Type 0 where
   pub weight-least : (i : ℕ) → i < S .edges → le leastWeight (getD (M .edgeWeights) i nan) ≡ true
   pub weight-greatest : (i : ℕ) → i < S .edges → le (getD (M .edgeWeights) i nan) greatestJoined ≡ true
   pub rising : (s i : ℕ) → s < S .states → begins M s ≤ i → i + 1 < begins M (s + 1) → follows (edgeAt M s i) (edgeAt M s (i + 1)) ≡ true
+  pub row-rises : (s : ℕ) → s < S .states → rises (row M s) ≡ true
   pub labels-single : (i : ℕ) → i < S .labels → seek (getD (M .labels) i 0) (take (S .labels) (M .labels)) ≡ i
   pub others-few : (s : ℕ) → s < S .states → length (distinct (others s (row M s))) ≤ 31
 
@@ -55,8 +56,11 @@ module _ {S : Shape} {M : Columns} (F : Fit S M) where
     weighs-at : (le leastWeight (getD (M .edgeWeights) i nan) ≡ true) × (le (getD (M .edgeWeights) i nan) greatestJoined ≡ true)
     weighs-at = and-t (le leastWeight (getD (M .edgeWeights) i nan)) (le (getD (M .edgeWeights) i nan) greatestJoined) (every-at _ _ (weigh-rows (F .order) ∙ e) i h)
 
+  row-rises-at : (s : ℕ) → s < S .states → rises (row M s) ≡ true
+  row-rises-at s h = every-at _ _ (F .rising) s h
+
   rising-at : (s i : ℕ) → s < S .states → begins M s ≤ i → i + 1 < begins M (s + 1) → follows (edgeAt M s i) (edgeAt M s (i + 1)) ≡ true
-  rising-at s i h = rise-at M s (begins M (s + 1)) (begins M s) i (ap rises (row-is M s (begins M s) (begins M (s + 1)) refl refl) ∙ every-at _ _ (F .rising) s h)
+  rising-at s i h = rise-at M s (begins M (s + 1)) (begins M s) i (ap rises (row-is M s (begins M s) (begins M (s + 1)) refl refl) ∙ row-rises-at s h)
 
   single-at : (i : ℕ) → i < S .labels → seek (getD (M .labels) i 0) (take (S .labels) (M .labels)) ≡ i
   single-at i h =
@@ -99,6 +103,17 @@ accepted S M e =
       weight-least = λ i h. weighs-at F w i h .0;
       weight-greatest = λ i h. weighs-at F w i h .1;
       rising = rising-at F;
+      row-rises = λ s h. row-rises-at F s h;
       labels-single = single-at F;
       others-few = few-at M (S .states) c;
     }
+
+-- ---- offsets of an accepted model
+
+module _ {S : Shape} {M : Columns} (A : Accepted S M) where
+  pub begins-mono : (s t : ℕ) → s ≤ t → t ≤ S .states → begins M s ≤ begins M t
+  begins-mono s t h k = begins-up M (S .states) (A .begins-rise) s t h k
+
+  -- every edge of a row is an edge of the model
+  pub begins-in : (s : ℕ) → s ≤ S .states → begins M s ≤ S .edges
+  begins-in s h = let a = begins-mono s (S .states) h (omega arith) in let b = A .begins-last in omega arith

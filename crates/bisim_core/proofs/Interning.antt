@@ -39,26 +39,11 @@ module _ (labels : List ℕ) (count : ℕ) where
 
   -- ---- is one listed twice
 
-  abbrev inPlace : ℕ → Bool
-  inPlace i = eqb (seek (getD used i 0) used) i
-
   pub too-few : length labels < count → true ≡ mislisted labels count
   too-few h = hit _ _ (sym (lt-ltb _ _ h))
 
-  pub twice : (i : ℕ) → count ≤ length labels → i < count → seek (getD labels i 0) used ≢ i → true ≡ mislisted labels count
-  twice i k h e = skip _ _ _ (le-ltb _ _ k) (sym (ap not (every-not inPlace (length used) i within apart)))
-    where
-      within : i < length used
-      within = let n = length-take-le count labels k in omega arith
-
-      apart : inPlace i ≡ false
-      apart = ne-eqb _ _ (subst (λ (x : ℕ). seek x used ≢ i) (sym (getD-take count labels i 0 h)) e)
-
-  pub once : count ≤ length labels → ((i : ℕ) → i < count → seek (getD labels i 0) used ≡ i) → false ≡ mislisted labels count
-  once k f = skip _ _ _ (le-ltb _ _ k) (sym (ap not (every-of inPlace (length used) each)))
-    where
-      each : (i : ℕ) → i < length used → inPlace i ≡ true
-      each i h = let n = length-take-le count labels k in let g : i < count = omega arith in eq-eqb _ _ (ap (λ (x : ℕ). seek x used) (getD-take count labels i 0 g) ∙ f i g)
+  pub as-listed : count ≤ length labels → not (single used) ≡ mislisted labels count
+  as-listed h = skip _ _ _ (le-ltb _ _ h) refl
 
   pub enough : mislisted labels count ≡ false → count ≤ length labels
   enough e = ltb-false _ _ (or-f _ _ e .0)

@@ -1,4 +1,6 @@
--- The turns of the loops over one row: edges that rise, and targets counted by marks.
+-- The turns of the loops over one row. Edges: the row rises if its part from i on does. Targets: with a list of those known, whose marks and only they
+-- (and that of s itself) are s + 1, and whose length is the count, the targets still to come make the row's distinct ones; a target that is marked is known
+-- or s, and changes nothing; another goes to the end of the list.
 use mathlib.Core.Path.{_≡_, refl, sym, subst, ap, _∙_}
 use mathlib.Core.Logic.{_⊎_, inl, inr, _≢_}
 use mathlib.Core.Bool.{Bool, true, false, _&&_, not}

@@ -1,4 +1,5 @@
 // The tests that a built model has to pass, each made where those before it passed.
+use crate::ids::single;
 use crate::wlts::Initial;
 use crate::wlts::Shape;
 ghost use mathlib.Core.Path.{_≡_};
@@ -11,7 +12,7 @@ ghost use lib.Ieee.{Float, le, nan};
 ghost use Rattle.numbers.specs.Lists.{span, every};
 ghost use Rattle.numbers.specs.Real.{isZero, leastWeight, greatestJoined};
 ghost use Rattle.bisim_core.specs.Data.{columns};
-ghost use Rattle.bisim_core.specs.Ids.{single, distinct};
+ghost use Rattle.bisim_core.specs.Ids.{distinct};
 ghost use Rattle.bisim_core.specs.Edges.{others, crowdedIn};
 ghost use Rattle.bisim_core.specs.Model;
 ghost use Rattle.bisim_core.specs.Model.{edgeAt, rises, row, rows};
@@ -169,21 +170,6 @@ fn sound_edges(
     true
 }
 
-// No label value is listed twice: each is found where it stands.
-fn single_labels(label_values: &[u32], labels: usize) -> bool
-    requires { ⌜ labels ≤ length (now «label_values») ⌝ }
-    ensures { λ r. ⌜ r ≡ single (take labels (now («label_values» .entry))) ⌝ }
-{
-    let mut i = 0;
-    while i < labels {
-        if numbers::seek(label_values, labels, label_values[i]) != i {
-            return false;
-        }
-        i += 1;
-    }
-    true
-}
-
 pub(crate) fn unfit(
     shape: Shape,
     label_values: &[u32],
@@ -217,7 +203,7 @@ pub(crate) fn unfit(
     if !sound_edges(shape, edge_labels, edge_targets, edge_weights) {
         return true;
     }
-    !single_labels(label_values, shape.labels)
+    !single(label_values, shape.labels)
 }
 
 // ---- check 5

@@ -1,6 +1,7 @@
 // Ids of states and labels, and label values interned by first appearance.
 ghost use mathlib.Core.Path.{_≡_};
-ghost use lib.ListN.{take};
+ghost use Prim.Native.Nat.{_≤_};
+ghost use lib.ListN.{length, take};
 ghost use Rattle.bisim_core.specs.Ids;
 ghost use Rattle.bisim_core.specs.Ids.{ends, listed};
 
@@ -36,21 +37,29 @@ fn known(labels: &[u32], count: usize, value: u32) -> bool
     at < labels.len()
 }
 
-// Too few entries for the count, or a value of the first `count` listed twice: each must be found where it stands.
+// No value of the first `count` is listed twice: each is found where it stands.
+pub(crate) fn single(labels: &[u32], count: usize) -> bool
+    requires { ⌜ count ≤ length (now labels) ⌝ }
+    ensures { λ r. ⌜ r ≡ Ids.single (take count (now (labels .entry))) ⌝ }
+{
+    let mut i = 0;
+    while i < count {
+        if numbers::seek(labels, count, labels[i]) != i {
+            return false;
+        }
+        i += 1;
+    }
+    true
+}
+
+// Too few entries for the count, or a value listed twice.
 fn mislisted(labels: &[u32], count: usize) -> bool
     ensures { λ r. ⌜ r ≡ Ids.mislisted (now (labels .entry)) count ⌝ }
 {
     if labels.len() < count {
         return true;
     }
-    let mut i = 0;
-    while i < count {
-        if numbers::seek(labels, count, labels[i]) != i {
-            return true;
-        }
-        i += 1;
-    }
-    false
+    !single(labels, count)
 }
 
 // The id of a label value: a new value goes behind the `count` in use. 3: a 257th label; 4: mislisted; 7: no room.

@@ -69,13 +69,13 @@ returns-5 c =
     skip _ _ _ (not-started (c .before .before .before .before .before .before .before .before)) (skip _ _ _ (not-thin (c .before .before .before .before .before .before)) (skip _ _ _ (not-steady (c .before .before .before .before)) (skip _ _ _ (not-rising (c .before .before))
     (hit _ _ (sym (c .if5 .taken) ∙ ap not (c .before .sound-edges .ensures ∙ sound-rows (in-order (c .before .before .before .before))))))))
 
-single-labels-requires : tie.Need-single-labels-requires
-single-labels-requires c κs = room (c .before .before .before .before .before .before) .labels-in
+single-requires : tie.Need-single-requires
+single-requires c κs = room (c .before .before .before .before .before .before) .labels-in
 
 returns-6 : tie.Need-returns-6
 returns-6 c =
     skip _ _ _ (not-started (c .before .before .before .before .before .before .before .before .before)) (skip _ _ _ (not-thin (c .before .before .before .before .before .before .before)) (skip _ _ _ (not-steady (c .before .before .before .before .before)) (skip _ _ _ (not-rising (c .before .before .before))
-    (skip _ _ _ (ap not (sym (c .before .before .sound-edges .ensures ∙ sound-rows (in-order (c .before .before .before .before .before)))) ∙ c .before .if5 .left) (ap not (c .single-labels .ensures))))))
+    (skip _ _ _ (ap not (sym (c .before .before .sound-edges .ensures ∙ sound-rows (in-order (c .before .before .before .before .before)))) ∙ c .before .if5 .left) (ap not (c .single .ensures))))))
 
 pub unfit-spec : {M : Type 1} → statement M
 unfit-spec =
@@ -91,5 +91,5 @@ unfit-spec =
     returns-4
     sound-edges-requires
     returns-5
-    single-labels-requires
+    single-requires
     returns-6)

@@ -12,14 +12,14 @@ use Rattle.numbers.specs.Search.{seek}
 use Rattle.numbers.proofs.Alls.{every-of, every-not}
 use Rattle.bisim_core.specs.Ids.{single}
 use borrow.Author.Needs.{needs}
-use Rattle.bisim_core.proofs.check.single_labels.Statement.{statement}
-use Rattle.bisim_core.proofs.check.single_labels.Tie as tie
+use Rattle.bisim_core.proofs.ids.single.Statement.{statement}
+use Rattle.bisim_core.proofs.ids.single.Tie as tie
 
 abbrev Inv-loop : tie.InvT-loop
-Inv-loop label-values labels i₀ i = (i ≤ labels) × ((k : ℕ) → k < i → seek (getD label-values k 0) (take labels label-values) ≡ k)
+Inv-loop labels count i₀ i = (i ≤ count) × ((k : ℕ) → k < i → seek (getD labels k 0) (take count labels) ≡ k)
 
 abbrev μ-loop : tie.MeasureT-loop
-μ-loop label-values labels i₀ i = labels - i
+μ-loop labels count i₀ i = count - i
 
 module _ (l : List ℕ) (n : ℕ) (h : n ≤ length l) where
   at : (k : ℕ) → k < n → seek (getD (take n l) k 0) (take n l) ≡ seek (getD l k 0) (take n l)
@@ -61,8 +61,8 @@ returns-2 c =
     let p = c .before .before .before .pre in
     sym (passed _ _ p (λ k h. c .before .loop .inv .1 k (omega arith)))
 
-pub single-labels-spec : {M : Type 1} → statement M
-single-labels-spec =
+pub single-spec : {M : Type 1} → statement M
+single-spec =
     tie.close
     (tie.spec
     Inv-loop
