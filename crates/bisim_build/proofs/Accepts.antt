@@ -359,3 +359,9 @@ module _ (states : ℕ) (initial : Initial) (C : Transitions) (given : ℕ) (M :
   read-back =
       ap (λ (o : Outcome). rows (o .memory) 0 states) made-there ∙ rows-back call (checked .0) (checked .1) (checked .2) (checked .3)
       ∙ ap (edges C) all-present
+
+  -- its label values are those of the transitions, by first appearance
+  pub labels-back : take (S .labels) (build states initial C given M .memory .labels) ≡ labelsOf C given
+  labels-back =
+      ap (λ (x : Shape). take (x .labels) (build states initial C given M .memory .labels)) shape-is
+      ∙ ap (λ (o : Outcome). take (length (labelsOf C given)) (o .memory .labels)) built-is ∙ take-append-seam (labelsOf C given) (drop (length (labelsOf C given)) (M .labels))

@@ -6,24 +6,25 @@ use mathlib.Core.List.{List, [], _∷_, _++_}
 use native.Mathlib.Omega.{arith}
 use native.Mathlib.Numerals.{add-one}
 use lib.ListN.{length, getD, take, set, length-set, length-append}
-use lib.Seq.{slice, slice-cons, slice-empty, take-suc-set, length-take-le, getD-set-same, getD-set-other}
+use lib.Seq.{slice, slice-cons, slice-empty, take-suc-set, length-take-le, getD-set-same, getD-set-other, getD-take}
 use Rattle.numbers.specs.Search.{seek}
 use Rattle.bisim_core.specs.Ids.{intern, distinct}
 use Rattle.bisim_core.proofs.Steps.{Interned}
 use Rattle.numbers.proofs.Bools.{eq-or-ne}
 use Rattle.numbers.proofs.Seeks.{seek-le, seek-new}
-use Rattle.bisim_core.proofs.Distinct.{intern-old, intern-new, intern-seek, intern-longer}
+use Rattle.bisim_core.proofs.Distinct.{intern-old, intern-new, intern-seek, intern-longer, Single, single-intern}
 
 pub record Interning (values : List ℕ) (n : ℕ) (store₀ ids₀ store ids : List ℕ) (i count : ℕ) : Type 0 where
   pub i-in : i ≤ n
   pub store-size : length store ≡ length store₀
   pub ids-size : length ids ≡ length ids₀
   pub room : count ≤ length store₀
+  pub single : Single (take count store)
   pub same : intern (take count store) (slice i n values) ≡ distinct (take n values)
   pub found : (j : ℕ) → j < i → getD ids j 0 ≡ seek (getD values j 0) (distinct (take n values))
 
 pub interning : (values : List ℕ) (n : ℕ) (store ids : List ℕ) → Interning values n store ids store ids 0 0
-interning values n store ids = record { i-in = omega arith; store-size = refl; ids-size = refl; room = omega arith; same = refl; found = λ j h. absurd (omega arith) }
+interning values n store ids = record { i-in = omega arith; store-size = refl; ids-size = refl; room = omega arith; single = λ j h. absurd (omega arith); same = refl; found = λ j h. absurd (omega arith) }
 
 module _ {values : List ℕ} {n : ℕ} {store₀ ids₀ store ids : List ℕ} {i count : ℕ} (I : Interning values n store₀ ids₀ store ids i count) (h : i < n) (w : n ≤ length values) where
   abbrev x : ℕ
@@ -57,6 +58,7 @@ module _ {values : List ℕ} {n : ℕ} {store₀ ids₀ store ids : List ℕ} {i
         store-size = I .store-size;
         ids-size = length-set ids i k ∙ I .ids-size;
         room = I .room;
+        single = I .single;
         same = rw (add-one i) go;
         found = next-found k r (e ∙ sym (intern-seek x (take count store) (slice (suc i) n values) old) ∙ ap (seek x) go);
       })
@@ -70,6 +72,10 @@ module _ {values : List ℕ} {n : ℕ} {store₀ ids₀ store ids : List ℕ} {i
 
     grown : length (take count store ++ (x ∷ [])) ≡ suc count
     grown = let a = length-append (take count store) (x ∷ []) in let l = known-length in omega arith
+
+    more-single : Single (take count store ++ (x ∷ []))
+    unfolding intern
+    more-single = subst Single (intern-new (take count store) x [] new) (single-intern (take count store) (x ∷ []) (I .single))
 
     -- and there is no room for it
     pub full : count ≡ length store₀ → length store₀ < length (distinct (take n values))
@@ -87,6 +93,7 @@ module _ {values : List ℕ} {n : ℕ} {store₀ ids₀ store ids : List ℕ} {i
           store-size = length-set store count x ∙ b;
           ids-size = length-set ids i k ∙ I .ids-size;
           room = omega arith;
+          single = rw known more-single;
           same = rw (add-one i, known) after;
           found = next-found k r (d ∙ sym (at ∙ known-length) ∙ sym (intern-seek x (take count store ++ (x ∷ [])) (slice (suc i) n values)
               (let g = grown in let l = known-length in omega arith)) ∙ ap (seek x) after);
@@ -113,3 +120,8 @@ place-small {values} {n} {store₀} {ids₀} {store} {ids} {i} {count} I x k e =
     let l = length-take-le count store (omega arith) in
     let z = seek-le x (take count store) in
     omega arith
+
+-- a value that stands at a place of distinct values is found there
+pub found-at : (store : List ℕ) (count guess x : ℕ) → count ≤ length store → Single (take count store) → guess < count → getD store guess 0 ≡ x → guess ≡ seek x (take count store)
+found-at store count guess x h s l e =
+    sym (s guess (let n = length-take-le count store h in omega arith)) ∙ ap (λ (y : ℕ). seek y (take count store)) (getD-take count store guess 0 l ∙ e)

@@ -1,5 +1,3 @@
-pub mod Merges
-pub mod Halving
 pub mod Interns
 pub mod Notes
 pub mod Crowds

@@ -1,5 +1,5 @@
 // From transitions to edges: sorted by a key, equal triples joined.
-use crate::sort::sort_keys;
+use sorting::sort_keys;
 ghost use mathlib.Core.Path.{_≡_};
 ghost use Prim.Native.Nat.{_<_};
 ghost use lib.ListN.{length};

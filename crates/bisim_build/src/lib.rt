@@ -1,5 +1,4 @@
 // Models built from transitions.
-mod sort; // sort.rt: keys sorted in place
 mod labels; // labels.rt: labels interned
 mod checks; // checks.rt: what is refused
 mod edges; // edges.rt: transitions sorted, joined, zero weights dropped

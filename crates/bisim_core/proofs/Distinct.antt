@@ -1,4 +1,4 @@
--- Laws of `intern`: ids by first appearance.
+-- Laws of `intern`: the values known stand first, every value of the list gets an id, none is listed twice, and there are no more ids than values.
 use mathlib.Core.Path.{_≡_, refl, sym, subst, ap, _∙_}
 use mathlib.Core.Logic.{_⊎_, inl, inr}
 use mathlib.Core.Bool.{Bool, true, false}

@@ -1,4 +1,4 @@
--- The turns of `write_offsets`.
+-- The turns of `write_offsets`: the triples rise, so the edges with a source below s are those before the first triple from s * 2^19 on (`below-is`).
 use mathlib.Core.Path.{_≡_, refl, sym, subst, ap, _∙_}
 use mathlib.Core.Logic.{_⊎_, inl, inr, _≢_}
 use Prim.Native.Nat.{ℕ, zero, suc, _+_, _*_, _/_, _≤_, _<_}

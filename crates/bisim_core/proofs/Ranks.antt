@@ -1,4 +1,4 @@
--- The edges rise: by the number that a triple makes.
+-- The edges rise strictly: a triple is a number (`rank`), sorting puts the numbers in order, joining leaves each once, dropping keeps the order. And what holds of all transitions holds of all edges.
 use mathlib.Core.Path.{_≡_, refl, sym, _∙_}
 use mathlib.Core.Bool.{Bool, true, false, true≢false}
 use Prim.Native.Nat.{ℕ, zero, suc, _+_, _*_, _≤_, _<_}

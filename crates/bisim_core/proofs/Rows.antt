@@ -1,4 +1,4 @@
--- The edges stored, one by one.
+-- The edges that two columns store, one by one: how many, and what stands at each place.
 use mathlib.Core.Path.{_≡_, refl, sym, subst, ap, _∙_}
 use mathlib.Core.Logic.{_⊎_, inl, inr, _≢_}
 use Prim.Native.Nat.{ℕ, zero, suc, _<_}

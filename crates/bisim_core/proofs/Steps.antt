@@ -1,4 +1,4 @@
--- What the parts of `build` leave behind.
+-- What the parts of `build` ask for and leave behind: the words of their contracts.
 use mathlib.Core.Path.{_≡_}
 use Prim.Native.Nat.{ℕ, zero, suc, _+_, _*_, _/_, _%_, _≤_, _<_}
 use mathlib.Core.List.{List, [], _∷_, _++_, map}

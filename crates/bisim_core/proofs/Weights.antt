@@ -1,4 +1,4 @@
--- Joined weights: from 2^-40 to 2^52.
+-- Joined weights: each weight is zero or from 2^-40 to 2^40, so a sum of k of them is zero or from 2^-40 to k * 2^40 (rounding keeps both bounds, which are exact numbers), and 4,096 make 2^52.
 use mathlib.Core.Path.{_≡_, refl, sym, subst, subst⁻¹, ap, _∙_}
 use mathlib.Core.Logic.{_⊎_, inl, inr}
 use mathlib.Core.Bool.{Bool, true, false, _&&_, _||_, true≢false, false≢true}

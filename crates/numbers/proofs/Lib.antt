@@ -16,3 +16,4 @@ pub mod Comparisons
 pub mod Members
 pub mod Parts
 pub mod Choices
+pub mod Digits

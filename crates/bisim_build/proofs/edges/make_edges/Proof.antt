@@ -13,13 +13,19 @@ slice-relend-prefix-sort-keys : tie.Need-slice-relend-prefix-sort-keys
 slice-relend-prefix-sort-keys c = search needs
 
 slice-aggregate-sort-keys : tie.Need-slice-aggregate-sort-keys
-slice-aggregate-sort-keys c = sym (front-length (c .before .before .before .before .before .before .before .before .before .before .before .before .args .sources .now) (c .before .before .before .before .before .before .before .before .before .before .before .before .args .ids .now) (c .before .before .before .before .before .before .before .before .before .before .before .before .args .targets .now) (c .before .before .before .before .before .before .before .before .before .before .before .before .args .weights .now) (c .before .before .before .before .before .before .before .before .before .before .before .before .args .n) (c .before .before .before .before .before .before .before .before .before .before .before .before .args .keys .now) (c .before .before .before .before .before .before .before .before .before .before .before .before .args .spare .now) (c .before .before .before .before .before .before .before .before .before .before .before .before .args .sums .now) (c .before .before .before .before .before .before .before .before .before .before .before .before .pre) (c .before .before .before .make-keys .last .1 .1 .1 .1 .0) (c .before .before .before .make-keys .kept .1 .1 .1 .1 .0) (c .before .before .before .make-keys .ensures))
+slice-aggregate-sort-keys c =
+    let s = c .before .before .before .before .before .before .before .before .before .before .before .before in
+    sym (front-length (s .pre) (c .before .before .before .make-keys .kept .1 .1 .1 .1 .0) (c .before .before .before .make-keys .ensures))
 
 sort-keys-requires : tie.Need-sort-keys-requires
-sort-keys-requires c κs = let e = front-length (c .before .before .before .before .before .before .before .before .before .before .before .before .before .args .sources .now) (c .before .before .before .before .before .before .before .before .before .before .before .before .before .args .ids .now) (c .before .before .before .before .before .before .before .before .before .before .before .before .before .args .targets .now) (c .before .before .before .before .before .before .before .before .before .before .before .before .before .args .weights .now) (c .before .before .before .before .before .before .before .before .before .before .before .before .before .args .n) (c .before .before .before .before .before .before .before .before .before .before .before .before .before .args .keys .now) (c .before .before .before .before .before .before .before .before .before .before .before .before .before .args .spare .now) (c .before .before .before .before .before .before .before .before .before .before .before .before .before .args .sums .now) (c .before .before .before .before .before .before .before .before .before .before .before .before .before .pre) (c .before .before .before .before .make-keys .last .1 .1 .1 .1 .0) (c .before .before .before .before .make-keys .kept .1 .1 .1 .1 .0) (c .before .before .before .before .make-keys .ensures) in let s = c .before .before .before .before .before .before .before .before .before .before .before .before .before .pre .s-room in omega arith
+sort-keys-requires c κs = search needs
 
 join-runs-requires : tie.Need-join-runs-requires
-join-runs-requires c κs = joinable (c .before .before .before .before .before .before .before .before .before .before .before .before .before .before .before .before .before .before .before .before .before .args .sources .now) (c .before .before .before .before .before .before .before .before .before .before .before .before .before .before .before .before .before .before .before .before .before .args .ids .now) (c .before .before .before .before .before .before .before .before .before .before .before .before .before .before .before .before .before .before .before .before .before .args .targets .now) (c .before .before .before .before .before .before .before .before .before .before .before .before .before .before .before .before .before .before .before .before .before .args .weights .now) (c .before .before .before .before .before .before .before .before .before .before .before .before .before .before .before .before .before .before .before .before .before .args .n) (c .before .before .before .before .before .before .before .before .before .before .before .before .before .before .before .before .before .before .before .before .before .args .keys .now) (c .before .before .before .before .before .before .before .before .before .before .before .before .before .before .before .before .before .before .before .before .before .args .spare .now) (c .before .before .before .before .before .before .before .before .before .before .before .before .before .before .before .before .before .before .before .before .before .args .sums .now) (c .before .before .before .before .before .before .before .before .before .before .before .before .before .before .before .before .before .before .before .before .before .pre) (c .before .before .before .before .before .before .before .before .before .before .before .before .make-keys .last .1 .1 .1 .1 .0) (c .before .before .before .before .before .before .before .before .before .before .before .before .make-keys .kept .1 .1 .1 .1 .0) (c .before .before .before .before .before .before .before .before .before .before .before .before .make-keys .ensures) (c .before .before .before .before .before .before .before .sort-keys .last .0) (c .before .before .before .before .before .before .before .sort-keys .ensures) _ (c .before .before .before .before .before .before .before .sort-keys .kept .1 .0)
+join-runs-requires c κs =
+    let s = c .before .before .before .before .before .before .before .before .before .before .before .before .before .before .before .before .before .before .before .before .before in
+    let f = c .before .before .before .before .before .before .before .before .before .before .before .before in
+    let g = c .before .before .before .before .before .before .before in
+    joinable (s .pre) (f .make-keys .kept .1 .1 .1 .1 .0) (f .make-keys .ensures) (g .sort-keys .ensures) _ (g .sort-keys .kept .1 .0)
 
 same-length : tie.Need-same-length
 same-length c = search needs
@@ -31,7 +37,12 @@ same-length-3 : tie.Need-same-length-3
 same-length-3 c = search needs
 
 returns : tie.Need-returns
-returns c = edges-made (c .before .before .before .before .before .before .before .before .before .before .before .before .before .before .before .before .before .before .before .before .before .before .before .before .before .before .args .sources .now) (c .before .before .before .before .before .before .before .before .before .before .before .before .before .before .before .before .before .before .before .before .before .before .before .before .before .before .args .ids .now) (c .before .before .before .before .before .before .before .before .before .before .before .before .before .before .before .before .before .before .before .before .before .before .before .before .before .before .args .targets .now) (c .before .before .before .before .before .before .before .before .before .before .before .before .before .before .before .before .before .before .before .before .before .before .before .before .before .before .args .weights .now) (c .before .before .before .before .before .before .before .before .before .before .before .before .before .before .before .before .before .before .before .before .before .before .before .before .before .before .args .n) (c .before .before .before .before .before .before .before .before .before .before .before .before .before .before .before .before .before .before .before .before .before .before .before .before .before .before .args .keys .now) (c .before .before .before .before .before .before .before .before .before .before .before .before .before .before .before .before .before .before .before .before .before .before .before .before .before .before .args .spare .now) (c .before .before .before .before .before .before .before .before .before .before .before .before .before .before .before .before .before .before .before .before .before .before .before .before .before .before .args .sums .now) (c .before .before .before .before .before .before .before .before .before .before .before .before .before .before .before .before .before .before .before .before .before .before .before .before .before .before .pre) (c .before .before .before .before .before .before .before .before .before .before .before .before .before .before .before .before .before .make-keys .last .1 .1 .1 .1 .0) (c .before .before .before .before .before .before .before .before .before .before .before .before .before .before .before .before .before .make-keys .kept .1 .1 .1 .1 .0) (c .before .before .before .before .before .before .before .before .before .before .before .before .before .before .before .before .before .make-keys .ensures) (c .before .before .before .before .before .before .before .before .before .before .before .before .sort-keys .last .0) (c .before .before .before .before .before .before .before .before .before .before .before .before .sort-keys .ensures) _ _ _ (c .before .before .before .before .join-runs .ensures)
+returns c =
+    let s = c .before .before .before .before .before .before .before .before .before .before .before .before .before .before .before .before .before .before .before .before .before .before .before .before .before .before in
+    let f = c .before .before .before .before .before .before .before .before .before .before .before .before .before .before .before .before .before in
+    let g = c .before .before .before .before .before .before .before .before .before .before .before .before in
+    let u = c .before .before .before .before in
+    edges-made (s .pre) (f .make-keys .kept .1 .1 .1 .1 .0) (f .make-keys .ensures) (g .sort-keys .ensures) _ _ _ (u .join-runs .ensures)
 
 pub make-edges-spec : {M : Type 1} → statement M
 make-edges-spec =
