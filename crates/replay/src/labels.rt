@@ -1,0 +1,76 @@
+// The kinds `intern` and `label`: the label ids of bisim_core::ids.
+use crate::answers;
+use crate::answers::Answer;
+use crate::tally;
+use crate::text;
+use crate::text::Reader;
+use bisim_core::ids;
+
+struct Asked {
+    count: usize,
+    value: u32,
+    id: u32,
+}
+
+fn compare_intern(
+    buf: &mut [u8; 65536],
+    r: Reader,
+    counts: &mut [u64; 34],
+    labels: &[u32],
+    a: Answer,
+) -> Reader {
+    let s = answers::expect_two(buf, r, a);
+    let t = text::expect_list(buf, s, labels);
+    tally::count(counts, tally::INTERN, t)
+}
+
+fn check_intern(
+    buf: &mut [u8; 65536],
+    r: Reader,
+    counts: &mut [u64; 34],
+    labels: &mut [u32],
+    x: Asked,
+) -> Reader {
+    let a = answers::of_interned(ids::intern(labels, x.count, x.value));
+    compare_intern(buf, r, counts, labels, a)
+}
+
+pub fn run_intern(buf: &mut [u8; 65536], r: Reader, counts: &mut [u64; 34]) -> Reader {
+    let mut labels = [0u32; 2112];
+    let l = text::list_field(buf, r, &mut labels);
+    let count = text::number_field(buf, l.r);
+    let value = text::short_field(buf, count.r);
+    let x = Asked {
+        count: count.x as usize,
+        value: text::narrow(value.x),
+        id: 0,
+    };
+    check_intern(buf, value.r, counts, text::front_mut(&mut labels, l.n), x)
+}
+
+fn check_label(
+    buf: &mut [u8; 65536],
+    r: Reader,
+    counts: &mut [u64; 34],
+    labels: &[u32],
+    x: Asked,
+) -> Reader {
+    let get = answers::of_found(ids::get(labels, x.count, x.value));
+    let resolve = answers::of_resolved(ids::resolve(labels, x.count, ids::LabelId(x.id)));
+    let s = answers::check_one(buf, r, counts, tally::GET, get);
+    answers::check_one(buf, s, counts, tally::RESOLVE, resolve)
+}
+
+pub fn run_label(buf: &mut [u8; 65536], r: Reader, counts: &mut [u64; 34]) -> Reader {
+    let mut labels = [0u32; 2112];
+    let l = text::list_field(buf, r, &mut labels);
+    let count = text::number_field(buf, l.r);
+    let value = text::short_field(buf, count.r);
+    let id = text::short_field(buf, value.r);
+    let x = Asked {
+        count: count.x as usize,
+        value: text::narrow(value.x),
+        id: text::narrow(id.x),
+    };
+    check_label(buf, id.r, counts, text::front(&labels, l.n), x)
+}

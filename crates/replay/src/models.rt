@@ -1,0 +1,210 @@
+// The kind `model`: the check of a built model, and its readers.
+use crate::answers;
+use crate::tally;
+use crate::text;
+use crate::text::Reader;
+use bisim_core::ids::LabelId;
+use bisim_core::ids::StateId;
+use bisim_core::reader;
+use bisim_core::wlts;
+use bisim_core::wlts::Shape;
+
+// The check, and the counts.
+fn check_counts(
+    buf: &mut [u8; 65536],
+    r: Reader,
+    counts: &mut [u64; 34],
+    shape: Shape,
+    label_values: &[u32],
+    offsets: &[u32],
+    edge_labels: &[u32],
+    edge_targets: &[u32],
+    edge_weights: &[f64],
+) -> Reader {
+    let refusal = wlts::model_refusal(
+        shape,
+        label_values,
+        offsets,
+        edge_labels,
+        edge_targets,
+        edge_weights,
+    );
+    let a = answers::of_counted(reader::num_states(
+        shape,
+        label_values,
+        offsets,
+        edge_labels,
+        edge_targets,
+        edge_weights,
+    ));
+    let b = answers::of_counted(reader::num_transitions(
+        shape,
+        label_values,
+        offsets,
+        edge_labels,
+        edge_targets,
+        edge_weights,
+    ));
+    let c = answers::of_counted(reader::num_labels(
+        shape,
+        label_values,
+        offsets,
+        edge_labels,
+        edge_targets,
+        edge_weights,
+    ));
+    let s = answers::check_refusal(buf, r, counts, tally::MODEL_REFUSAL, refusal);
+    let t = answers::check_one(buf, s, counts, tally::NUM_STATES, a);
+    let u = answers::check_one(buf, t, counts, tally::NUM_TRANSITIONS, b);
+    answers::check_one(buf, u, counts, tally::NUM_LABELS, c)
+}
+
+struct Asked {
+    s: u32,
+    id: u32,
+    value: u32,
+}
+
+// The readers of a state, a label and the initial state.
+fn check_readers(
+    buf: &mut [u8; 65536],
+    r: Reader,
+    counts: &mut [u64; 34],
+    x: Asked,
+    shape: Shape,
+    label_values: &[u32],
+    offsets: &[u32],
+    edge_labels: &[u32],
+    edge_targets: &[u32],
+    edge_weights: &[f64],
+) -> Reader {
+    let state = StateId(x.s);
+    let id = LabelId(x.id);
+    let a = answers::of_start(reader::initial(
+        shape,
+        label_values,
+        offsets,
+        edge_labels,
+        edge_targets,
+        edge_weights,
+    ));
+    let b = answers::of_successors(reader::successors(
+        shape,
+        label_values,
+        offsets,
+        edge_labels,
+        edge_targets,
+        edge_weights,
+        state,
+    ));
+    let c = answers::of_resolved(reader::label(
+        shape,
+        label_values,
+        offsets,
+        edge_labels,
+        edge_targets,
+        edge_weights,
+        id,
+    ));
+    let d = answers::of_found(reader::label_id(
+        shape,
+        label_values,
+        offsets,
+        edge_labels,
+        edge_targets,
+        edge_weights,
+        x.value,
+    ));
+    let s = answers::check_one(buf, r, counts, tally::INITIAL, a);
+    let t = answers::check_two(buf, s, counts, tally::SUCCESSORS, b);
+    let u = answers::check_one(buf, t, counts, tally::LABEL, c);
+    answers::check_one(buf, u, counts, tally::LABEL_ID, d)
+}
+
+fn run_readers(
+    buf: &mut [u8; 65536],
+    r: Reader,
+    counts: &mut [u64; 34],
+    shape: Shape,
+    label_values: &[u32],
+    offsets: &[u32],
+    edge_labels: &[u32],
+    edge_targets: &[u32],
+    edge_weights: &[f64],
+) -> Reader {
+    let s = text::short_field(buf, r);
+    let id = text::short_field(buf, s.r);
+    let value = text::short_field(buf, id.r);
+    let x = Asked {
+        s: text::narrow(s.x),
+        id: text::narrow(id.x),
+        value: text::narrow(value.x),
+    };
+    let t = check_counts(
+        buf,
+        value.r,
+        counts,
+        shape,
+        label_values,
+        offsets,
+        edge_labels,
+        edge_targets,
+        edge_weights,
+    );
+    check_readers(
+        buf,
+        t,
+        counts,
+        x,
+        shape,
+        label_values,
+        offsets,
+        edge_labels,
+        edge_targets,
+        edge_weights,
+    )
+}
+
+fn run_columns(buf: &mut [u8; 65536], r: Reader, counts: &mut [u64; 34], shape: Shape) -> Reader {
+    let mut l_store = [0u32; 2112];
+    let mut o_store = [0u32; 2112];
+    let mut el_store = [0u32; 2112];
+    let mut et_store = [0u32; 2112];
+    let mut ew_store = [0.0f64; 2112];
+    let l = text::list_field(buf, r, &mut l_store);
+    let label_values = text::front(&l_store, l.n);
+    let o = text::list_field(buf, l.r, &mut o_store);
+    let offsets = text::front(&o_store, o.n);
+    let el = text::list_field(buf, o.r, &mut el_store);
+    let edge_labels = text::front(&el_store, el.n);
+    let et = text::list_field(buf, el.r, &mut et_store);
+    let edge_targets = text::front(&et_store, et.n);
+    let ew = text::reals_field(buf, et.r, &mut ew_store);
+    let edge_weights = text::reals_front(&ew_store, ew.n);
+    run_readers(
+        buf,
+        ew.r,
+        counts,
+        shape,
+        label_values,
+        offsets,
+        edge_labels,
+        edge_targets,
+        edge_weights,
+    )
+}
+
+pub fn run(buf: &mut [u8; 65536], r: Reader, counts: &mut [u64; 34]) -> Reader {
+    let states = text::number_field(buf, r);
+    let edges = text::number_field(buf, states.r);
+    let labels = text::number_field(buf, edges.r);
+    let initial = text::number_field(buf, labels.r);
+    let start = answers::to_initial(initial.x);
+    let shape = Shape {
+        states: states.x as usize,
+        edges: edges.x as usize,
+        labels: labels.x as usize,
+        initial: start,
+    };
+    run_columns(buf, initial.r, counts, shape)
+}
