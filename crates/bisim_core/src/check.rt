@@ -2,6 +2,8 @@
 use crate::ids::single;
 use crate::wlts::Initial;
 use crate::wlts::Shape;
+use numbers::GREATEST_JOINED;
+use numbers::LEAST_WEIGHT;
 ghost use mathlib.Core.Path.{_≡_};
 ghost use mathlib.Core.Bool.{true, false, _&&_, _||_, not};
 ghost use mathlib.Core.List.{List, [], map};
@@ -16,11 +18,6 @@ ghost use Rattle.bisim_core.specs.Ids.{distinct};
 ghost use Rattle.bisim_core.specs.Edges.{others, crowdedIn};
 ghost use Rattle.bisim_core.specs.Model;
 ghost use Rattle.bisim_core.specs.Model.{edgeAt, rises, row, rows};
-
-// 2^-40 and 2^52.
-const LEAST: f64 = 9.094947017729282e-13;
-
-const GREATEST_JOINED: f64 = 4503599627370496.0;
 
 pub(crate) fn wide(x: u32) -> usize
     ensures { λ r. ⌜ r ≡ x ⌝ }
@@ -211,7 +208,7 @@ pub(crate) fn unfit(
 fn joined_weighs(weight: f64) -> bool
     ensures { λ r. ⌜ r ≡ (le leastWeight weight && le weight greatestJoined) ⌝ }
 {
-    LEAST <= weight && weight <= GREATEST_JOINED
+    LEAST_WEIGHT <= weight && weight <= GREATEST_JOINED
 }
 
 pub(crate) fn all_weigh(edge_weights: &[f64], edges: usize) -> bool

@@ -4,12 +4,13 @@ ghost use Prim.Native.Nat.{_≤_};
 ghost use mathlib.Core.Bool.{false};
 ghost use lib.ListN.{length, take};
 ghost use lib.Ieee.{inf};
-ghost use Rattle.numbers.specs.Real.{isZero, isValid, sum};
+ghost use mathlib.Core.List.{[], _∷_};
+ghost use Rattle.numbers.specs.Real.{isZero, isValid, sum, one, half, tenth, leastWeight, greatestWeight, greatestJoined, leastObservation, greatestFactor, greatestRate, eps, slack, margin, fineness};
 ghost use Rattle.numbers.specs.Choice;
 ghost use Rattle.numbers.specs.Search;
 ghost use Rattle.numbers.specs.Bits.{bitAt, cleared};
 
-// The constants of document 01; the definition of each is in specs/Real.antt.
+// The constants of document 01; `all_constants` ties each to its definition in specs/Real.antt.
 
 pub const ONE: f64 = 1.0; // one
 
@@ -36,6 +37,27 @@ pub const SLACK: f64 = 1e-9; // slack
 pub const MARGIN: f64 = 1e-15; // margin
 
 pub const FINENESS: f64 = 1e-4; // fineness
+
+// Never called: its contract says that each constant is the one of the definitions.
+fn all_constants() -> [f64; 13]
+    ensures { λ r. ⌜ r ≡ one ∷ half ∷ tenth ∷ leastWeight ∷ greatestWeight ∷ greatestJoined ∷ leastObservation ∷ greatestFactor ∷ greatestRate ∷ eps ∷ slack ∷ margin ∷ fineness ∷ [] ⌝ }
+{
+    [
+        ONE,
+        HALF,
+        TENTH,
+        LEAST_WEIGHT,
+        GREATEST_WEIGHT,
+        GREATEST_JOINED,
+        LEAST_OBSERVATION,
+        GREATEST_FACTOR,
+        GREATEST_RATE,
+        EPS,
+        SLACK,
+        MARGIN,
+        FINENESS,
+    ]
+}
 
 // A weight: a rate or a probability.
 pub struct Real(pub f64);
