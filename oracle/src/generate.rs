@@ -7,6 +7,7 @@ pub mod card;
 pub mod labels;
 pub mod metric;
 pub mod model;
+pub mod remainders;
 
 /// SplitMix64.
 #[derive(Debug, Clone)]

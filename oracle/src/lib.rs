@@ -8,6 +8,7 @@ pub mod bisim_metric;
 pub mod generate;
 #[cfg(feature = "ours")]
 pub mod ours;
+pub mod pairs;
 pub mod refusals;
 pub mod sample;
 pub mod text;

@@ -2,7 +2,7 @@
 //!
 //! Prints `NAME rust_ns A ours_ns B ratio A/B`, medians over the samples. The Rust side is a new builder, each
 //! transition added, `build` and the release of the model. Our side is `build` into stores that are allocated once and
-//! not cleared between calls.
+//! not cleared between calls. The readers are left out.
 
 use std::hint::black_box;
 use std::time::Instant;
@@ -44,13 +44,26 @@ fn sorted(args: &BuildArgs) -> BuildArgs {
     }
 }
 
+/// The same transitions with 256 label values in turn, `step` apart.
+fn in_turn(args: BuildArgs, step: u32) -> BuildArgs {
+    let label = |i: usize| i as u32 % 256 * step;
+    BuildArgs {
+        labels: (0..args.given).map(label).collect(),
+        ..args
+    }
+}
+
 fn cases() -> Vec<(&'static str, BuildArgs)> {
     let random = input(400, 4_096, 4);
     vec![
+        ("build_0", input(8, 0, 3)),
         ("build_20", input(8, 20, 3)),
+        ("build_150", input(30, 150, 4)),
         ("build_400", input(60, 400, 4)),
+        ("build_400_256_labels", in_turn(input(60, 400, 4), 77)),
         ("build_4096", random.clone()),
         ("build_4096_256_labels", input(400, 4_096, 256)),
+        ("build_4096_stride_labels", in_turn(random.clone(), 1_024)),
         ("build_4096_sorted", sorted(&random)),
     ]
 }

@@ -6,11 +6,12 @@
 use std::collections::BTreeMap;
 use std::process::ExitCode;
 
-use oracle::generate::{Rng, build, labels, model};
+use oracle::generate::{Rng, build, labels, model, remainders};
 use oracle::ours::Ours;
+use oracle::pairs::{alike, paired};
 use oracle::refusals::ROWS;
 use oracle::sample;
-use oracle::text::{Case, Field, Value, same, write_case};
+use oracle::text::{Case, Field, Value, write_case};
 
 /// Least number of comparisons of every entry.
 const FLOOR: u64 = 10_000;
@@ -18,14 +19,14 @@ const FLOOR: u64 = 10_000;
 const REFUSAL_FLOOR: u64 = 200;
 /// Differences printed of each entry.
 const SHOWN: u64 = 3;
-/// Tries to make a difference shorter.
-const TRIES: usize = 600;
+/// Steps to make a difference shorter.
+const STEPS: usize = 600;
 
 #[derive(Default)]
 struct Entry {
     compared: u64,
     differ: u64,
-    /// Comparisons by the oracle's refusal number, 0 for none.
+    /// Comparisons by refusal number, the oracle's where it has the answer; 0 for none.
     refused: BTreeMap<u32, u64>,
 }
 
@@ -34,32 +35,28 @@ struct Tally {
     entries: BTreeMap<&'static str, Entry>,
 }
 
-/// Each answer line with the lent lists after it.
-fn by_entry(fields: &[Field]) -> impl Iterator<Item = &[Field]> {
-    fields.chunk_by(|_, next| !matches!(next.value, Value::Answer(..)))
+fn differs<C: Ours>(case: &C) -> bool {
+    !alike(&case.oracle(), &case.ours())
 }
 
-fn alike(a: &[Field], b: &[Field]) -> bool {
-    a.len() == b.len() && a.iter().zip(b).all(|(a, b)| same(&a.value, &b.value))
-}
-
-/// Takes parts out as long as the two sides still differ on what is left, in at most [`TRIES`] tries.
+/// Takes parts out as long as the two sides still differ on what is left, in at most [`STEPS`] steps.
 fn shrunk<C: Ours>(case: &C) -> C {
     let mut least = case.clone();
-    let mut chunk = least.parts();
-    let mut tries = 0;
-    while chunk > 0 && tries < TRIES {
-        let mut at = 0;
-        while at + chunk <= least.parts() && tries < TRIES {
-            tries += 1;
-            let shorter = least.without(at, at + chunk);
-            if alike(&shorter.oracle(), &shorter.ours()) {
-                at += chunk;
-            } else {
-                least = shorter;
-            }
+    let (mut at, mut chunk) = (0, least.parts());
+    for _ in 0..STEPS {
+        if chunk == 0 {
+            break;
         }
-        chunk /= 2;
+        if at + chunk > least.parts() {
+            (at, chunk) = (0, chunk / 2);
+            continue;
+        }
+        let shorter = least.without(at, at + chunk);
+        if differs(&shorter) {
+            least = shorter;
+        } else {
+            at += chunk;
+        }
     }
     least
 }
@@ -79,20 +76,25 @@ fn show<C: Ours>(case: &C) {
 }
 
 impl Tally {
+    /// Counts an answer, which one of the sides may lack; true where it is to be shown.
+    fn count(&mut self, expected: &[Field], got: &[Field]) -> bool {
+        let head = expected.first().unwrap_or_else(|| &got[0]);
+        let Value::Answer(refusal, _) = head.value else {
+            panic!("{} is no answer", head.name);
+        };
+        let entry = self.entries.entry(head.name).or_default();
+        entry.compared += 1;
+        *entry.refused.entry(refusal).or_default() += 1;
+        let differs = !alike(expected, got);
+        entry.differ += u64::from(differs);
+        differs && entry.differ <= SHOWN
+    }
+
     fn check<C: Ours>(&mut self, case: &C) {
         let (oracle, ours) = (case.oracle(), case.ours());
-        for (expected, got) in by_entry(&oracle).zip(by_entry(&ours)) {
-            let Value::Answer(refusal, _) = expected[0].value else {
-                panic!("{} is no answer", expected[0].name);
-            };
-            let entry = self.entries.entry(expected[0].name).or_default();
-            entry.compared += 1;
-            *entry.refused.entry(refusal).or_default() += 1;
-            if !alike(expected, got) {
-                entry.differ += 1;
-                if entry.differ <= SHOWN {
-                    show(case);
-                }
+        for (expected, got) in paired(&oracle, &ours) {
+            if self.count(expected, got) {
+                show(case);
             }
         }
     }
@@ -154,6 +156,9 @@ fn builds(tally: &mut Tally, rng: &mut Rng, scale: usize) {
     for i in 0..100_000 * scale {
         let size = build::small(rng);
         tally.check(&build::random(rng, size));
+        if i % 2 == 0 {
+            tally.check(&remainders::random(rng));
+        }
         if i % 12 == 0 {
             tally.check(&build::at_limit(rng));
         }
@@ -170,6 +175,7 @@ fn models(tally: &mut Tally, rng: &mut Rng, scale: usize) {
         model::random(rng, size).iter().for_each(|a| tally.check(a));
         if i % 20 == 0 {
             tally.check(&model::star(rng));
+            model::middle(rng).iter().for_each(|a| tally.check(a));
         }
         if i % 60 == 0 {
             model::large(rng).iter().for_each(|a| tally.check(a));

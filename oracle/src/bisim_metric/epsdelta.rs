@@ -124,7 +124,7 @@ where
     L: Eq + Hash + Clone,
     K: Eq,
 {
-    // CHANGED: ρ from 1 to 2^20 (document 01, number 9) in place of a finite δ from 0.
+    // CHANGED: ρ from 1 to 2^20 (document 01, number 9) in place of a finite δ from 0; the text says so.
     if !(epsilon >= 0.0 && epsilon.is_finite() && (1.0..=1_048_576.0).contains(&rho)) {
         return Err(MetricError::Invalid(format!(
             "tolerances out of range, got ε = {epsilon}, ρ = {rho}"

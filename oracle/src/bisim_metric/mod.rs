@@ -1,4 +1,5 @@
-//! The Rust of crates/bisim-metric, taken over; changes are marked `CHANGED` or `LEFT OUT` and listed in CHANGES.md.
+//! The Rust of crates/bisim-metric, taken over; changes are marked `CHANGED` or `LEFT OUT` and listed in
+//! docs/DIFFERENCES.md.
 
 // The layout of the files is the published one.
 #[rustfmt::skip]

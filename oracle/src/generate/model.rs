@@ -1,7 +1,7 @@
 //! Built models handed in, good and damaged.
 
 use super::build::{self, Size, lengthen_columns, shorten_store};
-use super::{Rng, all_digits, place};
+use super::{Rng, all_digits, place, remainders};
 use crate::answers::handed_in;
 use crate::args::{BuildArgs, Columns, ModelArgs, ReadArgs};
 use crate::refusals::{GREATEST_JOINED, LEAST_WEIGHT};
@@ -53,6 +53,14 @@ pub fn large(rng: &mut Rng) -> Option<ReadArgs> {
         }
         _ => build::full(rng),
     };
+    from_build(rng, args)
+}
+
+/// What `build` makes of 100 to 300 transitions, their labels of few remainders, or that broken up to three times.
+pub fn middle(rng: &mut Rng) -> Option<ReadArgs> {
+    let size = remainders::size(rng);
+    let mut args = build::good(rng, size);
+    remainders::relabel(rng, &mut args);
     from_build(rng, args)
 }
 
