@@ -14,7 +14,8 @@ use borrow.Author.Tests.{lt-ltb, le-ltb, le-leb, eq-eqb, ltb-false, not-false}
 use Rattle.numbers.proofs.Bools.{or-f}
 use Rattle.numbers.proofs.Alls.{all-front, every-of}
 use Rattle.bisim_core.specs.Data.{Edge, Transitions, Columns}
-use Rattle.bisim_build.specs.Build.{present, labelsOf, oversized, outside, unweighed, crowded, short, refusal, Outcome, made, settled, build}
+use Rattle.bisim_edges.specs.Checks.{present, labelsOf, oversized, outside, unweighed, crowded}
+use Rattle.bisim_build.specs.Build.{short, refusal, Outcome, made, settled, build}
 use Rattle.numbers.specs.Search.{seek}
 use Rattle.bisim_core.specs.Ids.{single}
 use Rattle.numbers.specs.Lists.{span, over, every, all}
@@ -24,7 +25,8 @@ use Rattle.bisim_core.specs.Model.{begins, row, rows, large, thin, steady, rise
 use Rattle.numbers.proofs.Refuses.{check-skip, check-none, none}
 use Rattle.bisim_core.proofs.Distinct.{intern-has, single-distinct}
 use Rattle.numbers.proofs.Spans.{span-length, span-at}
-use Rattle.bisim_build.proofs.Builds.{Call, Inside, inside, room, l-in, w-in, n-given}
+use Rattle.bisim_edges.proofs.Plans.{Call, Inside, inside, l-in, w-in}
+use Rattle.bisim_build.proofs.Builds.{room, n-below, n-there}
 use Rattle.bisim_core.proofs.Ranks.{AllE, all-map, all-both, all-sorted, all-nonzero, all-kept, all-span, Small, Of, all-join, sort-up, Strict, join-strict, nonzero-strict}
 use Rattle.bisim_core.proofs.Weights.{Fair, fair-of, all-joined, joined-weighs}
 use Rattle.bisim_build.proofs.Backs.{below-all, below-le, below-mono, Ordered, strict-ordered, split-at, over-at, Holds, row-is, rows-all, all-part, strict-part, all-of, rises-of}
@@ -93,7 +95,7 @@ below-zero (a ∷ l) = let e = below-zero l in rw (le-ltb (a .source) 0 (omega a
 
 -- ---- the model made
 
-module _ (Z : Call) (h3 : oversized (Z .states) (Z .C) (Z .given) (Z .n) ≡ false) (h4 : outside (Z .states) (Z .initial) (Z .C) (Z .n) ≡ false) (h5 : unweighed (Z .C) (Z .n) ≡ false)
+module _ (Z : Call) (given : ℕ) (M : Columns) (h3 : oversized (Z .states) (Z .C) given (Z .n) ≡ false) (h4 : outside (Z .states) (Z .initial) (Z .C) (Z .n) ≡ false) (h5 : unweighed (Z .C) (Z .n) ≡ false)
     (h6 : crowded (Z .states) (Z .C) (Z .n) ≡ false) where
   abbrev states : ℕ
   states = Z .states
@@ -103,12 +105,6 @@ module _ (Z : Call) (h3 : oversized (Z .states) (Z .C) (Z .given) (Z .n) ≡ fal
 
   abbrev C : Transitions
   C = Z .C
-
-  abbrev given : ℕ
-  given = Z .given
-
-  abbrev M : Columns
-  M = Z .M
 
   abbrev n : ℕ
   n = Z .n
@@ -132,7 +128,7 @@ module _ (Z : Call) (h3 : oversized (Z .states) (Z .C) (Z .given) (Z .n) ≡ fal
   sizes =
       let (a, b) = or-f (ltb 2000 states) (ltb 4096 given || ltb 256 (length D)) h3 in
       let (c, d) = or-f (ltb 4096 given) (ltb 256 (length D)) b in
-      (Z .low, let e = n-given Z in let f = Z .most in omega arith, ltb-false _ _ d)
+      (Z .low, Z .most, ltb-false _ _ d)
 
   label-low : (j : ℕ) → j < n → seek (getD (C .labels) j 0) D < length D
   label-low j h =
@@ -329,11 +325,11 @@ module _ (states : ℕ) (initial : Initial) (C : Transitions) (given : ℕ) (M :
       (ltb-false _ _ a, ltb-false _ _ c)
 
   abbrev call : Call
-  call = record { states = states; initial = initial; C = C; given = given; M = M; n = k; low = counts .0; most = counts .1; there = refl }
+  call = record { states = states; initial = initial; C = C; n = k; low = counts .0; most = let a = counts .1 in let b = n-below C given k refl in omega arith; there = n-there C given k refl }
 
   -- the transitions given are there
   pub all-present : present C given ≡ given
-  all-present = let a = room call (checked .4) .all-there in let b = n-given call in omega arith
+  all-present = let a = room states given k M (checked .4) .all-there in let b = n-below C given k refl in omega arith
 
   made-there : build states initial C given M ≡ made states initial C k M
   unfolding build
@@ -349,15 +345,15 @@ module _ (states : ℕ) (initial : Initial) (C : Transitions) (given : ℕ) (M :
   -- it passes every check of a built model
   pub built-accepted : modelRefusal S (build states initial C given M .memory) ≡ 0
   built-accepted =
-      let s : S ≡ shape call (checked .0) (checked .1) (checked .2) (checked .3) = inner (sym h ∙ ap (λ (o : Outcome). o .answer) made-there) in
+      let s : S ≡ shape call given M (checked .0) (checked .1) (checked .2) (checked .3) = inner (sym h ∙ ap (λ (o : Outcome). o .answer) made-there) in
       ap (λ (x : Shape). modelRefusal x (build states initial C given M .memory)) s
-      ∙ ap (λ (o : Outcome). modelRefusal (shape call (checked .0) (checked .1) (checked .2) (checked .3)) (o .memory)) made-there
-      ∙ model-passes call (checked .0) (checked .1) (checked .2) (checked .3)
+      ∙ ap (λ (o : Outcome). modelRefusal (shape call given M (checked .0) (checked .1) (checked .2) (checked .3)) (o .memory)) made-there
+      ∙ model-passes call given M (checked .0) (checked .1) (checked .2) (checked .3)
 
   -- the rows of its states, one after the other, are the edges
   pub read-back : rows (build states initial C given M .memory) 0 states ≡ edges C given
   read-back =
-      ap (λ (o : Outcome). rows (o .memory) 0 states) made-there ∙ rows-back call (checked .0) (checked .1) (checked .2) (checked .3)
+      ap (λ (o : Outcome). rows (o .memory) 0 states) made-there ∙ rows-back call given M (checked .0) (checked .1) (checked .2) (checked .3)
       ∙ ap (edges C) all-present
 
   -- its label values are those of the transitions, by first appearance

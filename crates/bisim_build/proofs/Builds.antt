@@ -1,176 +1,70 @@
--- How `build` ends, check by check: what each check that passed says, what the parts left behind, and the outcome at the number of the first check that fails.
+-- How `build` ends. What is planned decides checks 3 to 6, so the outcome is a refusal of the plan's number, or what check 7 leaves of the model: `finished` says that the columns
+-- then hold it.
 use mathlib.Core.Path.{_≡_, refl, sym, subst, ap, _∙_}
-use mathlib.Core.Bool.{Bool, true, false, _||_, not}
-use Prim.Native.Nat.{ℕ, suc, _+_, _≤_, _<_}
+use mathlib.Core.Bool.{Bool, true, false, _||_}
+use mathlib.Core.Logic.{_≢_}
+use Prim.Native.Nat.{ℕ, zero, suc, _+_, _≤_, _<_, min}
 use mathlib.Core.List.{List, map}
 use native.Mathlib.Omega.{arith}
 use lib.Dec.{ltb}
-use lib.Ieee.{Float, nan}
-use lib.ListN.{length, getD, take}
-use lib.Seq.{length-take-le, getD-take}
-use borrow.Author.Tests.{lt-ltb, le-ltb, ltb-true, ltb-false, not-false}
-use Rattle.numbers.specs.Search.{seek}
-use Rattle.numbers.specs.Lists.{span, all, over}
+use lib.Ieee.{Float}
+use lib.ListN.{length, take}
+use lib.Seq.{length-take-le}
+use borrow.Author.Tests.{lt-ltb, le-ltb, ltb-false}
+use Rattle.numbers.specs.Lists.{over}
+use Rattle.numbers.specs.Refuse.{check, first}
 use Rattle.numbers.proofs.Bools.{or-f}
-use Rattle.numbers.proofs.Refuses.{check-hit, check-skip, hit, skip, none}
-use Rattle.numbers.proofs.Alls.{all-front}
+use Rattle.numbers.proofs.Refuses.{check-hit, check-skip, check-none, first-hit, first-skip, hit, none}
 use Rattle.bisim_core.specs.Data.{Edge, Transitions, Columns, columns}
-use Rattle.bisim_core.specs.Edges.{edges, numberedAt, offsets, crowdedIn}
-use Rattle.bisim_core.specs.Model.{startsOutside}
+use Rattle.bisim_core.specs.Edges.{edges, offsets}
 use Rattle.bisim_core.specs.declared.wlts.Initial.{Initial}
-use Rattle.bisim_core.proofs.Steps.{edgesIn, Interned, Makeable, EdgesMade, Crowded, Written}
-use Rattle.bisim_core.proofs.Distinct.{intern-has, distinct-length}
+use Rattle.bisim_core.specs.declared.wlts.Shape.{Shape}
+use Rattle.bisim_core.proofs.Steps.{edgesIn, Planned, Written}
+use Rattle.bisim_core.proofs.Distinct.{distinct-length}
 use Rattle.bisim_core.proofs.Rows.{edges-length}
-use Rattle.bisim_build.specs.Build.{present, labelsOf, oversized, outside, unweighed, crowded, short, refusal, Outcome, ends, made, settled, build}
+use Rattle.bisim_edges.specs.Checks.{present, labelsOf, oversized, outside, unweighed, crowded}
+use Rattle.bisim_edges.specs.Plan as plans
+use Rattle.bisim_edges.specs.Plan.{cramped, planned, plan}
+use Rattle.bisim_edges.specs.declared.planner.Planned as answers
+use Rattle.bisim_edges.specs.declared.planner.Planned.the-variants as answer
+use Rattle.bisim_edges.proofs.Plans.{number-is, none-is}
+use Rattle.bisim_build.specs.Build.{short, refusal, Outcome, ends, modelled, made, settled, build}
 use Rattle.bisim_build.specs.declared.builder.Built.the-variants.{Model, Refused}
 
 -- the outcome of a refusal, and of none
-refused-is : (n r : ℕ) (M : Columns) (done : Outcome) → r ≡ suc n → ends (Refused (suc n)) M ≡ settled r M done
-refused-is n r M done e = subst (λ (x : ℕ). ends (Refused (suc n)) M ≡ settled x M done) (sym e) refl
+refused-is : (k r : ℕ) (M : Columns) (done : Outcome) → r ≡ k → k ≢ 0 → ends (Refused k) M ≡ settled r M done
+refused-is zero r M done e h = absurd (h refl)
+refused-is (suc k) r M done e h = subst (λ (x : ℕ). ends (Refused (suc k)) M ≡ settled x M done) (sym e) refl
 
 done-is : (r : ℕ) (M : Columns) (done : Outcome) → r ≡ 0 → done ≡ settled r M done
 done-is r M done e = subst (λ (x : ℕ). done ≡ settled x M done) (sym e) refl
 
--- the counts of check 3 that are looked at first
-module _ (states : ℕ) (initial : Initial) (C : Transitions) (given : ℕ) (M : Columns) where
-  over-3 : oversized states C given (present C given) ≡ true → ends (Refused 3) M ≡ build states initial C given M
-  unfolding build
-  over-3 h = refused-is 2 (refusal states initial C given (present C given) M) M (made states initial C (present C given) M) (check-hit 3 (oversized states C given (present C given)) _ h)
-
-  pub too-many-states : 2000 < states → ends (Refused 3) M ≡ build states initial C given M
-  too-many-states h = over-3 (sym (hit _ _ (sym (lt-ltb 2000 states h))))
-
-  pub too-many-given : states ≤ 2000 → 4096 < given → ends (Refused 3) M ≡ build states initial C given M
-  too-many-given h k = over-3 (sym (skip _ _ _ (le-ltb 2000 states h) (hit _ _ (sym (lt-ltb 4096 given k)))))
+-- four checks, then those that come later
+four-first : (a b c d : Bool) (later : ℕ) → check 3 a (check 4 b (check 5 c (check 6 d later))) ≡ first (check 3 a (check 4 b (check 5 c (check 6 d 0)))) later
+four-first true b c d later = refl
+four-first false true c d later = refl
+four-first false false true d later = refl
+four-first false false false true later = refl
+four-first false false false false later = refl
 
 pub n-below : (C : Transitions) (given n : ℕ) → n ≡ present C given → n ≤ given
 n-below C given n e = omega arith
 
--- a call of which n transitions are there, and whose counts of states and transitions pass
-pub record Call : Type 0 where
-  pub states : ℕ
-  pub initial : Initial
-  pub C : Transitions
-  pub given : ℕ
-  pub M : Columns
-  pub n : ℕ
-  pub low : states ≤ 2000
-  pub most : given ≤ 4096
-  pub there : n ≡ present C given
+pub n-there : (C : Transitions) (given n : ℕ) → n ≡ present C given → n ≡ present C n
+n-there C given n e = omega arith
 
-module _ (Z : Call) where
-  abbrev states : ℕ
-  states = Z .states
+-- ---- what check 7 says
 
-  abbrev initial : Initial
-  initial = Z .initial
+pub record Room (states given n : ℕ) (M : Columns) : Type 0 where
+  pub all-there : given ≤ n
+  pub o-room : states < length (M .offsets)
+  pub l-room : given ≤ length (M .labels)
+  pub el-room : given ≤ length (M .edgeLabels)
+  pub et-room : given ≤ length (M .edgeTargets)
+  pub ew-room : given ≤ length (M .edgeWeights)
 
-  abbrev C : Transitions
-  C = Z .C
-
-  abbrev given : ℕ
-  given = Z .given
-
-  abbrev M : Columns
-  M = Z .M
-
-  abbrev n : ℕ
-  n = Z .n
-
-  abbrev D : List ℕ
-  D = labelsOf C n
-
-  pub n-given : n ≤ given
-  n-given = n-below C given n (Z .there)
-
-  pub s-in : n ≤ length (C .sources)
-  s-in = let e = Z .there in omega arith
-
-  pub l-in : n ≤ length (C .labels)
-  l-in = let e = Z .there in omega arith
-
-  pub t-in : n ≤ length (C .targets)
-  t-in = let e = Z .there in omega arith
-
-  pub w-in : n ≤ length (C .weights)
-  w-in = let e = Z .there in omega arith
-
-  abbrev c3 : Bool
-  c3 = oversized states C given n
-
-  abbrev c4 : Bool
-  c4 = outside states initial C n
-
-  abbrev c5 : Bool
-  c5 = unweighed C n
-
-  abbrev c6 : Bool
-  c6 = crowded states C n
-
-  abbrev c7 : Bool
-  c7 = short states given n M
-
-  -- the number of the first check that fails
-  abbrev number : ℕ
-  number = refusal states initial C given n M
-
-  build-is : build states initial C given M ≡ settled number M (made states initial C n M)
-  unfolding build
-  build-is = ap (λ (k : ℕ). settled (refusal states initial C given k M) M (made states initial C k M)) (sym (Z .there))
-
-  ends-with : (r : ℕ) → number ≡ suc r → ends (Refused (suc r)) M ≡ build states initial C given M
-  ends-with r e = refused-is r number M (made states initial C n M) e ∙ sym build-is
-
-  pub refused-3 : 256 < length D → ends (Refused 3) M ≡ build states initial C given M
-  refused-3 h = ends-with 2 (check-hit 3 c3 _ (sym (skip _ _ _ (le-ltb 2000 states (Z .low)) (skip _ _ _ (le-ltb 4096 given (Z .most)) (sym (lt-ltb 256 (length D) h))))))
-
-  pub passed-3 : length D ≤ 256 → c3 ≡ false
-  passed-3 h = none _ _ (le-ltb 2000 states (Z .low)) (none _ _ (le-ltb 4096 given (Z .most)) (le-ltb 256 (length D) h))
-
-  pub refused-4 : c3 ≡ false → c4 ≡ true → ends (Refused 4) M ≡ build states initial C given M
-  refused-4 h k = ends-with 3 (check-skip 3 c3 _ 4 h (check-hit 4 c4 _ k))
-
-  pub refused-5 : c3 ≡ false → c4 ≡ false → c5 ≡ true → ends (Refused 5) M ≡ build states initial C given M
-  refused-5 h k l = ends-with 4 (check-skip 3 c3 _ 5 h (check-skip 4 c4 _ 5 k (check-hit 5 c5 _ l)))
-
-  pub refused-6 : c3 ≡ false → c4 ≡ false → c5 ≡ false → c6 ≡ true → ends (Refused 6) M ≡ build states initial C given M
-  refused-6 h k l m = ends-with 5 (check-skip 3 c3 _ 6 h (check-skip 4 c4 _ 6 k (check-skip 5 c5 _ 6 l (check-hit 6 c6 _ m))))
-
-  pub refused-7 : c3 ≡ false → c4 ≡ false → c5 ≡ false → c6 ≡ false → c7 ≡ true → ends (Refused 7) M ≡ build states initial C given M
-  refused-7 h k l m o = ends-with 6 (check-skip 3 c3 _ 7 h (check-skip 4 c4 _ 7 k (check-skip 5 c5 _ 7 l (check-skip 6 c6 _ 7 m (check-hit 7 c7 0 o)))))
-
-  pub accepted : c3 ≡ false → c4 ≡ false → c5 ≡ false → c6 ≡ false → c7 ≡ false → made states initial C n M ≡ build states initial C given M
-  accepted h k l m o = done-is number M (made states initial C n M)
-      (check-skip 3 c3 _ 0 h (check-skip 4 c4 _ 0 k (check-skip 5 c5 _ 0 l (check-skip 6 c6 _ 0 m (check-skip 7 c7 0 0 o refl))))) ∙ sym build-is
-
-  -- ---- what check 4 says
-
-  pub record Inside : Type 0 where
-    pub s-low : (j : ℕ) → j < n → getD (C .sources) j 0 < states
-    pub t-low : (j : ℕ) → j < n → getD (C .targets) j 0 < states
-    pub start : startsOutside initial states ≡ false
-
-  pub inside : c4 ≡ false → Inside
-  inside h =
-      let (a, r) = or-f (startsOutside initial states) (not (all (λ x. ltb x states) (take n (C .sources))) || not (all (λ x. ltb x states) (take n (C .targets)))) h in
-      let (b, d) = or-f (not (all (λ x. ltb x states) (take n (C .sources)))) (not (all (λ x. ltb x states) (take n (C .targets)))) r in
-      record {
-        s-low = λ j l. ltb-true _ _ (all-front (λ x. ltb x states) (C .sources) 0 n s-in (not-false _ b) j l);
-        t-low = λ j l. ltb-true _ _ (all-front (λ x. ltb x states) (C .targets) 0 n t-in (not-false _ d) j l);
-        start = a;
-      }
-
-  -- ---- what check 7 says
-
-  pub record Room : Type 0 where
-    pub all-there : given ≤ n
-    pub o-room : states < length (M .offsets)
-    pub l-room : given ≤ length (M .labels)
-    pub el-room : given ≤ length (M .edgeLabels)
-    pub et-room : given ≤ length (M .edgeTargets)
-    pub ew-room : given ≤ length (M .edgeWeights)
-
-  pub room : c7 ≡ false → Room
+module _ (states given n : ℕ) (M : Columns) where
+  pub room : short states given n M ≡ false → Room states given n M
   room h =
       let (a, h2) = or-f (ltb n given) (ltb (length (M .offsets)) (states + 1) || (ltb (length (M .labels)) given || (ltb (length (M .edgeLabels)) given || (ltb (length (M .edgeTargets)) given || ltb (length (M .edgeWeights)) given)))) h in
       let (b, h3) = or-f (ltb (length (M .offsets)) (states + 1)) (ltb (length (M .labels)) given || (ltb (length (M .edgeLabels)) given || (ltb (length (M .edgeTargets)) given || ltb (length (M .edgeWeights)) given))) h2 in
@@ -186,78 +80,99 @@ module _ (Z : Call) where
         ew-room = ltb-false _ _ g;
       }
 
-  -- ---- the labels
+  pub refused-7 : (done : Outcome) → short states given n M ≡ true → ends (Refused 7) M ≡ settled (check 7 (short states given n M) 0) M done
+  refused-7 done h = refused-is 7 (check 7 (short states given n M) 0) M done (check-hit 7 (short states given n M) 0 h) (λ z. omega arith)
 
-  pub labels-few : length D ≤ n
-  labels-few = let a = distinct-length (take n (C .labels)) in let b = length-take-le n (C .labels) l-in in omega arith
+  pub passed-7 : (done : Outcome) → short states given n M ≡ false → done ≡ settled (check 7 (short states given n M) 0) M done
+  passed-7 done h = done-is (check 7 (short states given n M) 0) M done (check-skip 7 (short states given n M) 0 0 h refl)
 
-  module _ {store store' ids' : List ℕ} {count : ℕ} (z : length store ≡ 256) (N : Interned (C .labels) n store store' ids' count) where
-    pub labels-over : 256 < count → 256 < length D
-    labels-over h = let a = N .more (omega arith) in omega arith
+-- ---- the columns, once everything is written
 
-    module _ (few : count ≤ 256) (size : length store' ≡ 256) where
-      pub store-is : take count store' ≡ D
-      store-is = N .count (omega arith)
+module _ (S : Shape) (M : Columns) (store T : List ℕ) (U : List Float) {l o el et : List ℕ} {ew : List Float} where
+  pub finished : S .labels ≤ length store → l ≡ over (take (S .labels) store) (M .labels) → ((X : List Float) → o ≡ over (offsets (S .states) (edgesIn T X (S .edges))) (M .offsets))
+      → Written T U (S .edges) (M .edgeLabels) (M .edgeTargets) (M .edgeWeights) el et ew
+      → ends (Model S) (columns l o el et ew) ≡ modelled (S .states) (S .initial) (take (S .labels) store) (edgesIn T U (S .edges)) M
+  finished h a b w =
+      put (S .edges) (S .labels) l o el et ew (length (edgesIn T U (S .edges))) (length (take (S .labels) store)) _ _ _ _ _ (sym (edges-length T U (S .edges))) (sym (length-take-le (S .labels) store h)) a (b U) (w .labels) (w .targets) (w .weights)
+    where
+      put : (m c : ℕ) (l o el et : List ℕ) (ew : List Float) (m' c' : ℕ) (l' o' el' et' : List ℕ) (ew' : List Float)
+          → m ≡ m' → c ≡ c' → l ≡ l' → o ≡ o' → el ≡ el' → et ≡ et' → ew ≡ ew'
+          → ends (Model (record { states = S .states; edges = m; labels = c; initial = S .initial })) (columns l o el et ew)
+          ≡ ends (Model (record { states = S .states; edges = m'; labels = c'; initial = S .initial })) (columns l' o' el' et' ew')
+      put m c l o el et ew m' c' l' o' el' et' ew' p q r s t u v = cc
 
-      pub count-is : count ≡ length D
-      count-is = sym (length-take-le count store' (omega arith)) ∙ ap length store-is
+-- ---- the outcome by the plan
 
-      pub few-labels : length D ≤ 256
-      few-labels = let e = count-is in omega arith
+module _ (states : ℕ) (initial : Initial) (C : Transitions) (given : ℕ) (M : Columns) where
+  pub too-many : 4096 < given → ends (Refused 3) M ≡ build states initial C given M
+  unfolding build
+  too-many h =
+      refused-is 3 (refusal states initial C given (present C given) M) M (made states initial C (present C given) M)
+      (check-hit 3 (oversized states C given (present C given)) _ (over (ltb 2000 states) (ltb 4096 given) (ltb 256 (length (labelsOf C (present C given)))) (lt-ltb 4096 given h))) (λ z. omega arith)
+    where
+      over : (a b d : Bool) → b ≡ true → (a || (b || d)) ≡ true
+      over true b d e = refl
+      over false b d e = sym (hit b d (sym e))
 
-      id-at : (j : ℕ) → j < n → getD ids' j 0 ≡ seek (getD (C .labels) j 0) D
-      id-at j h = N .ids (omega arith) j h
+  module _ (n : ℕ) (most : given ≤ 4096) (there : n ≡ present C given) where
+    abbrev number : ℕ
+    number = plans.refusal states initial C n
 
-      id-low : (j : ℕ) → j < n → getD ids' j 0 < 256
-      id-low j h =
-          let e = id-at j h in
-          let f = few-labels in
-          let l = length-take-le n (C .labels) l-in in
-          let a = intern-has _ (take n (C .labels)) j (omega arith) in
-          let b : seek (getD (C .labels) j 0) D < length D = subst (λ (x : ℕ). seek x D < length D) (getD-take n (C .labels) j 0 h) a in
-          omega arith
+    few : n ≤ 4096
+    few = let h = n-below C given n there in omega arith
 
-      module _ (Y : Inside) where
-        pub makeable : {keys spare : List ℕ} {sums : List Float} → n ≤ length ids' → n ≤ length keys → n ≤ length spare → n ≤ length sums
-            → Makeable (C .sources) ids' (C .targets) (C .weights) n keys spare sums
-        makeable i a b c = record {
-          few = let e = n-given in let f = Z .most in omega arith;
-          s-in = s-in;
-          i-in = i;
-          t-in = t-in;
-          w-in = w-in;
-          i-low = id-low;
-          t-low = λ j h. let e = Y .t-low j h in let f = Z .low in omega arith;
-          k-room = a;
-          s-room = b;
-          u-room = c;
-        }
+    sizes : oversized states C given n ≡ oversized states C n n
+    sizes = ap (λ (b : Bool). ltb 2000 states || (b || ltb 256 (length (labelsOf C n)))) (le-ltb 4096 given most ∙ sym (le-ltb 4096 n few))
 
-        module _ {T : List ℕ} {U : List Float} {m : ℕ} (E : EdgesMade (C .sources) ids' (C .targets) (C .weights) n T U m) where
-          pub edges-are : edgesIn T U m ≡ edges C n
-          unfolding edges
-          edges-are = E .edges (numberedAt D C) (λ j h. ap (λ (x : ℕ). record { source = getD (C .sources) j 0; label = x; target = getD (C .targets) j 0; weight = getD (C .weights) j nan }) (sym (id-at j h)))
+    -- check 7 comes after those of the plan
+    build-is : build states initial C given M ≡ settled (first number (check 7 (short states given n M) 0)) M (made states initial C n M)
+    unfolding build
+    build-is =
+        ap (λ (k : ℕ). settled (refusal states initial C given k M) M (made states initial C k M)) (sym there)
+        ∙ ap (λ (r : ℕ). settled r M (made states initial C n M))
+        (ap (λ (b : Bool). check 3 b (check 4 (outside states initial C n) (check 5 (unweighed C n) (check 6 (crowded states C n) (check 7 (short states given n M) 0))))) sizes
+        ∙ four-first (oversized states C n n) (outside states initial C n) (unweighed C n) (crowded states C n) (check 7 (short states given n M) 0))
 
-          pub edges-count : m ≡ length (edges C n)
-          edges-count = sym (edges-length T U m) ∙ ap length edges-are
+    module _ (room : ℕ) (n-in : n ≤ room) {p : answers.Planned} (e : p ≡ plan states initial C n 256 room) where
+      roomy : cramped C n 256 room ≡ false
+      roomy = none _ _ refl (none _ _ (le-ltb room n n-in) (le-ltb (present C n) n (let h = n-there C given n there in omega arith)))
 
-          pub crowded-is : {r : Bool} → Crowded T m r → r ≡ c6
-          crowded-is {r} K = K .same U states (E .under states (Y .s-low)) ∙ ap (λ (e : List Edge). crowdedIn e (span 0 states)) edges-are
+      plan-is : plans.settled number (answer.Edges (length (edges C n)) (length (labelsOf C n))) ≡ p
+      unfolding plan planned
+      plan-is = sym (e ∙ ap (λ (r : ℕ). plans.settled r (planned states initial C n)) (check-skip 7 (cramped C n 256 room) 0 0 roomy refl))
 
-          module _ {l o el et : List ℕ} {ew : List Float} where
-            -- the answer and the columns, once everything is written
-            pub finished : l ≡ over (take count store') (M .labels) → ((X : List Float) → o ≡ over (offsets states (edgesIn T X m)) (M .offsets))
-                → Written T U m (M .edgeLabels) (M .edgeTargets) (M .edgeWeights) el et ew
-                → ends (Model (record { states = states; edges = m; labels = count; initial = initial })) (columns l o el et ew) ≡ made states initial C n M
-            finished a b w =
-                put m count l o el et ew (length (edges C n)) (length D) _ _ _ _ _ edges-count count-is (a ∙ ap (λ (x : List ℕ). over x (M .labels)) store-is)
-                (b U ∙ ap (λ (e : List Edge). over (offsets states e) (M .offsets)) edges-are)
-                (w .labels ∙ ap (λ (e : List Edge). over (map (λ (x : Edge). x .label) e) (M .edgeLabels)) edges-are)
-                (w .targets ∙ ap (λ (e : List Edge). over (map (λ (x : Edge). x .target) e) (M .edgeTargets)) edges-are)
-                (w .weights ∙ ap (λ (e : List Edge). over (map (λ (x : Edge). x .weight) e) (M .edgeWeights)) edges-are)
-              where
-                put : (m c : ℕ) (l o el et : List ℕ) (ew : List Float) (m' c' : ℕ) (l' o' el' et' : List ℕ) (ew' : List Float)
-                    → m ≡ m' → c ≡ c' → l ≡ l' → o ≡ o' → el ≡ el' → et ≡ et' → ew ≡ ew'
-                    → ends (Model (record { states = states; edges = m; labels = c; initial = initial })) (columns l o el et ew)
-                    ≡ ends (Model (record { states = states; edges = m'; labels = c'; initial = initial })) (columns l' o' el' et' ew')
-                put m c l o el et ew m' c' l' o' el' et' ew' p q r s t u v = cc
+      pub plan-refused : (r : ℕ) → p ≡ answer.Refused r → ends (Refused r) M ≡ build states initial C given M
+      plan-refused r f =
+          let (x, y) = number-is number _ _ r (plan-is ∙ f) in
+          refused-is r (first number (check 7 (short states given n M) 0)) M (made states initial C n M) (first-hit number _ (λ z. y (sym x ∙ z)) ∙ x) y ∙ sym build-is
+
+      module _ (m d : ℕ) (f : p ≡ answer.Edges m d) where
+        passed : number ≡ 0
+        passed = none-is number _ _ m d (plan-is ∙ f) .0
+
+        pub states-few : states ≤ 2000
+        states-few =
+            let (a, b) = check-none 2 (oversized states C n n) _ passed in
+            ltb-false _ _ (or-f (ltb 2000 states) (ltb 4096 n || ltb 256 (length (labelsOf C n))) a .0)
+
+        pub labels-few : d ≤ n
+        labels-few =
+            let x = none-is number _ _ m d (plan-is ∙ f) .2 in
+            let a = distinct-length (take n (C .labels)) in
+            let b = length-take-le n (C .labels) (omega arith) in
+            omega arith
+
+        pub labels-in : d ≤ 256
+        labels-in =
+            let (a, b) = check-none 2 (oversized states C n n) _ passed in
+            let (g, h) = or-f (ltb 2000 states) (ltb 4096 n || ltb 256 (length (labelsOf C n))) a in
+            let k : length (labelsOf C n) ≤ 256 = ltb-false _ _ (or-f (ltb 4096 n) (ltb 256 (length (labelsOf C n))) h .1) in
+            let x = none-is number _ _ m d (plan-is ∙ f) .2 in
+            omega arith
+
+        pub plan-passed : {store T : List ℕ} {U : List Float} → Planned C n store T U m d
+            → settled (check 7 (short states given n M) 0) M (modelled states initial (take d store) (edgesIn T U m) M) ≡ build states initial C given M
+        plan-passed {store} {T} {U} Q =
+            ap (λ (x : List ℕ). settled (check 7 (short states given n M) 0) M (modelled states initial x (edgesIn T U m) M)) (Q .labels)
+            ∙ ap (λ (x : List Edge). settled (check 7 (short states given n M) 0) M (modelled states initial (labelsOf C n) x M)) (Q .edges)
+            ∙ ap (λ (r : ℕ). settled r M (made states initial C n M)) (sym (first-skip number (check 7 (short states given n M) 0) _ passed refl)) ∙ sym build-is

@@ -1,8 +1,3 @@
-pub mod Interns
-pub mod Notes
-pub mod Crowds
-pub mod Joins
-pub mod Makes
 pub mod Writes
 pub mod Builds
 pub mod Backs

@@ -1,44 +1,19 @@
 -- `build`: what it refuses, and how it ends.
-use Prim.Native.Nat.{ℕ, zero, suc, _+_, min}
-use mathlib.Core.Bool.{Bool, _||_, not}
+use Prim.Native.Nat.{ℕ, zero, suc, _+_}
+use mathlib.Core.Bool.{Bool, _||_}
 use mathlib.Core.List.{List, map}
-use lib.ListN.{length, take}
+use lib.ListN.{length}
 use lib.Dec.{ltb}
 use Rattle.numbers.specs.Refuse.{check}
 use Rattle.numbers.specs.Lists.{span, all, over}
 use Rattle.bisim_core.specs.Data.{Edge, Transitions, Columns, columns}
-use Rattle.bisim_core.specs.Ids.{distinct}
 use Rattle.bisim_core.specs.Edges.{edges, offsets, crowdedIn}
-use Rattle.bisim_core.specs.Model.{startsOutside, weighs}
 use Rattle.bisim_core.specs.declared.wlts.Initial.{Initial}
+use Rattle.bisim_edges.specs.Checks.{present, labelsOf, oversized, outside, unweighed, crowded}
 use Rattle.bisim_build.specs.declared.builder.Built.{Built}
 use Rattle.bisim_build.specs.declared.builder.Built.the-variants.{Model, Refused}
 
--- how many of the transitions given are there: as many as the shortest column has
-abbrev pub present : Transitions → ℕ → ℕ
-present C given = min given (min (length (C .sources)) (min (length (C .labels)) (min (length (C .targets)) (length (C .weights)))))
-
--- the label values by their ids, of the first n transitions
-abbrev pub labelsOf : Transitions → ℕ → List ℕ
-labelsOf C n = distinct (take n (C .labels))
-
--- ---- the checks, each true where it fails; n transitions of those given are there
-
--- 3: over 2,000 states, 4,096 transitions or 256 distinct labels
-abbrev pub oversized : ℕ → Transitions → ℕ → ℕ → Bool
-oversized states C given n = ltb 2000 states || (ltb 4096 given || ltb 256 (length (labelsOf C n)))
-
--- 4: a state number that is not below the state count
-abbrev pub outside : ℕ → Initial → Transitions → ℕ → Bool
-outside states initial C n = startsOutside initial states || (not (all (λ x. ltb x states) (take n (C .sources))) || not (all (λ x. ltb x states) (take n (C .targets))))
-
--- 5: a weight that is neither zero nor from 2^-40 to 2^40
-abbrev pub unweighed : Transitions → ℕ → Bool
-unweighed C n = not (all weighs (take n (C .weights)))
-
--- 6: a state that has over 31 distinct targets other than itself, zero weights dropped
-abbrev pub crowded : ℕ → Transitions → ℕ → Bool
-crowded states C n = crowdedIn (edges C n) (span 0 states)
+-- ---- the checks, each true where it fails; 3 to 6 are those of the edges, and n transitions of those given are there
 
 -- 7: a column or a store that is short: each needs the transitions given, the offsets states + 1
 abbrev pub short : ℕ → ℕ → ℕ → Columns → Bool
@@ -66,14 +41,18 @@ pub record Outcome : Type 0 where
 abbrev pub ends : Built → Columns → Outcome
 ends r M = record { answer = r; memory = M }
 
--- the model of the first n transitions: its label values, its offsets, and its edges by source, label id and target
+-- the model that has the label values D by their ids, and the edges E by source, label id and target
+abbrev pub modelled : ℕ → Initial → List ℕ → List Edge → Columns → Outcome
+modelled states initial D E M =
+    ends (Model (record { states = states; edges = length E; labels = length D; initial = initial }))
+    (columns (over D (M .labels)) (over (offsets states E) (M .offsets))
+    (over (map (λ (a : Edge). a .label) E) (M .edgeLabels))
+    (over (map (λ (a : Edge). a .target) E) (M .edgeTargets))
+    (over (map (λ (a : Edge). a .weight) E) (M .edgeWeights)))
+
+-- the model of the first n transitions
 abbrev pub made : ℕ → Initial → Transitions → ℕ → Columns → Outcome
-made states initial C n M =
-    ends (Model (record { states = states; edges = length (edges C n); labels = length (labelsOf C n); initial = initial }))
-    (columns (over (labelsOf C n) (M .labels)) (over (offsets states (edges C n)) (M .offsets))
-    (over (map (λ (a : Edge). a .label) (edges C n)) (M .edgeLabels))
-    (over (map (λ (a : Edge). a .target) (edges C n)) (M .edgeTargets))
-    (over (map (λ (a : Edge). a .weight) (edges C n)) (M .edgeWeights)))
+made states initial C n M = modelled states initial (labelsOf C n) (edges C n) M
 
 -- a refusal returns its number only, and leaves the columns as they were
 abbrev pub settled : ℕ → Columns → Outcome → Outcome

@@ -1,7 +1,9 @@
 // The results, written into the columns lent.
 ghost use mathlib.Core.Path.{_≡_};
 ghost use mathlib.Core.List.{List};
-ghost use Prim.Native.Nat.{_≤_, _<_};
+ghost use mathlib.Core.Bool.{_||_};
+ghost use Prim.Native.Nat.{_+_, _≤_, _<_};
+ghost use lib.Dec.{ltb};
 ghost use lib.Ieee.{Float};
 ghost use lib.ListN.{length, take};
 ghost use Rattle.numbers.specs.Lists.{over};
@@ -66,4 +68,36 @@ pub(crate) fn write_edges(
         weights[i] = sums[i];
         i += 1;
     }
+}
+
+// 7, by the lengths: n transitions of those given are there, and the stores hold so many entries.
+pub(crate) fn short(
+    n: usize,
+    given: usize,
+    states: usize,
+    offsets: usize,
+    labels: usize,
+    edge_labels: usize,
+    edge_targets: usize,
+    edge_weights: usize,
+) -> bool
+    requires { ⌜ states ≤ 2000 ⌝ }
+    ensures { λ r. ⌜ r ≡ (ltb n given || (ltb offsets (states + 1) || (ltb labels given || (ltb «edge_labels» given || (ltb «edge_targets» given || ltb «edge_weights» given))))) ⌝ }
+{
+    if n < given {
+        return true;
+    }
+    if offsets < states + 1 {
+        return true;
+    }
+    if labels < given {
+        return true;
+    }
+    if edge_labels < given {
+        return true;
+    }
+    if edge_targets < given {
+        return true;
+    }
+    edge_weights < given
 }

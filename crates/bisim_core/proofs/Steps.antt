@@ -6,10 +6,10 @@ use mathlib.Core.Bool.{Bool, true, false}
 use lib.Ieee.{Float, nan}
 use lib.ListN.{length, getD, take}
 use lib.ListN.{set}
-use Rattle.bisim_core.specs.Data.{Edge}
+use Rattle.bisim_core.specs.Data.{Edge, Transitions}
 use Rattle.numbers.specs.Search.{seek}
 use Rattle.bisim_core.specs.Ids.{intern, distinct}
-use Rattle.bisim_core.specs.Edges.{join, nonzero, crowdedIn, sortEdges}
+use Rattle.bisim_core.specs.Edges.{join, nonzero, crowdedIn, sortEdges, edges}
 use Rattle.numbers.specs.Real.{isZero}
 use Rattle.numbers.specs.Lists.{span, over}
 
@@ -126,3 +126,11 @@ pub record EdgesMade (S I T : List ℕ) (W : List Float) (n : ℕ) (triples : Li
   pub under : (b : ℕ) → ((j : ℕ) → j < n → getD S j 0 < b) → (j : ℕ) → j < r → getD triples j 0 / 524288 < b
   pub edges : (f : ℕ → Edge) → ((j : ℕ) → j < n → f j ≡ record { source = getD S j 0; label = getD I j 0; target = getD T j 0; weight = getD W j nan })
       → edgesIn triples sums r ≡ nonzero (join (sortEdges (map f (span 0 n))))
+
+-- ---- the work space behind a plan: the label values by their ids, and the edges of the first n transitions, their triples rising
+
+pub record Planned (C : Transitions) (n : ℕ) (store triples : List ℕ) (sums : List Float) (m d : ℕ) : Type 0 where
+  pub labels : take d store ≡ distinct (take n (C .labels))
+  pub few : m ≤ n
+  pub edges : edgesIn triples sums m ≡ edges C n
+  pub rising : Rising triples m

@@ -1,7 +1,7 @@
 // The tests that a built model has to pass, each made where those before it passed.
 use crate::ids::single;
-use crate::wlts::Initial;
 use crate::wlts::Shape;
+use crate::wlts::starts_outside;
 use numbers::GREATEST_JOINED;
 use numbers::LEAST_WEIGHT;
 ghost use mathlib.Core.Path.{_≡_};
@@ -34,18 +34,6 @@ pub(crate) fn large(shape: Shape) -> bool
 }
 
 // ---- check 4
-
-fn starts_outside(initial: Initial, states: usize) -> bool
-    ensures { λ r. ⌜ r ≡ Model.startsOutside initial states ⌝ }
-{
-    match initial {
-        Initial::At(s) => {
-            let k = s.0;
-            !(wide(k) < states)
-        }
-        Initial::Absent => false,
-    }
-}
 
 fn thin(
     shape: Shape,

@@ -3,7 +3,7 @@ use crate::check;
 use crate::ids::StateId;
 ghost use mathlib.Core.Path.{_≡_};
 ghost use Rattle.bisim_core.specs.Data.{columns};
-ghost use Rattle.bisim_core.specs.Model.{modelRefusal};
+ghost use Rattle.bisim_core.specs.Model.{modelRefusal, startsOutside};
 
 pub enum Initial {
     At(StateId),
@@ -32,6 +32,19 @@ pub enum Start {
 pub enum Successors {
     Edges(usize, usize),
     Refused(u32),
+}
+
+// Whether there is an initial state that is not below the state count.
+pub fn starts_outside(initial: Initial, states: usize) -> bool
+    ensures { λ r. ⌜ r ≡ startsOutside initial states ⌝ }
+{
+    match initial {
+        Initial::At(s) => {
+            let k = s.0;
+            !(check::wide(k) < states)
+        }
+        Initial::Absent => false,
+    }
 }
 
 // The first check that a model handed in fails, 0 if it passes all.

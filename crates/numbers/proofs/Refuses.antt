@@ -1,9 +1,10 @@
 -- Laws of checks in a row, and of tests in a row.
 use mathlib.Core.Path.{_≡_, refl}
 use mathlib.Core.Bool.{Bool, true, false, _||_, true≢false, false≢true}
-use Prim.Native.Nat.{ℕ, suc}
+use mathlib.Core.Logic.{_≢_}
+use Prim.Native.Nat.{ℕ, zero, suc}
 use native.Mathlib.Omega.{arith}
-use Rattle.numbers.specs.Refuse.{check}
+use Rattle.numbers.specs.Refuse.{check, first}
 
 -- a check fails: those before it are skipped
 pub check-hit : (n : ℕ) (b : Bool) (later : ℕ) → b ≡ true → check n b later ≡ n
@@ -23,6 +24,24 @@ check-none n false later e = (refl, e)
 pub check-same : (n : ℕ) (b : Bool) (x y : ℕ) → (b ≡ false → x ≡ y) → check n b x ≡ check n b y
 check-same n true x y f = refl
 check-same n false x y f = f refl
+
+-- ---- a refusal of a part, then the later checks
+
+pub first-hit : (a later : ℕ) → a ≢ 0 → first a later ≡ a
+first-hit zero later h = absurd (h refl)
+first-hit (suc a) later h = refl
+
+pub first-skip : (a later r : ℕ) → a ≡ 0 → later ≡ r → first a later ≡ r
+first-skip zero later r e f = f
+first-skip (suc a) later r e f = absurd (omega arith)
+
+pub first-none : (a later : ℕ) → first a later ≡ 0 → (a ≡ 0) × (later ≡ 0)
+first-none zero later e = (refl, e)
+first-none (suc a) later e = absurd (omega arith)
+
+pub first-same : (a x y : ℕ) → (a ≡ 0 → x ≡ y) → first a x ≡ first a y
+first-same zero x y f = f refl
+first-same (suc a) x y f = refl
 
 -- ---- a row of tests: the one that holds, those before it that do not
 pub hit : (a b : Bool) → true ≡ a → true ≡ (a || b)

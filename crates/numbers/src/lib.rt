@@ -1,6 +1,6 @@
 // Numbers: `Real` of semiring.rs, the constants of document 01, the ordered search that stands in for hash maps, and the bits of a byte store.
 ghost use mathlib.Core.Path.{_≡_};
-ghost use Prim.Native.Nat.{_≤_};
+ghost use Prim.Native.Nat.{_≤_, min};
 ghost use mathlib.Core.Bool.{false};
 ghost use lib.ListN.{length, take};
 ghost use lib.Ieee.{inf};
@@ -124,6 +124,20 @@ pub fn apart(x: f64, y: f64) -> f64
 {
     let d = x - y;
     if d < 0.0 { -d } else { d }
+}
+
+// The lesser of two counts.
+pub fn lesser(a: usize, b: usize) -> usize
+    ensures { λ r. ⌜ r ≡ min a b ⌝ }
+{
+    if a < b { a } else { b }
+}
+
+// The least of four counts.
+pub fn least(a: usize, b: usize, c: usize, d: usize) -> usize
+    ensures { λ r. ⌜ r ≡ min a (min b (min c d)) ⌝ }
+{
+    lesser(a, lesser(b, lesser(c, d)))
 }
 
 // Where x first stands in list[..n]; n if it does not.

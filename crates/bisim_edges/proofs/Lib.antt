@@ -1,0 +1,6 @@
+pub mod Interns
+pub mod Notes
+pub mod Crowds
+pub mod Joins
+pub mod Makes
+pub mod Plans

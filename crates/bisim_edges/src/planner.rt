@@ -1,0 +1,85 @@
+// `plan`: the edges of transitions in columns, in work space that the caller lends.
+use crate::checks;
+use crate::edges::make_edges;
+use crate::labels::intern_all;
+use bisim_core::wlts::Initial;
+use numbers::least;
+ghost use mathlib.Core.Path.{_≡_};
+ghost use mathlib.Core.Bool.{_||_, not};
+ghost use Prim.Native.Nat.{ℕ, min};
+ghost use lib.Dec.{eqb, ltb};
+ghost use lib.ListN.{length};
+ghost use Rattle.numbers.specs.Refuse.{check};
+ghost use Rattle.bisim_core.specs.Data.{transitions};
+ghost use Rattle.bisim_core.proofs.Steps;
+ghost use Rattle.bisim_edges.specs.Plan;
+
+// How many edges and how many labels there are, or the number of the first check that fails.
+pub enum Planned {
+    Edges(usize, usize),
+    Refused(u32),
+}
+
+// What the counts rule out: 7 by those of label values, of the shortest list lent and of the shortest column, 3 by those of states and transitions; 0 if nothing.
+fn unready(states: usize, n: usize, values: usize, room: usize, there: usize) -> u32
+    ensures { λ r. ⌜ r ≡ check 7 (not (eqb values 256) || (ltb room n || ltb (min n there) n)) (check 3 (ltb 2000 states || ltb 4096 n) 0) ⌝ }
+{
+    if values != 256 {
+        return 7;
+    }
+    if room < n {
+        return 7;
+    }
+    if there < n {
+        return 7;
+    }
+    if states > 2000 {
+        return 3;
+    }
+    if n > 4096 {
+        return 3;
+    }
+    0
+}
+
+// The edges of the first n transitions, or the number of the first check that fails.
+// The label values by their ids are then in `store`, and the edges in `triples` and `sums`. What else the last five lists hold is left free, and all of it after a refusal.
+pub fn plan(
+    states: usize,
+    initial: Initial,
+    sources: &[u32],
+    labels: &[u32],
+    targets: &[u32],
+    weights: &[f64],
+    n: usize,
+    store: &mut [u32],
+    ids: &mut [u32],
+    keys: &mut [u64],
+    triples: &mut [u64],
+    sums: &mut [f64],
+) -> Planned
+    ensures { λ r. ⌜ (r ≡ Plan.plan states initial (transitions (now (sources .entry)) (now (labels .entry)) (now (targets .entry)) (now (weights .entry))) n (length (now (store .entry)))
+        (min (length (now (ids .entry))) (min (length (now (keys .entry))) (min (length (now (triples .entry))) (length (now (sums .entry)))))))
+        × (((m d : ℕ) → r ≡ Planned.Edges m d
+        → Steps.Planned (transitions (now (sources .entry)) (now (labels .entry)) (now (targets .entry)) (now (weights .entry))) n (now (store .exit)) (now (triples .exit)) (now (sums .exit)) m d)) ⌝ }
+{
+    let room = least(ids.len(), keys.len(), triples.len(), sums.len());
+    let there = least(sources.len(), labels.len(), targets.len(), weights.len());
+    let first = unready(states, n, store.len(), room, there);
+    if first != 0 {
+        return Planned::Refused(first);
+    }
+    let count = intern_all(labels, n, store, ids);
+    if count > 256 {
+        return Planned::Refused(3);
+    }
+    let fault = checks::fault(states, initial, sources, targets, weights, n);
+    if fault != 0 {
+        return Planned::Refused(fault);
+    }
+    let m = make_edges(sources, ids, targets, weights, n, keys, triples, sums);
+    if checks::crowded(triples, m) {
+        return Planned::Refused(6);
+    }
+    Planned::Edges(m, count)
+}
