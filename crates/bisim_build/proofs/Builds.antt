@@ -50,6 +50,9 @@ four-first false false false false later = refl
 pub n-below : (C : Transitions) (given n : ℕ) → n ≡ present C given → n ≤ given
 n-below C given n e = omega arith
 
+pub n-most : (C : Transitions) (given n : ℕ) → given ≤ 4096 → n ≡ present C given → n ≤ 4096
+n-most C given n h e = omega arith
+
 pub n-there : (C : Transitions) (given n : ℕ) → n ≡ present C given → n ≡ present C n
 n-there C given n e = omega arith
 

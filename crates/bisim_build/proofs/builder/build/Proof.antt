@@ -1,6 +1,9 @@
 -- The count given comes first; then `build_in` is called with lists that are long enough, and its outcome is that of the call.
+use mathlib.Core.Path.{_≡_, ap, _∙_}
+use Prim.Native.Nat.{min}
 use Rattle.bisim_core.specs.Data.{Transitions, Columns, transitions, columns}
-use Rattle.bisim_build.proofs.Builds.{too-many}
+use Rattle.bisim_edges.specs.Checks.{present}
+use Rattle.bisim_build.proofs.Builds.{n-most, too-many}
 use borrow.Author.Needs.{needs}
 use Rattle.bisim_build.proofs.builder.build.Statement.{statement}
 use Rattle.bisim_build.proofs.builder.build.Tie as tie
@@ -10,6 +13,10 @@ col s = transitions (s .args .sources .now) (s .args .labels .now) (s .args .tar
 
 abbrev mem : tie.Start → Columns
 mem s = columns (s .args .label-values .now) (s .args .offsets .now) (s .args .edge-labels .now) (s .args .edge-targets .now) (s .args .edge-weights .now)
+
+-- how many transitions are there
+counted : (c : tie.After-lesser) → c .lesser .result ≡ present (col (c .before .before .before .before .before .before .before .before .before .before .before .before)) (c .before .before .before .before .before .before .before .before .before .before .before .before .args .given)
+counted c = c .lesser .ensures ∙ ap (min (c .before .before .before .before .before .before .before .before .before .before .before .before .args .given)) (c .before .least .ensures)
 
 returns : tie.Need-returns
 returns c = let s = c .before .before .before .before .before .before .before .before .before .before in too-many (s .args .states) (s .args .initial) (col s) (s .args .given) (mem s) (c .if1 .taken)
@@ -21,25 +28,25 @@ lesser-requires : tie.Need-lesser-requires
 lesser-requires c κs = search needs
 
 build-small-requires : tie.Need-build-small-requires
-build-small-requires c κs = search needs
+build-small-requires c κs = (c .before .before .before .before .before .before .before .before .if1 .left, c .before .before .before .before .before .if2 .taken, counted (c .before .before .before .before .before .before))
 
 same-length : tie.Need-same-length
-same-length c = search needs
+same-length c = c .before .before .before .before .before .before .before .before .before .before .build-small .kept .1 .1 .1 .1 .1 .1 .1 .1 .0
 
 same-length-2 : tie.Need-same-length-2
-same-length-2 c = search needs
+same-length-2 c = c .before .before .before .before .before .before .before .before .before .before .build-small .kept .1 .1 .1 .1 .1 .1 .1 .1 .1 .0
 
 same-length-3 : tie.Need-same-length-3
-same-length-3 c = search needs
+same-length-3 c = c .before .before .before .before .before .before .before .before .before .before .build-small .kept .1 .1 .1 .1 .1 .1 .1 .1 .1 .1 .0
 
 same-length-4 : tie.Need-same-length-4
-same-length-4 c = search needs
+same-length-4 c = c .before .before .before .before .before .before .before .before .before .before .build-small .kept .1 .1 .1 .1 .1 .1 .1 .1 .1 .1 .1 .0
 
 same-length-5 : tie.Need-same-length-5
-same-length-5 c = search needs
+same-length-5 c = c .before .before .before .before .before .before .before .before .before .before .build-small .kept .1 .1 .1 .1 .1 .1 .1 .1 .1 .1 .1 .1 .0
 
 returns-2 : tie.Need-returns-2
-returns-2 c = search needs
+returns-2 c = c .before .before .before .before .before .before .before .before .before .before .build-small .ensures
 
 slice-aggregate-build-in : tie.Need-slice-aggregate-build-in
 slice-aggregate-build-in c = search needs
@@ -54,25 +61,25 @@ slice-aggregate-build-in-4 : tie.Need-slice-aggregate-build-in-4
 slice-aggregate-build-in-4 c = search needs
 
 build-in-requires : tie.Need-build-in-requires
-build-in-requires c κs = search needs
+build-in-requires c κs = let s = c .before .before .before .before .before .before .before .before .before .before .before .before .before .before .before .before .before .before .before .before .before .before in let g = c .before .before .before .before .before .before .before .before .before .before .before .before .if1 .left in let k = n-most (col s) (s .args .given) (c .before .before .before .before .before .before .before .before .before .before .lesser .result) g (counted (c .before .before .before .before .before .before .before .before .before .before)) in (g, counted (c .before .before .before .before .before .before .before .before .before .before), k, k, k, k)
 
 same-length-6 : tie.Need-same-length-6
-same-length-6 c = search needs
+same-length-6 c = c .before .before .before .before .before .before .before .before .before .before .before .before .before .before .build-in .kept .1 .1 .1 .1 .1 .1 .1 .1 .0
 
 same-length-7 : tie.Need-same-length-7
-same-length-7 c = search needs
+same-length-7 c = c .before .before .before .before .before .before .before .before .before .before .before .before .before .before .build-in .kept .1 .1 .1 .1 .1 .1 .1 .1 .1 .0
 
 same-length-8 : tie.Need-same-length-8
-same-length-8 c = search needs
+same-length-8 c = c .before .before .before .before .before .before .before .before .before .before .before .before .before .before .build-in .kept .1 .1 .1 .1 .1 .1 .1 .1 .1 .1 .0
 
 same-length-9 : tie.Need-same-length-9
-same-length-9 c = search needs
+same-length-9 c = c .before .before .before .before .before .before .before .before .before .before .before .before .before .before .build-in .kept .1 .1 .1 .1 .1 .1 .1 .1 .1 .1 .1 .0
 
 same-length-10 : tie.Need-same-length-10
-same-length-10 c = search needs
+same-length-10 c = c .before .before .before .before .before .before .before .before .before .before .before .before .before .before .build-in .kept .1 .1 .1 .1 .1 .1 .1 .1 .1 .1 .1 .1 .0
 
 returns-3 : tie.Need-returns-3
-returns-3 c = search needs
+returns-3 c = c .before .before .before .before .before .before .before .before .before .before .before .before .before .before .build-in .ensures
 
 pub build-spec : {M : Type 1} → statement M
 build-spec =
