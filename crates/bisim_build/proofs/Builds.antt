@@ -19,7 +19,7 @@ use Rattle.bisim_core.specs.Data.{Edge, Transitions, Columns, columns}
 use Rattle.bisim_core.specs.Edges.{edges, offsets}
 use Rattle.bisim_core.specs.declared.wlts.Initial.{Initial}
 use Rattle.bisim_core.specs.declared.wlts.Shape.{Shape}
-use Rattle.bisim_core.proofs.Steps.{edgesIn, Planned, Written}
+use Rattle.bisim_core.proofs.Steps.{Rising, edgesIn, Planned, Written}
 use Rattle.bisim_core.proofs.Distinct.{distinct-length}
 use Rattle.bisim_core.proofs.Rows.{edges-length}
 use Rattle.bisim_edges.specs.Checks.{present, labelsOf, oversized, outside, unweighed, crowded}
@@ -153,25 +153,35 @@ module _ (states : ℕ) (initial : Initial) (C : Transitions) (given : ℕ) (M :
         passed : number ≡ 0
         passed = none-is number _ _ m d (plan-is ∙ f) .0
 
-        pub states-few : states ≤ 2000
+        states-few : states ≤ 2000
         states-few =
             let (a, b) = check-none 2 (oversized states C n n) _ passed in
             ltb-false _ _ (or-f (ltb 2000 states) (ltb 4096 n || ltb 256 (length (labelsOf C n))) a .0)
 
-        pub labels-few : d ≤ n
+        labels-few : d ≤ n
         labels-few =
             let x = none-is number _ _ m d (plan-is ∙ f) .2 in
             let a = distinct-length (take n (C .labels)) in
             let b = length-take-le n (C .labels) (omega arith) in
             omega arith
 
-        pub labels-in : d ≤ 256
+        labels-in : d ≤ 256
         labels-in =
             let (a, b) = check-none 2 (oversized states C n n) _ passed in
             let (g, h) = or-f (ltb 2000 states) (ltb 4096 n || ltb 256 (length (labelsOf C n))) a in
             let k : length (labelsOf C n) ≤ 256 = ltb-false _ _ (or-f (ltb 4096 n) (ltb 256 (length (labelsOf C n))) h .1) in
             let x = none-is number _ _ m d (plan-is ∙ f) .2 in
             omega arith
+
+        -- what the columns are then written from
+        pub finishable : {store T : List ℕ} {U : List Float} {t u : ℕ} → Planned C n store T U m d → length store ≡ 256 → length T ≡ t → length U ≡ u → n ≤ t → n ≤ u
+            → (states ≤ 2000) × (given ≤ 4096) × (m ≤ given) × (d ≤ given) × (d ≤ length store) × (m ≤ length T) × (m ≤ length U) × Rising T m
+        finishable Q a b e g h =
+            let k = n-below C given n there in
+            let x = Q .few in
+            let y = labels-few in
+            let z = labels-in in
+            (states-few, most, omega arith, omega arith, omega arith, omega arith, omega arith, Q .rising)
 
         pub plan-passed : {store T : List ℕ} {U : List Float} → Planned C n store T U m d
             → settled (check 7 (short states given n M) 0) M (modelled states initial (take d store) (edgesIn T U m) M) ≡ build states initial C given M

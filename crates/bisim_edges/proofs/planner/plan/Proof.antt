@@ -58,10 +58,10 @@ intern-all-requires : tie.Need-intern-all-requires
 intern-all-requires c κs = let k = call (c .before .before) in let R = readies (c .before .before) in let a = R .n-in in let v = R .values-are in (l-in k, omega arith, omega arith)
 
 same-length : tie.Need-same-length
-same-length c = search needs
+same-length c = c .before .before .before .before .before .intern-all .kept .1 .1 .0
 
 same-length-2 : tie.Need-same-length-2
-same-length-2 c = search needs
+same-length-2 c = c .before .before .before .before .before .intern-all .kept .1 .1 .1 .0
 
 returns-2 : tie.Need-returns-2
 returns-2 c = (refused-3 (call (c .before .before .before .before .before .before .before .before)) (labels-over (call (c .before .before .before .before .before .before .before .before)) (readies (c .before .before .before .before .before .before .before .before) .values-are) (c .before .before .before .before .before .intern-all .ensures) (c .if2 .taken)) ∙ planned-is (c .before .before .before .before .before .before .before .before), λ m d e. no-edges 3 m d e)
@@ -70,10 +70,10 @@ fault-requires : tie.Need-fault-requires
 fault-requires c κs = let k = call (c .before .before .before .before .before .before .before .before) in (s-in k, t-in k, w-in k)
 
 same-length-3 : tie.Need-same-length-3
-same-length-3 c = search needs
+same-length-3 c = c .before .before .before .before .before .before .before .intern-all .kept .1 .1 .0
 
 same-length-4 : tie.Need-same-length-4
-same-length-4 c = search needs
+same-length-4 c = c .before .before .before .before .before .before .before .intern-all .kept .1 .1 .1 .0
 
 returns-3 : tie.Need-returns-3
 returns-3 c = (refused-fault (call (c .before .before .before .before .before .before .before .before .before .before)) (c .before .fault .result) (c .before .fault .ensures) (passed3 (c .before .before)) (c .if3 .taken) ∙ planned-is (c .before .before .before .before .before .before .before .before .before .before), λ m d e. no-edges _ m d e)
@@ -91,37 +91,37 @@ crowded-requires : tie.Need-crowded-requires
 crowded-requires c κs = let R = readies (c .before .before .before .before .before .before .before .before .before .before .before .before .before .before .before .before .before .before .before .before .before .before) in let k = R .n-in in let m = c .before .before .before .before .before .before .before .make-edges .ensures .count in let z = c .before .before .before .before .before .before .before .make-edges .kept .1 .1 .1 .1 .1 .1 .0 in (omega arith, c .before .before .before .before .before .before .before .make-edges .ensures .rising)
 
 same-length-5 : tie.Need-same-length-5
-same-length-5 c = search needs
+same-length-5 c = c .before .before .before .before .before .before .before .before .before .before .before .before .before .before .before .before .before .before .before .before .before .intern-all .kept .1 .1 .0
 
 same-length-6 : tie.Need-same-length-6
-same-length-6 c = search needs
+same-length-6 c = c .before .before .before .before .before .before .before .before .before .before .before .before .before .before .before .before .before .before .before .before .before .intern-all .kept .1 .1 .1 .0
 
 same-length-7 : tie.Need-same-length-7
-same-length-7 c = search needs
+same-length-7 c = c .before .before .before .before .before .before .before .before .before .make-edges .kept .1 .1 .1 .1 .1 .0
 
 same-length-8 : tie.Need-same-length-8
-same-length-8 c = search needs
+same-length-8 c = c .before .before .before .before .before .before .before .before .before .make-edges .kept .1 .1 .1 .1 .1 .1 .0
 
 same-length-9 : tie.Need-same-length-9
-same-length-9 c = search needs
+same-length-9 c = c .before .before .before .before .before .before .before .before .before .make-edges .kept .1 .1 .1 .1 .1 .1 .1 .0
 
 returns-4 : tie.Need-returns-4
 returns-4 c = (refused-6 (call (c .before .before .before .before .before .before .before .before .before .before .before .before .before .before .before .before .before .before .before .before .before .before .before .before)) (passed3 (c .before .before .before .before .before .before .before .before .before .before .before .before .before .before .before .before)) (sound (c .before .before .before .before .before .before .before .before .before .before .before .before .before .before)) (sym (crowding (c .before)) ∙ c .if4 .taken) ∙ planned-is (c .before .before .before .before .before .before .before .before .before .before .before .before .before .before .before .before .before .before .before .before .before .before .before .before), λ m d e. no-edges 6 m d e)
 
 same-length-10 : tie.Need-same-length-10
-same-length-10 c = search needs
+same-length-10 c = c .before .before .before .before .before .before .before .before .before .before .before .before .before .before .before .before .before .before .before .before .before .intern-all .kept .1 .1 .0
 
 same-length-11 : tie.Need-same-length-11
-same-length-11 c = search needs
+same-length-11 c = c .before .before .before .before .before .before .before .before .before .before .before .before .before .before .before .before .before .before .before .before .before .intern-all .kept .1 .1 .1 .0
 
 same-length-12 : tie.Need-same-length-12
-same-length-12 c = search needs
+same-length-12 c = c .before .before .before .before .before .before .before .before .before .make-edges .kept .1 .1 .1 .1 .1 .0
 
 same-length-13 : tie.Need-same-length-13
-same-length-13 c = search needs
+same-length-13 c = c .before .before .before .before .before .before .before .before .before .make-edges .kept .1 .1 .1 .1 .1 .1 .0
 
 same-length-14 : tie.Need-same-length-14
-same-length-14 c = search needs
+same-length-14 c = c .before .before .before .before .before .before .before .before .before .make-edges .kept .1 .1 .1 .1 .1 .1 .1 .0
 
 returns-5 : tie.Need-returns-5
 returns-5 c = (
