@@ -83,11 +83,9 @@ fn build_in(
     triples: &mut [u64],
     sums: &mut [f64],
 ) -> Built
-    requires { ⌜ (given ≤ 4096) × (n ≡ present (transitions (now sources) (now labels) (now targets) (now weights)) given)
-        × (n ≤ length (now ids)) × (n ≤ length (now keys)) × (n ≤ length (now triples)) × (n ≤ length (now sums)) ⌝ }
+    requires { ⌜ (given ≤ 4096) × (n ≡ present (transitions (now sources) (now labels) (now targets) (now weights)) given) × (n ≤ length (now ids)) × (n ≤ length (now keys)) × (n ≤ length (now triples)) × (n ≤ length (now sums)) ⌝ }
     ensures { λ r. ⌜ ends r (columns (now («label_values» .exit)) (now (offsets .exit)) (now («edge_labels» .exit)) (now («edge_targets» .exit)) (now («edge_weights» .exit)))
-        ≡ Build.build states initial (transitions (now (sources .entry)) (now (labels .entry)) (now (targets .entry)) (now (weights .entry))) given
-        (columns (now («label_values» .entry)) (now (offsets .entry)) (now («edge_labels» .entry)) (now («edge_targets» .entry)) (now («edge_weights» .entry))) ⌝ }
+        ≡ Build.build states initial (transitions (now (sources .entry)) (now (labels .entry)) (now (targets .entry)) (now (weights .entry))) given (columns (now («label_values» .entry)) (now (offsets .entry)) (now («edge_labels» .entry)) (now («edge_targets» .entry)) (now («edge_weights» .entry))) ⌝ }
 {
     let mut store = [0u32; 256];
     let planned = plan(
@@ -106,30 +104,28 @@ fn build_in(
     );
     match planned {
         Planned::Refused(r) => Built::Refused(r),
-        Planned::Edges(edges, labels) => {
-            let shape = Shape {
+        Planned::Edges(edges, labels) => finish(
+            Shape {
                 states,
                 edges,
                 labels,
                 initial,
-            };
-            finish(
-                shape,
-                given,
-                n,
-                &store,
-                triples,
-                sums,
-                label_values,
-                offsets,
-                edge_labels,
-                edge_targets,
-                edge_weights,
-            )
-        }
+            },
+            given,
+            n,
+            &store,
+            triples,
+            sums,
+            label_values,
+            offsets,
+            edge_labels,
+            edge_targets,
+            edge_weights,
+        ),
     }
 }
 
+// With work space for few transitions.
 fn build_small(
     states: usize,
     initial: Initial,
@@ -175,8 +171,8 @@ fn build_small(
     )
 }
 
-// The model of the transitions given, or the number of the first check that fails. Its columns go into the last five lists.
-pub fn build(
+// With work space for as many as there may be.
+fn build_large(
     states: usize,
     initial: Initial,
     sources: &[u32],
@@ -184,40 +180,18 @@ pub fn build(
     targets: &[u32],
     weights: &[f64],
     given: usize,
+    n: usize,
     label_values: &mut [u32],
     offsets: &mut [u32],
     edge_labels: &mut [u32],
     edge_targets: &mut [u32],
     edge_weights: &mut [f64],
 ) -> Built
+    requires { ⌜ (given ≤ 4096) × (n ≤ 4096) × (n ≡ present (transitions (now sources) (now labels) (now targets) (now weights)) given) ⌝ }
     ensures { λ r. ⌜ ends r (columns (now («label_values» .exit)) (now (offsets .exit)) (now («edge_labels» .exit)) (now («edge_targets» .exit)) (now («edge_weights» .exit)))
         ≡ Build.build states initial (transitions (now (sources .entry)) (now (labels .entry)) (now (targets .entry)) (now (weights .entry))) given
         (columns (now («label_values» .entry)) (now (offsets .entry)) (now («edge_labels» .entry)) (now («edge_targets» .entry)) (now («edge_weights» .entry))) ⌝ }
 {
-    if given > 4096 {
-        return Built::Refused(3);
-    }
-    let n = lesser(
-        given,
-        least(sources.len(), labels.len(), targets.len(), weights.len()),
-    );
-    if n <= 256 {
-        return build_small(
-            states,
-            initial,
-            sources,
-            labels,
-            targets,
-            weights,
-            given,
-            n,
-            label_values,
-            offsets,
-            edge_labels,
-            edge_targets,
-            edge_weights,
-        );
-    }
     let mut ids = [0u32; 4096];
     let mut keys = [0u64; 4096];
     let mut triples = [0u64; 4096];
@@ -240,5 +214,63 @@ pub fn build(
         &mut keys,
         &mut triples,
         &mut sums,
+    )
+}
+
+// The model of the transitions given, or the number of the first check that fails. Its columns go into the last five lists.
+pub fn build(
+    states: usize,
+    initial: Initial,
+    sources: &[u32],
+    labels: &[u32],
+    targets: &[u32],
+    weights: &[f64],
+    given: usize,
+    label_values: &mut [u32],
+    offsets: &mut [u32],
+    edge_labels: &mut [u32],
+    edge_targets: &mut [u32],
+    edge_weights: &mut [f64],
+) -> Built
+    ensures { λ r. ⌜ ends r (columns (now («label_values» .exit)) (now (offsets .exit)) (now («edge_labels» .exit)) (now («edge_targets» .exit)) (now («edge_weights» .exit)))
+        ≡ Build.build states initial (transitions (now (sources .entry)) (now (labels .entry)) (now (targets .entry)) (now (weights .entry))) given
+        (columns (now («label_values» .entry)) (now (offsets .entry)) (now («edge_labels» .entry)) (now («edge_targets» .entry)) (now («edge_weights» .entry))) ⌝ }
+{
+    if given > 4096 {
+        return Built::Refused(3);
+    }
+    let there = least(sources.len(), labels.len(), targets.len(), weights.len());
+    let n = lesser(given, there);
+    if n <= 256 {
+        return build_small(
+            states,
+            initial,
+            sources,
+            labels,
+            targets,
+            weights,
+            given,
+            n,
+            label_values,
+            offsets,
+            edge_labels,
+            edge_targets,
+            edge_weights,
+        );
+    }
+    build_large(
+        states,
+        initial,
+        sources,
+        labels,
+        targets,
+        weights,
+        given,
+        n,
+        label_values,
+        offsets,
+        edge_labels,
+        edge_targets,
+        edge_weights,
     )
 }

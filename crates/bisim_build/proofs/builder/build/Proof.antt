@@ -1,4 +1,4 @@
--- The count given comes first; then `build_in` is called with lists that are long enough, and its outcome is that of the call.
+-- The count given comes first; then `build_small` or `build_large` is called, by how many transitions are there, and its outcome is that of the call.
 use mathlib.Core.Path.{_≡_, ap, _∙_}
 use Prim.Native.Nat.{min}
 use Rattle.bisim_core.specs.Data.{Transitions, Columns, transitions, columns}
@@ -48,38 +48,30 @@ same-length-5 c = c .before .before .before .before .before .before .before .bef
 returns-2 : tie.Need-returns-2
 returns-2 c = c .before .before .before .before .before .before .before .before .before .before .build-small .ensures
 
-slice-aggregate-build-in : tie.Need-slice-aggregate-build-in
-slice-aggregate-build-in c = search needs
-
-slice-aggregate-build-in-2 : tie.Need-slice-aggregate-build-in-2
-slice-aggregate-build-in-2 c = search needs
-
-slice-aggregate-build-in-3 : tie.Need-slice-aggregate-build-in-3
-slice-aggregate-build-in-3 c = search needs
-
-slice-aggregate-build-in-4 : tie.Need-slice-aggregate-build-in-4
-slice-aggregate-build-in-4 c = search needs
-
-build-in-requires : tie.Need-build-in-requires
-build-in-requires c κs = let s = c .before .before .before .before .before .before .before .before .before .before .before .before .before .before .before .before .before .before .before .before .before .before in let g = c .before .before .before .before .before .before .before .before .before .before .before .before .if1 .left in let k = n-most (col s) (s .args .given) (c .before .before .before .before .before .before .before .before .before .before .lesser .result) g (counted (c .before .before .before .before .before .before .before .before .before .before)) in (g, counted (c .before .before .before .before .before .before .before .before .before .before), k, k, k, k)
+build-large-requires : tie.Need-build-large-requires
+build-large-requires c κs =
+    let s = c .before .before .before .before .before .before .before .before .before .before .before .before .before .before .before .before .before .before in
+    let g = c .before .before .before .before .before .before .before .before .if1 .left in
+    let e = counted (c .before .before .before .before .before .before) in
+    (g, n-most (col s) (s .args .given) (c .before .before .before .before .before .before .lesser .result) g e, e)
 
 same-length-6 : tie.Need-same-length-6
-same-length-6 c = c .before .before .before .before .before .before .before .before .before .before .before .before .before .before .build-in .kept .1 .1 .1 .1 .1 .1 .1 .1 .0
+same-length-6 c = c .before .before .before .before .before .before .before .before .before .before .build-large .kept .1 .1 .1 .1 .1 .1 .1 .1 .0
 
 same-length-7 : tie.Need-same-length-7
-same-length-7 c = c .before .before .before .before .before .before .before .before .before .before .before .before .before .before .build-in .kept .1 .1 .1 .1 .1 .1 .1 .1 .1 .0
+same-length-7 c = c .before .before .before .before .before .before .before .before .before .before .build-large .kept .1 .1 .1 .1 .1 .1 .1 .1 .1 .0
 
 same-length-8 : tie.Need-same-length-8
-same-length-8 c = c .before .before .before .before .before .before .before .before .before .before .before .before .before .before .build-in .kept .1 .1 .1 .1 .1 .1 .1 .1 .1 .1 .0
+same-length-8 c = c .before .before .before .before .before .before .before .before .before .before .build-large .kept .1 .1 .1 .1 .1 .1 .1 .1 .1 .1 .0
 
 same-length-9 : tie.Need-same-length-9
-same-length-9 c = c .before .before .before .before .before .before .before .before .before .before .before .before .before .before .build-in .kept .1 .1 .1 .1 .1 .1 .1 .1 .1 .1 .1 .0
+same-length-9 c = c .before .before .before .before .before .before .before .before .before .before .build-large .kept .1 .1 .1 .1 .1 .1 .1 .1 .1 .1 .1 .0
 
 same-length-10 : tie.Need-same-length-10
-same-length-10 c = c .before .before .before .before .before .before .before .before .before .before .before .before .before .before .build-in .kept .1 .1 .1 .1 .1 .1 .1 .1 .1 .1 .1 .1 .0
+same-length-10 c = c .before .before .before .before .before .before .before .before .before .before .build-large .kept .1 .1 .1 .1 .1 .1 .1 .1 .1 .1 .1 .1 .0
 
 returns-3 : tie.Need-returns-3
-returns-3 c = c .before .before .before .before .before .before .before .before .before .before .before .before .before .before .build-in .ensures
+returns-3 c = c .before .before .before .before .before .before .before .before .before .before .build-large .ensures
 
 pub build-spec : {M : Type 1} → statement M
 build-spec =
@@ -95,11 +87,7 @@ build-spec =
     same-length-4
     same-length-5
     returns-2
-    slice-aggregate-build-in
-    slice-aggregate-build-in-2
-    slice-aggregate-build-in-3
-    slice-aggregate-build-in-4
-    build-in-requires
+    build-large-requires
     same-length-6
     same-length-7
     same-length-8
