@@ -2,7 +2,7 @@
 -- does not ask for the source holds of all rows if it holds of every edge; and the targets of a state are those of its own row.
 use mathlib.Core.Path.{_≡_, refl, sym, subst, ap, _∙_}
 use mathlib.Core.Logic.{_⊎_, inl, inr, _≢_}
-use mathlib.Core.Bool.{Bool, true, false, _&&_, _||_, not}
+use mathlib.Core.Bool.{Bool, true, false, _&&_, _||_, not, or-true}
 use Prim.Native.Nat.{ℕ, zero, suc, _+_, _-_, _≤_, _<_}
 use mathlib.Core.List.{List, [], _∷_, _++_, map, append-nil}
 use native.Mathlib.Omega.{arith}
@@ -149,10 +149,6 @@ unfolding crowdedIn span
 crowded-some E s i zero h l e = absurd (omega arith)
 crowded-some E s i (suc k) h l e = pick (λ g. crowded-some E s (suc i) k g (omega arith) e) (eq-or-ne i s)
   where
-    or-true : (b : Bool) → (b || true) ≡ true
-    or-true true = refl
-    or-true false = refl
-
     pick : (suc i ≤ s → crowdedIn E (span (suc i) k) ≡ true) → (i ≡ s) ⊎ (i ≢ s) → (crowdedAt E i || crowdedIn E (span (suc i) k)) ≡ true
     pick ih (inl z) = rw (subst (λ (x : ℕ). crowdedAt E x ≡ true) (sym z) e)
     pick ih (inr z) = rw (ih (omega arith)) (or-true (crowdedAt E i))

@@ -10,6 +10,7 @@ use lib.Dec.{T, eqb}
 use lib.IntN.{pos, negsuc}
 use lib.ListN.{length}
 use lib.Ieee.{Float, nan, inf, fin, binary64, ofBits, ofFields, le, eq, add, sum, round, up, down}
+use lib.Ieee.Bits.{is-true}
 use lib.Ieee.Fits.{down-pos, up-pos}
 use lib.Ieee.Exact.{HasValue}
 use lib.Ieee.Back.{round-whole}
@@ -17,9 +18,11 @@ use lib.Ieee.Scale.{round-same}
 use lib.Ieee.Order.{round-mono}
 use lib.Ieee.Positive.{num, den, positive, den-pos, own-value, positive-of-value, le→cross, cross→le, values-of-le, between}
 use borrow.Author.Tests.{lt-ltb, le-ltb, eqb-true}
-use Rattle.numbers.proofs.Bools.{and-t}
+use Rattle.numbers.proofs.Bools.{and-t, or-t, t-of}
+use Rattle.numbers.proofs.Constants.{least-weight-is, greatest-weight-is, greatest-joined-is}
+use Rattle.numbers.proofs.Floats.{Signed, first-zero, zero-round}
 use Rattle.bisim_core.specs.Data.{Edge}
-use Rattle.numbers.specs.Real.{isZero}
+use Rattle.numbers.specs.Real.{isZero, leastWeight, greatestWeight, greatestJoined}
 use Rattle.bisim_core.specs.Edges.{same, taken, ended, runs, join}
 use Rattle.bisim_core.specs.Model.{weighs}
 use Rattle.bisim_core.proofs.Ranks.{AllE}
@@ -30,25 +33,9 @@ lowest = fin false 1 (negsuc 39)
 abbrev highest : Float
 highest = fin false 1 (pos 40)
 
-low-is : ofBits binary64 0x3d70000000000000 ≡ lowest
-unfolding ofBits ofFields
-low-is = refl
-
-high-is : ofBits binary64 0x4270000000000000 ≡ highest
-unfolding ofBits ofFields
-high-is = refl
-
-top-is : ofBits binary64 0x4330000000000000 ≡ fin false 1 (pos 52)
-unfolding ofBits ofFields
-top-is = refl
-
-zero-is : ofBits binary64 0 ≡ fin false 0 (pos 0)
-unfolding ofBits ofFields
-zero-is = refl
-
-low-round : round binary64 false 1 1099511627776 ≡ lowest
+least-round : round binary64 false 1 1099511627776 ≡ lowest
 unfolding round
-low-round = refl
+least-round = refl
 
 -- zero, of either sign
 abbrev pub Nil : Float → Type 0
@@ -64,21 +51,6 @@ pub record Weighty (k : ℕ) (w : Float) : Type 0 where
 
 abbrev pub Fair : ℕ → Float → Type 0
 Fair k w = Nil w ⊎ Weighty k w
-
-or-cases : (a b : Bool) → (a || b) ≡ true → (a ≡ true) ⊎ (b ≡ true)
-or-cases true b e = inl refl
-or-cases false b e = inr e
-
-t-of : {b : Bool} → b ≡ true → T b
-t-of e = subst⁻¹ T e tt
-
-of-t : (b : Bool) → T b → b ≡ true
-of-t true t = refl
-of-t false t = absurd t
-
-first-zero : (m u : ℕ) → 0 < u → m * u ≡ 0 → m ≡ 0
-first-zero zero u h e = refl
-first-zero (suc m) u h e = let p : 0 < suc m * u = mul-pos (omega arith) h in absurd (omega arith)
 
 nil-of : (w : Float) → isZero w ≡ true → Nil w
 unfolding eq ofBits ofFields
@@ -99,13 +71,13 @@ weighty-of w h k =
 
 -- a weight that passes check 5
 pub fair-of : (w : Float) → weighs w ≡ true → Fair 1 w
-fair-of w h = pick (or-cases (isZero w) _ h)
+fair-of w h = pick (or-t (isZero w) _ h)
   where
-    pick : (isZero w ≡ true) ⊎ ((le (ofBits binary64 0x3d70000000000000) w && le w (ofBits binary64 0x4270000000000000)) ≡ true) → Fair 1 w
+    pick : (isZero w ≡ true) ⊎ ((le leastWeight w && le w greatestWeight) ≡ true) → Fair 1 w
     pick (inl e) = inl (nil-of w e)
     pick (inr e) =
-        let (a, b) = and-t (le (ofBits binary64 0x3d70000000000000) w) (le w (ofBits binary64 0x4270000000000000)) e in
-        inr (weighty-of w (subst (λ (x : Float). le x w ≡ true) low-is a) (subst (λ (x : Float). le w x ≡ true) high-is b))
+        let (a, b) = and-t (le leastWeight w) (le w greatestWeight) e in
+        inr (weighty-of w (subst (λ (x : Float). le x w ≡ true) least-weight-is a) (subst (λ (x : Float). le w x ≡ true) greatest-weight-is b))
 
 pub fair-more : (k l : ℕ) (w : Float) → k ≤ l → Fair k w → Fair l w
 fair-more k l w h (inl z) = inl z
@@ -115,19 +87,6 @@ fair-more k l w h (inr y) = inr (record { above = y .above; low = y .low; high =
     more = let a = mul-le-mul-right (den w) (let z : k * 1099511627776 ≤ l * 1099511627776 = omega arith in z) in let b = y .high in omega arith
 
 -- ---- a sum of two such weights
-
-zero-round : (s : Bool) (c : ℕ) → 0 < c → round binary64 s 0 c ≡ fin s 0 (pos 0)
-zero-round s c h = round-same binary64 s 0 c 0 1 h (omega arith) (omega arith) ∙ at-one s
-  where
-    at-one : (s : Bool) → round binary64 s 0 1 ≡ fin s 0 (pos 0)
-    at-one true = true-one
-      where
-        true-one : round binary64 true 0 1 ≡ fin true 0 (pos 0)
-        true-one = unfold round in refl
-    at-one false = false-one
-      where
-        false-one : round binary64 false 0 1 ≡ fin false 0 (pos 0)
-        false-one = unfold round in refl
 
 nil-round : (s : Bool) (c : ℕ) → 0 < c → Nil (round binary64 s 0 c)
 nil-round s c h = subst⁻¹ Nil (zero-round s c h) refl
@@ -159,7 +118,7 @@ rounded k n c few some pc lo hi =
     let z = round binary64 false n c in
     let top = round binary64 false (k * 1099511627776) 1 in
     let value : HasValue top false (k * 1099511627776) 1 = round-whole binary64 false (k * 1099511627776) (omega arith) in
-    let h1 : T (le lowest z) = subst (λ (x : Float). T (le x z)) low-round (round-mono binary64 1 1099511627776 n c (omega arith) pc (omega arith)) in
+    let h1 : T (le lowest z) = subst (λ (x : Float). T (le x z)) least-round (round-mono binary64 1 1099511627776 n c (omega arith) pc (omega arith)) in
     let h2 : T (le z top) = round-mono binary64 n c (k * 1099511627776) 1 pc (omega arith) (omega arith) in
     let pt : T (positive top) = positive-of-value top (k * 1099511627776) 1 value (omega arith) in
     let pz : T (positive z) = between lowest z top tt pt h1 h2 in
@@ -177,11 +136,6 @@ nil-num (fin s m e) z = ap (λ (x : ℕ). x * up e) z ∙ zero-mul (up e)
 fair-high : (k : ℕ) (w : Float) → Fair k w → num w ≤ k * 1099511627776 * den w
 fair-high k w (inl z) = let e = nil-num w z in omega arith
 fair-high k w (inr y) = y .high
-
-abbrev Signed : Float → Type 0
-Signed nan = ⊥
-Signed (inf s) = ⊥
-Signed (fin s m e) = s ≡ true → m ≡ 0
 
 fair-signed : (k : ℕ) (w : Float) → Fair k w → Signed w
 fair-signed k nan (inl z) = z
@@ -284,11 +238,11 @@ zero-of (fin s m e) z =
     pick false = refl
 
 -- what is kept passes the check of a joined weight
-pub joined-weighs : (w : Float) → Fair 4096 w → isZero w ≡ false → (le (ofBits binary64 0x3d70000000000000) w && le w (ofBits binary64 0x4330000000000000)) ≡ true
+pub joined-weighs : (w : Float) → Fair 4096 w → isZero w ≡ false → (le leastWeight w && le w greatestJoined) ≡ true
 joined-weighs w (inl z) h = absurd (true≢false (sym (zero-of w z) ∙ h))
 joined-weighs w (inr y) h =
     let a = y .low in
     let b = y .high in
-    let p : le lowest w ≡ true = of-t _ (cross→le lowest w tt (y .above) (let c : num lowest * den w ≡ den w = omega arith in omega arith)) in
-    let q : le w (fin false 1 (pos 52)) ≡ true = of-t _ (cross→le w (fin false 1 (pos 52)) (y .above) tt (omega arith)) in
-    rw (low-is, top-is, p) q
+    let p : le lowest w ≡ true = is-true _ (cross→le lowest w tt (y .above) (let c : num lowest * den w ≡ den w = omega arith in omega arith)) in
+    let q : le w (fin false 1 (pos 52)) ≡ true = is-true _ (cross→le w (fin false 1 (pos 52)) (y .above) tt (omega arith)) in
+    rw (least-weight-is, greatest-joined-is, p) q

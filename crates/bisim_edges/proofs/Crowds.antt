@@ -20,6 +20,7 @@ use Rattle.numbers.specs.Lists.{span}
 use Rattle.bisim_core.proofs.Steps.{edgeIn, edgesIn, Rising, Noted, Crowded}
 use Rattle.numbers.proofs.Bools.{eq-or-ne}
 use Rattle.bisim_core.proofs.Distinct.{intern-longer}
+use Rattle.bisim_core.proofs.Models.{others-append, crowded-not, crowded-by}
 
 pub intern-append : (known xs ys : List ℕ) → intern known (xs ++ ys) ≡ intern (intern known xs) ys
 unfolding intern
@@ -27,15 +28,6 @@ intern-append known [] ys = refl
 intern-append known (x ∷ xs) ys = intern-append (noted (ltb (seek x known) (length known)) x known) xs ys
 
 -- ---- the targets of one edge more
-
-pub others-append : (s : ℕ) (E F : List Edge) → others s (E ++ F) ≡ others s E ++ others s F
-unfolding others
-others-append s [] F = refl
-others-append s (a ∷ E) F = pick (eqb (a .source) s && not (eqb (a .target) s)) (others-append s E F)
-  where
-    pick : (b : Bool) → others s (E ++ F) ≡ others s E ++ others s F → chosen b (a .target) (others s (E ++ F)) ≡ chosen b (a .target) (others s E) ++ others s F
-    pick true e = ap (λ (l : List ℕ). a .target ∷ l) e
-    pick false e = e
 
 other-none : (s : ℕ) (a : Edge) → a .source ≢ s → others s (a ∷ []) ≡ []
 unfolding others
@@ -87,26 +79,6 @@ others-longer T U s k (suc d) =
     let g = intern-longer (distinct (others s (edgesIn T U (k + d)))) (others s (edgeIn (getD T (k + d) 0) (getD U (k + d) nan) ∷ [])) in
     let l : length (distinct (others s (edgesIn T U (k + d)))) ≤ length (distinct (others s (edgesIn T U (suc (k + d))))) = subst (λ (x : List ℕ). length (distinct (others s (edgesIn T U (k + d)))) ≤ length x) (sym f) g in
     subst (λ (x : ℕ). length (distinct (others s (edgesIn T U k))) ≤ length (distinct (others s (edgesIn T U x)))) (let z : suc (k + d) ≡ k + suc d = omega arith in z) (omega arith)
-
--- ---- the answer
-
-pub crowded-none : (E : List Edge) (l : List ℕ) → ((s : ℕ) → crowdedAt E s ≡ false) → crowdedIn E l ≡ false
-unfolding crowdedIn
-crowded-none E [] h = refl
-crowded-none E (s ∷ l) h = rw (h s) (crowded-none E l h)
-
-or-true : (b : Bool) → (b || true) ≡ true
-or-true true = refl
-or-true false = refl
-
-pub crowded-some : (E : List Edge) (s i k : ℕ) → i ≤ s → s < i + k → crowdedAt E s ≡ true → crowdedIn E (span i k) ≡ true
-unfolding crowdedIn span
-crowded-some E s i zero h l e = absurd (omega arith)
-crowded-some E s i (suc k) h l e = pick (λ g. crowded-some E s (suc i) k g (omega arith) e) (eq-or-ne i s)
-  where
-    pick : (suc i ≤ s → crowdedIn E (span (suc i) k) ≡ true) → (i ≡ s) ⊎ (i ≢ s) → (crowdedAt E i || crowdedIn E (span (suc i) k)) ≡ true
-    pick ih (inl z) = rw (subst (λ (x : ℕ). crowdedAt E x ≡ true) (sym z) e)
-    pick ih (inr z) = rw (ih (omega arith)) (or-true (crowdedAt E i))
 
 -- ---- the loop
 
@@ -214,7 +186,7 @@ module _ {T : List ℕ} {m : ℕ} {seen : List ℕ} {count state j : ℕ} (I : C
               let b = others-longer T U s (j + 1) (Prim.Native.Nat._-_ m (j + 1)) in
               let z : (j + 1) + Prim.Native.Nat._-_ m (j + 1) ≡ m = omega arith in
               let g = ap (λ (x : ℕ). length (targets T U x s)) z in
-              sym (crowded-some (edgesIn T U m) s 0 states (omega arith) (let y = all j h in omega arith) (lt-ltb 31 (length (targets T U m s)) (omega arith)));
+              sym (crowded-by (edgesIn T U m) states s (let y = all j h in omega arith) (lt-ltb 31 (length (targets T U m s)) (omega arith)));
         }
 
   pub crowd-none : m ≤ j → Crowded T m false
@@ -222,5 +194,5 @@ module _ {T : List ℕ} {m : ℕ} {seen : List ℕ} {count state j : ℕ} (I : C
     same = λ U states all.
         let a = I .j-in in
         let e : j ≡ m = omega arith in
-        sym (crowded-none (edgesIn T U m) (span 0 states) (λ s. le-ltb 31 (length (targets T U m s)) (subst (λ (x : ℕ). length (targets T U x s) ≤ 31) e (calm-all U s))));
+        sym (crowded-not (edgesIn T U m) states (λ s k. le-ltb 31 (length (targets T U m s)) (subst (λ (x : ℕ). length (targets T U x s) ≤ 31) e (calm-all U s))));
   }

@@ -57,7 +57,7 @@ plain-signed (inf s) p = p
 plain-signed (fin true m e) p = absurd p
 plain-signed (fin false m e) p = λ t. absurd (false≢true t)
 
-first-zero : (m u : ℕ) → 0 < u → m * u ≡ 0 → m ≡ 0
+pub first-zero : (m u : ℕ) → 0 < u → m * u ≡ 0 → m ≡ 0
 first-zero zero u h e = refl
 first-zero (suc m) u h e = let p : 0 < suc m * u = mul-pos (omega arith) h in absurd (omega arith)
 
