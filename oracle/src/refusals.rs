@@ -1,4 +1,5 @@
-//! OURS, no part of the Rust: the refusals of document 01 ("Turned back, in this order"), written from that list alone.
+//! OURS, no part of the Rust: the refusals of document 01 ("Turned back, in this order"), as docs/DECISIONS.md reads them.
+//! Written apart from the definitions in specs/, but with the same readings: it can't catch a reading that is wrong.
 //!
 //! Each function gives the number of the first check that fails, 0 where none does. Lent stores are only measured.
 
