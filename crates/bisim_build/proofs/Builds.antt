@@ -24,10 +24,10 @@ use Rattle.bisim_core.proofs.Distinct.{distinct-length}
 use Rattle.bisim_core.proofs.Rows.{edges-length}
 use Rattle.bisim_edges.specs.Checks.{present, labelsOf, oversized, outside, unweighed, crowded}
 use Rattle.bisim_edges.specs.Plan as plans
-use Rattle.bisim_edges.specs.Plan.{cramped, planned, plan}
+use Rattle.bisim_edges.specs.Plan.{planned, plan}
 use Rattle.bisim_edges.specs.declared.planner.Planned as answers
 use Rattle.bisim_edges.specs.declared.planner.Planned.the-variants as answer
-use Rattle.bisim_edges.proofs.Plans.{number-is, none-is}
+use Rattle.bisim_edges.proofs.Plans.{number-is, none-is, cramped}
 use Rattle.bisim_build.specs.Build.{short, refusal, Outcome, ends, modelled, made, settled, build}
 use Rattle.bisim_build.specs.declared.builder.Built.the-variants.{Model, Refused}
 
@@ -136,7 +136,7 @@ module _ (states : ℕ) (initial : Initial) (C : Transitions) (given : ℕ) (M :
         (ap (λ (b : Bool). check 3 b (check 4 (outside states initial C n) (check 5 (unweighed C n) (check 6 (crowded states C n) (check 7 (short states given n M) 0))))) sizes
         ∙ four-first (oversized states C n n) (outside states initial C n) (unweighed C n) (crowded states C n) (check 7 (short states given n M) 0))
 
-    module _ (room : ℕ) (n-in : n ≤ room) {p : answers.Planned} (e : p ≡ plan states initial C n 256 room) where
+    module _ (room : ℕ) (n-in : n ≤ room) {p : answers.Planned} (e : p ≡ plan (cramped C n 256 room) states initial C n) where
       roomy : cramped C n 256 room ≡ false
       roomy = none _ _ refl (none _ _ (le-ltb room n n-in) (le-ltb (present C n) n (let h = n-there C given n there in omega arith)))
 

@@ -25,7 +25,7 @@ use Rattle.bisim_core.proofs.Steps.{edgesIn, Interned, Makeable, EdgesMade, Cro
 use Rattle.bisim_core.proofs.Distinct.{intern-has, distinct-length}
 use Rattle.bisim_core.proofs.Rows.{edges-length}
 use Rattle.bisim_edges.specs.Checks.{present, labelsOf, oversized, outside, unweighed, crowded}
-use Rattle.bisim_edges.specs.Plan.{cramped, refusal, settled, planned, plan}
+use Rattle.bisim_edges.specs.Plan.{refusal, settled, planned, plan}
 use Rattle.bisim_edges.specs.declared.planner.Planned.{Planned}
 use Rattle.bisim_edges.specs.declared.planner.Planned.the-variants.{Edges, Refused}
 
@@ -230,6 +230,10 @@ wider true b d e = refl
 wider false true d e = refl
 wider false false d e = absurd (false≢true e)
 
+-- check 7 of a plan: places for other than 256 label values or for under n transitions, or a column that has no n entries
+abbrev pub cramped : Transitions → ℕ → ℕ → ℕ → Bool
+cramped C n values room = not (eqb values 256) || (ltb room n || ltb (present C n) n)
+
 -- what they say where they rule nothing out
 pub record Ready (states : ℕ) (C : Transitions) (n values room : ℕ) : Type 0 where
   pub low : states ≤ 2000
@@ -246,11 +250,11 @@ module _ (states : ℕ) (initial : Initial) (C : Transitions) (n values room : �
   abbrev sizes : Bool
   sizes = ltb 2000 states || ltb 4096 n
 
-  short-of : c7 ≡ true → Refused 7 ≡ plan states initial C n values room
+  short-of : c7 ≡ true → Refused 7 ≡ plan (cramped C n values room) states initial C n
   unfolding plan
   short-of h = refused-is 7 (check 7 c7 0) (planned states initial C n) (check-hit 7 c7 0 h) (λ z. omega arith)
 
-  too-large : c7 ≡ false → sizes ≡ true → Refused 3 ≡ plan states initial C n values room
+  too-large : c7 ≡ false → sizes ≡ true → Refused 3 ≡ plan (cramped C n values room) states initial C n
   unfolding plan planned
   too-large h k =
       refused-is 3 (refusal states initial C n) (Edges (length (edges C n)) (length (labelsOf C n))) (check-hit 3 (oversized states C n n) _ (wider (ltb 2000 states) (ltb 4096 n) (ltb 256 (length (labelsOf C n))) k)) (λ z. omega arith)
@@ -261,12 +265,12 @@ module _ (states : ℕ) (initial : Initial) (C : Transitions) (n values room : �
     number : r ≡ check 7 c7 (check 3 sizes 0)
     number = e ∙ ap (λ (x : ℕ). check 7 (not (eqb values 256) || (ltb x n || ltb (min n there) n)) (check 3 sizes 0)) f ∙ ap (λ (x : ℕ). check 7 (not (eqb values 256) || (ltb room n || ltb (min n x) n)) (check 3 sizes 0)) g
 
-    pub ruled-out : r ≢ 0 → Refused r ≡ plan states initial C n values room
+    pub ruled-out : r ≢ 0 → Refused r ≡ plan (cramped C n values room) states initial C n
     ruled-out h = pick c7 refl sizes refl
       where
-        pick : (b : Bool) → c7 ≡ b → (o : Bool) → sizes ≡ o → Refused r ≡ plan states initial C n values room
-        pick true p o q = subst (λ (x : ℕ). Refused x ≡ plan states initial C n values room) (sym (number ∙ check-hit 7 c7 _ p)) (short-of p)
-        pick false p true q = subst (λ (x : ℕ). Refused x ≡ plan states initial C n values room) (sym (number ∙ check-skip 7 c7 _ 3 p (check-hit 3 sizes 0 q))) (too-large p q)
+        pick : (b : Bool) → c7 ≡ b → (o : Bool) → sizes ≡ o → Refused r ≡ plan (cramped C n values room) states initial C n
+        pick true p o q = subst (λ (x : ℕ). Refused x ≡ plan (cramped C n values room) states initial C n) (sym (number ∙ check-hit 7 c7 _ p)) (short-of p)
+        pick false p true q = subst (λ (x : ℕ). Refused x ≡ plan (cramped C n values room) states initial C n) (sym (number ∙ check-skip 7 c7 _ 3 p (check-hit 3 sizes 0 q))) (too-large p q)
         pick false p false q = absurd (h (number ∙ check-skip 7 c7 _ 0 p (check-skip 3 sizes 0 0 q refl)))
 
     pub ready : r ≡ 0 → Ready states C n values room
@@ -284,6 +288,6 @@ module _ (states : ℕ) (initial : Initial) (C : Transitions) (n values room : �
         }
 
     -- the plan is then that of the other checks
-    pub plan-is : r ≡ 0 → planned states initial C n ≡ plan states initial C n values room
+    pub plan-is : r ≡ 0 → planned states initial C n ≡ plan (cramped C n values room) states initial C n
     unfolding plan
     plan-is h = done-is (check 7 c7 0) (planned states initial C n) (check-skip 7 c7 0 0 (check-none 6 c7 (check 3 sizes 0) (sym number ∙ h) .0) refl)

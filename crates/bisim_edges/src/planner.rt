@@ -12,6 +12,7 @@ ghost use lib.ListN.{length};
 ghost use Rattle.numbers.specs.Refuse.{check};
 ghost use Rattle.bisim_core.specs.Data.{transitions};
 ghost use Rattle.bisim_core.proofs.Steps;
+ghost use Rattle.bisim_edges.specs.Checks.{present};
 ghost use Rattle.bisim_edges.specs.Plan;
 
 // How many edges and how many labels there are, or the number of the first check that fails.
@@ -42,7 +43,7 @@ fn unready(states: usize, n: usize, values: usize, room: usize, there: usize) ->
     0
 }
 
-// The edges of the first n transitions, or the number of the first check that fails.
+// The edges of the first n transitions, or the number of the first check that fails; 7 where `store` has other than 256 places or another list under n.
 // The label values by their ids are then in `store`, and the edges in `triples` and `sums`. What else the last five lists hold is left free, and all of it after a refusal.
 pub fn plan(
     states: usize,
@@ -58,8 +59,10 @@ pub fn plan(
     triples: &mut [u64],
     sums: &mut [f64],
 ) -> Planned
-    ensures { λ r. ⌜ (r ≡ Plan.plan states initial (transitions (now (sources .entry)) (now (labels .entry)) (now (targets .entry)) (now (weights .entry))) n (length (now (store .entry)))
-        (min (length (now (ids .entry))) (min (length (now (keys .entry))) (min (length (now (triples .entry))) (length (now (sums .entry)))))))
+    ensures { λ r. ⌜ (r ≡ Plan.plan (not (eqb (length (now (store .entry))) 256)
+        || (ltb (min (length (now (ids .entry))) (min (length (now (keys .entry))) (min (length (now (triples .entry))) (length (now (sums .entry)))))) n
+        || ltb (present (transitions (now (sources .entry)) (now (labels .entry)) (now (targets .entry)) (now (weights .entry))) n) n))
+        states initial (transitions (now (sources .entry)) (now (labels .entry)) (now (targets .entry)) (now (weights .entry))) n)
         × (((m d : ℕ) → r ≡ Planned.Edges m d
         → Steps.Planned (transitions (now (sources .entry)) (now (labels .entry)) (now (targets .entry)) (now (weights .entry))) n (now (store .exit)) (now (triples .exit)) (now (sums .exit)) m d)) ⌝ }
 {

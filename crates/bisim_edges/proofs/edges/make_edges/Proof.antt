@@ -25,7 +25,7 @@ join-runs-requires c κs =
     let s = c .before .before .before .before .before .before .before .before .before .before .before .before .before .before .before .before .before .before .before .before .before in
     let f = c .before .before .before .before .before .before .before .before .before .before .before .before in
     let g = c .before .before .before .before .before .before .before in
-    joinable (s .pre) (f .make-keys .kept .1 .1 .1 .1 .0) (f .make-keys .ensures) (g .sort-keys .ensures .sorted) _ (g .sort-keys .kept .1 .0)
+    joinable (s .pre) (f .make-keys .kept .1 .1 .1 .1 .0) (f .make-keys .ensures) (g .sort-keys .ensures .0) _ (g .sort-keys .kept .1 .0)
 
 same-length : tie.Need-same-length
 same-length c = search needs
@@ -42,7 +42,7 @@ returns c =
     let f = c .before .before .before .before .before .before .before .before .before .before .before .before .before .before .before .before .before in
     let g = c .before .before .before .before .before .before .before .before .before .before .before .before in
     let u = c .before .before .before .before in
-    edges-made (s .pre) (f .make-keys .kept .1 .1 .1 .1 .0) (f .make-keys .ensures) (g .sort-keys .ensures .sorted) _ _ _ (u .join-runs .ensures)
+    edges-made (s .pre) (f .make-keys .kept .1 .1 .1 .1 .0) (f .make-keys .ensures) (g .sort-keys .ensures .0) _ _ _ (u .join-runs .ensures)
 
 pub make-edges-spec : {M : Type 1} → statement M
 make-edges-spec =

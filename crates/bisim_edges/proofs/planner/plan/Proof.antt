@@ -7,7 +7,7 @@ use lib.ListN.{length}
 use Rattle.bisim_core.specs.Data.{Transitions, transitions}
 use Rattle.bisim_edges.specs.Checks.{oversized, crowded}
 use Rattle.bisim_edges.specs.Plan.{planned, plan}
-use Rattle.bisim_edges.proofs.Plans.{ruled-out, Ready, ready, plan-is, Call, fault, s-in, l-in, t-in, w-in, refused-3, passed-3, refused-fault, refused-6, accepted, Inside, inside-of, labels-over, few-labels, makeable, crowded-is, counts-are, held, no-edges}
+use Rattle.bisim_edges.proofs.Plans.{cramped, ruled-out, Ready, ready, plan-is, Call, fault, s-in, l-in, t-in, w-in, refused-3, passed-3, refused-fault, refused-6, accepted, Inside, inside-of, labels-over, few-labels, makeable, crowded-is, counts-are, held, no-edges}
 use borrow.Author.Needs.{needs}
 use Rattle.bisim_edges.proofs.planner.plan.Statement.{statement}
 use Rattle.bisim_edges.proofs.planner.plan.Tie as tie
@@ -24,7 +24,7 @@ room s = min (length (s .args .ids .now)) (min (length (s .args .keys .now)) (mi
 readies : (c : tie.Else1) → Ready (c .before .before .before .before .before .before .before .before .before .before .before .before .before .args .states) (col (c .before .before .before .before .before .before .before .before .before .before .before .before .before)) (c .before .before .before .before .before .before .before .before .before .before .before .before .before .args .n) (values (c .before .before .before .before .before .before .before .before .before .before .before .before .before)) (room (c .before .before .before .before .before .before .before .before .before .before .before .before .before))
 readies c = ready (c .before .before .before .before .before .before .before .before .before .before .before .before .before .args .states) (c .before .before .before .before .before .before .before .before .before .before .before .before .before .args .initial) (col (c .before .before .before .before .before .before .before .before .before .before .before .before .before)) (c .before .before .before .before .before .before .before .before .before .before .before .before .before .args .n) (values (c .before .before .before .before .before .before .before .before .before .before .before .before .before)) (room (c .before .before .before .before .before .before .before .before .before .before .before .before .before)) (c .before .unready .ensures) (c .before .before .before .least .ensures) (c .before .before .least2 .ensures) (c .if1 .left)
 
-planned-is : (c : tie.Else1) → planned (c .before .before .before .before .before .before .before .before .before .before .before .before .before .args .states) (c .before .before .before .before .before .before .before .before .before .before .before .before .before .args .initial) (col (c .before .before .before .before .before .before .before .before .before .before .before .before .before)) (c .before .before .before .before .before .before .before .before .before .before .before .before .before .args .n) ≡ plan (c .before .before .before .before .before .before .before .before .before .before .before .before .before .args .states) (c .before .before .before .before .before .before .before .before .before .before .before .before .before .args .initial) (col (c .before .before .before .before .before .before .before .before .before .before .before .before .before)) (c .before .before .before .before .before .before .before .before .before .before .before .before .before .args .n) (values (c .before .before .before .before .before .before .before .before .before .before .before .before .before)) (room (c .before .before .before .before .before .before .before .before .before .before .before .before .before))
+planned-is : (c : tie.Else1) → planned (c .before .before .before .before .before .before .before .before .before .before .before .before .before .args .states) (c .before .before .before .before .before .before .before .before .before .before .before .before .before .args .initial) (col (c .before .before .before .before .before .before .before .before .before .before .before .before .before)) (c .before .before .before .before .before .before .before .before .before .before .before .before .before .args .n) ≡ plan (cramped (col (c .before .before .before .before .before .before .before .before .before .before .before .before .before)) (c .before .before .before .before .before .before .before .before .before .before .before .before .before .args .n) (values (c .before .before .before .before .before .before .before .before .before .before .before .before .before)) (room (c .before .before .before .before .before .before .before .before .before .before .before .before .before))) (c .before .before .before .before .before .before .before .before .before .before .before .before .before .args .states) (c .before .before .before .before .before .before .before .before .before .before .before .before .before .args .initial) (col (c .before .before .before .before .before .before .before .before .before .before .before .before .before)) (c .before .before .before .before .before .before .before .before .before .before .before .before .before .args .n)
 planned-is c = plan-is (c .before .before .before .before .before .before .before .before .before .before .before .before .before .args .states) (c .before .before .before .before .before .before .before .before .before .before .before .before .before .args .initial) (col (c .before .before .before .before .before .before .before .before .before .before .before .before .before)) (c .before .before .before .before .before .before .before .before .before .before .before .before .before .args .n) (values (c .before .before .before .before .before .before .before .before .before .before .before .before .before)) (room (c .before .before .before .before .before .before .before .before .before .before .before .before .before)) (c .before .unready .ensures) (c .before .before .before .least .ensures) (c .before .before .least2 .ensures) (c .if1 .left)
 
 abbrev call : tie.Else1 → Call
