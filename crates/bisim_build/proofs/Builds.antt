@@ -12,9 +12,9 @@ use lib.ListN.{length, take}
 use lib.Seq.{length-take-le}
 use borrow.Author.Tests.{lt-ltb, le-ltb, ltb-false}
 use Rattle.numbers.specs.Lists.{over}
-use Rattle.numbers.specs.Refuse.{check, first}
+use Rattle.numbers.specs.Refuse.{check}
 use Rattle.numbers.proofs.Bools.{or-f}
-use Rattle.numbers.proofs.Refuses.{check-hit, check-skip, check-none, first-hit, first-skip, hit, none}
+use Rattle.numbers.proofs.Refuses.{check-hit, check-skip, check-none, first, first-hit, first-skip, hit, none}
 use Rattle.bisim_core.specs.Data.{Edge, Transitions, Columns, columns}
 use Rattle.bisim_core.specs.Edges.{edges, offsets}
 use Rattle.bisim_core.specs.declared.wlts.Initial.{Initial}
@@ -27,7 +27,7 @@ use Rattle.bisim_edges.specs.Plan as plans
 use Rattle.bisim_edges.specs.Plan.{planned, plan}
 use Rattle.bisim_edges.specs.declared.planner.Planned as answers
 use Rattle.bisim_edges.specs.declared.planner.Planned.the-variants as answer
-use Rattle.bisim_edges.proofs.Plans.{number-is, none-is, cramped}
+use Rattle.bisim_edges.proofs.Plans.{number-is, none-is, never-short, cramped}
 use Rattle.bisim_build.specs.Build.{short, refusal, Outcome, ends, modelled, made, settled, build}
 use Rattle.bisim_build.specs.declared.builder.Built.the-variants.{Model, Refused}
 
@@ -142,7 +142,11 @@ module _ (states : ℕ) (initial : Initial) (C : Transitions) (given : ℕ) (M :
 
       plan-is : plans.settled number (answer.Edges (length (edges C n)) (length (labelsOf C n))) ≡ p
       unfolding plan planned
-      plan-is = sym (e ∙ ap (λ (r : ℕ). plans.settled r (planned states initial C n)) (check-skip 7 (cramped C n 256 room) 0 0 roomy refl))
+      plan-is = sym (e ∙ ap (λ (b : Bool). plan b states initial C n) roomy)
+
+      -- the lists are long enough
+      pub plan-not-short : {P : Type 0} → p ≡ answer.Short → P
+      plan-not-short f = never-short number _ _ (plan-is ∙ f)
 
       pub plan-refused : (r : ℕ) → p ≡ answer.Refused r → ends (Refused r) M ≡ build states initial C given M
       plan-refused r f =

@@ -122,6 +122,7 @@ fn build_in(
             edge_targets,
             edge_weights,
         ),
+        Planned::Short => Built::Refused(7),
     }
 }
 

@@ -12,9 +12,9 @@ use lib.Seq.{length-take-le, getD-take}
 use borrow.Author.Tests.{lt-ltb, le-ltb, ltb-true, ltb-false, eqb-true, not-false}
 use Rattle.numbers.specs.Search.{seek}
 use Rattle.numbers.specs.Lists.{span, all}
-use Rattle.numbers.specs.Refuse.{check, first}
+use Rattle.numbers.specs.Refuse.{check}
 use Rattle.numbers.proofs.Bools.{lt-or-ge, or-f}
-use Rattle.numbers.proofs.Refuses.{check-hit, check-skip, check-none, first-hit, first-skip, hit, skip, none}
+use Rattle.numbers.proofs.Refuses.{check-hit, check-skip, check-none, first, first-hit, first-skip, hit, skip, none}
 use Rattle.numbers.proofs.Alls.{all-front}
 use Rattle.bisim_core.specs.Data.{Edge, Transitions}
 use Rattle.bisim_core.specs.Edges.{edges, numberedAt, crowdedIn}
@@ -27,7 +27,7 @@ use Rattle.bisim_core.proofs.Rows.{edges-length}
 use Rattle.bisim_edges.specs.Checks.{present, labelsOf, oversized, outside, unweighed, crowded}
 use Rattle.bisim_edges.specs.Plan.{refusal, settled, planned, plan}
 use Rattle.bisim_edges.specs.declared.planner.Planned.{Planned}
-use Rattle.bisim_edges.specs.declared.planner.Planned.the-variants.{Edges, Refused}
+use Rattle.bisim_edges.specs.declared.planner.Planned.the-variants.{Edges, Refused, Short}
 
 -- ---- an answer, and its number
 
@@ -48,6 +48,13 @@ none-is (suc x) a b m d e = let z : _≡_ {A = ℕ} 0 1 = cc in absurd (omega ar
 
 pub no-edges : {P : Type 0} (k m d : ℕ) → Refused k ≡ Edges m d → P
 no-edges k m d e = let z : _≡_ {A = ℕ} 0 1 = cc in absurd (omega arith)
+
+pub never-short : {P : Type 0} (x a b : ℕ) → settled x (Edges a b) ≡ Short → P
+never-short zero a b e = let z : _≡_ {A = ℕ} 0 1 = cc in absurd (omega arith)
+never-short (suc x) a b e = let z : _≡_ {A = ℕ} 0 1 = cc in absurd (omega arith)
+
+no-short : {P : Type 0} (m d : ℕ) → Short ≡ Edges m d → P
+no-short m d e = let z : _≡_ {A = ℕ} 0 1 = cc in absurd (omega arith)
 
 -- two checks, then those that come later
 two-first : (a b : Bool) (later : ℕ) → check 4 a (check 5 b later) ≡ first (check 4 a (check 5 b 0)) later
@@ -250,28 +257,35 @@ module _ (states : ℕ) (initial : Initial) (C : Transitions) (n values room : �
   abbrev sizes : Bool
   sizes = ltb 2000 states || ltb 4096 n
 
-  short-of : c7 ≡ true → Refused 7 ≡ plan (cramped C n values room) states initial C n
-  unfolding plan
-  short-of h = refused-is 7 (check 7 c7 0) (planned states initial C n) (check-hit 7 c7 0 h) (λ z. omega arith)
+  -- the answer where the counts rule something out
+  abbrev Said : ℕ → Planned → Type 0
+  Said x p = (x ≡ 7 → p ≡ Short) × (x ≢ 7 → p ≡ Refused x)
 
-  too-large : c7 ≡ false → sizes ≡ true → Refused 3 ≡ plan (cramped C n values room) states initial C n
+  short-of : c7 ≡ true → Short ≡ plan c7 states initial C n
+  unfolding plan
+  short-of h = subst (λ (b : Bool). Short ≡ plan b states initial C n) (sym h) refl
+
+  too-large : c7 ≡ false → sizes ≡ true → Refused 3 ≡ plan c7 states initial C n
   unfolding plan planned
   too-large h k =
       refused-is 3 (refusal states initial C n) (Edges (length (edges C n)) (length (labelsOf C n))) (check-hit 3 (oversized states C n n) _ (wider (ltb 2000 states) (ltb 4096 n) (ltb 256 (length (labelsOf C n))) k)) (λ z. omega arith)
-      ∙ done-is (check 7 c7 0) (planned states initial C n) (check-skip 7 c7 0 0 h refl)
+      ∙ sym (ap (λ (b : Bool). plan b states initial C n) h)
 
   module _ {r shortest there : ℕ} (e : r ≡ check 7 (not (eqb values 256) || (ltb shortest n || ltb (min n there) n)) (check 3 sizes 0)) (f : shortest ≡ room)
       (g : there ≡ min (length (C .sources)) (min (length (C .labels)) (min (length (C .targets)) (length (C .weights))))) where
     number : r ≡ check 7 c7 (check 3 sizes 0)
     number = e ∙ ap (λ (x : ℕ). check 7 (not (eqb values 256) || (ltb x n || ltb (min n there) n)) (check 3 sizes 0)) f ∙ ap (λ (x : ℕ). check 7 (not (eqb values 256) || (ltb room n || ltb (min n x) n)) (check 3 sizes 0)) g
 
-    pub ruled-out : r ≢ 0 → Refused r ≡ plan (cramped C n values room) states initial C n
-    ruled-out h = pick c7 refl sizes refl
+    pub ruled-out : {p : Planned} → r ≢ 0 → Said r p → (p ≡ plan c7 states initial C n) × ((m d : ℕ) → p ≡ Edges m d → ⊥)
+    ruled-out {p} h (said-7, said-3) = pick c7 refl sizes refl
       where
-        pick : (b : Bool) → c7 ≡ b → (o : Bool) → sizes ≡ o → Refused r ≡ plan (cramped C n values room) states initial C n
-        pick true p o q = subst (λ (x : ℕ). Refused x ≡ plan (cramped C n values room) states initial C n) (sym (number ∙ check-hit 7 c7 _ p)) (short-of p)
-        pick false p true q = subst (λ (x : ℕ). Refused x ≡ plan (cramped C n values room) states initial C n) (sym (number ∙ check-skip 7 c7 _ 3 p (check-hit 3 sizes 0 q))) (too-large p q)
-        pick false p false q = absurd (h (number ∙ check-skip 7 c7 _ 0 p (check-skip 3 sizes 0 0 q refl)))
+        pick : (b : Bool) → c7 ≡ b → (o : Bool) → sizes ≡ o → (p ≡ plan c7 states initial C n) × ((m d : ℕ) → p ≡ Edges m d → ⊥)
+        pick true b o q = let x = said-7 (number ∙ check-hit 7 c7 _ b) in (x ∙ short-of b, λ m d k. no-short m d (sym x ∙ k))
+        pick false b true q =
+            let a : r ≡ 3 = number ∙ check-skip 7 c7 _ 3 b (check-hit 3 sizes 0 q) in
+            let x = said-3 (λ z. omega arith) in
+            (x ∙ ap (λ (y : ℕ). Refused y) a ∙ too-large b q, λ m d k. no-edges r m d (sym x ∙ k))
+        pick false b false q = absurd (h (number ∙ check-skip 7 c7 _ 0 b (check-skip 3 sizes 0 0 q refl)))
 
     pub ready : r ≡ 0 → Ready states C n values room
     ready h =
@@ -288,6 +302,6 @@ module _ (states : ℕ) (initial : Initial) (C : Transitions) (n values room : �
         }
 
     -- the plan is then that of the other checks
-    pub plan-is : r ≡ 0 → planned states initial C n ≡ plan (cramped C n values room) states initial C n
+    pub plan-is : r ≡ 0 → planned states initial C n ≡ plan c7 states initial C n
     unfolding plan
-    plan-is h = done-is (check 7 c7 0) (planned states initial C n) (check-skip 7 c7 0 0 (check-none 6 c7 (check 3 sizes 0) (sym number ∙ h) .0) refl)
+    plan-is h = sym (ap (λ (b : Bool). plan b states initial C n) (check-none 6 c7 (check 3 sizes 0) (sym number ∙ h) .0))

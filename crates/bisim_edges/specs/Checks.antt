@@ -11,7 +11,7 @@ use Rattle.bisim_core.specs.Edges.{edges, crowdedIn}
 use Rattle.bisim_core.specs.Model.{startsOutside, weighs}
 use Rattle.bisim_core.specs.declared.wlts.Initial.{Initial}
 
--- how many of the transitions given are there: as many as the shortest column has
+-- how many of the transitions given are there: at most as many as the shortest column has
 abbrev pub present : Transitions → ℕ → ℕ
 present C given = min given (min (length (C .sources)) (min (length (C .labels)) (min (length (C .targets)) (length (C .weights)))))
 

@@ -1,6 +1,6 @@
--- `plan`: the counts of a model to be built, or the first check that fails.
+-- `plan`: the counts of a model to be built, or the first check that fails; or neither, where a list is short.
 use Prim.Native.Nat.{ℕ, zero, suc}
-use mathlib.Core.Bool.{Bool}
+use mathlib.Core.Bool.{Bool, true, false}
 use lib.ListN.{length}
 use Rattle.numbers.specs.Refuse.{check}
 use Rattle.numbers.specs.Lists.{span, all}
@@ -9,7 +9,7 @@ use Rattle.bisim_core.specs.Edges.{edges, crowdedIn}
 use Rattle.bisim_core.specs.declared.wlts.Initial.{Initial}
 use Rattle.bisim_edges.specs.Checks.{labelsOf, oversized, outside, unweighed, crowded}
 use Rattle.bisim_edges.specs.declared.planner.Planned.{Planned}
-use Rattle.bisim_edges.specs.declared.planner.Planned.the-variants.{Edges, Refused}
+use Rattle.bisim_edges.specs.declared.planner.Planned.the-variants.{Edges, Refused, Short}
 
 -- the first of checks 3 to 6 that fails, in the list's order; 0 if none does
 abbrev pub refusal : ℕ → Initial → Transitions → ℕ → ℕ
@@ -29,7 +29,8 @@ unfoldable pub planned : ℕ → Initial → Transitions → ℕ → Planned
 unfolding all crowdedIn edges span
 planned states initial C n = settled (refusal states initial C n) (Edges (length (edges C n)) (length (labelsOf C n)))
 
--- 7 where a list is short; it comes before the others, which need the n transitions
+-- the checks need the lists: where one is short they are not made
 unfoldable pub plan : Bool → ℕ → Initial → Transitions → ℕ → Planned
 unfolding planned
-plan short states initial C n = settled (check 7 short 0) (planned states initial C n)
+plan true states initial C n = Short
+plan false states initial C n = planned states initial C n

@@ -6,6 +6,7 @@ use bisim_core::wlts::Initial;
 use numbers::least;
 ghost use mathlib.Core.Path.{_≡_};
 ghost use mathlib.Core.Bool.{_||_, not};
+ghost use mathlib.Core.Logic.{_≢_};
 ghost use Prim.Native.Nat.{ℕ, min};
 ghost use lib.Dec.{eqb, ltb};
 ghost use lib.ListN.{length};
@@ -15,10 +16,11 @@ ghost use Rattle.bisim_core.proofs.Steps;
 ghost use Rattle.bisim_edges.specs.Checks.{present};
 ghost use Rattle.bisim_edges.specs.Plan;
 
-// How many edges and how many labels there are, or the number of the first check that fails.
+// How many edges and how many labels there are, or the number of the first check that fails, or that a list lent is short.
 pub enum Planned {
     Edges(usize, usize),
     Refused(u32),
+    Short,
 }
 
 // What the counts rule out: 7 by those of label values, of the shortest list lent and of the shortest column, 3 by those of states and transitions; 0 if nothing.
@@ -43,7 +45,17 @@ fn unready(states: usize, n: usize, values: usize, room: usize, there: usize) ->
     0
 }
 
-// The edges of the first n transitions, or the number of the first check that fails; 7 where `store` has other than 256 places or another list under n.
+// What a plan answers where the counts rule something out: 7 is said in a word of its own, since here it comes before the others.
+fn unplanned(number: u32) -> Planned
+    ensures { λ r. ⌜ (number ≡ 7 → r ≡ Planned.Short) × (number ≢ 7 → r ≡ Planned.Refused number) ⌝ }
+{
+    if number == 7 {
+        return Planned::Short;
+    }
+    Planned::Refused(number)
+}
+
+// The edges of the first n transitions, or the number of the first of checks 3 to 6 that fails, or that `store` has other than 256 places or another list under n.
 // The label values by their ids are then in `store`, and the edges in `triples` and `sums`. What else the last five lists hold is left free, and all of it after a refusal.
 pub fn plan(
     states: usize,
@@ -70,7 +82,7 @@ pub fn plan(
     let there = least(sources.len(), labels.len(), targets.len(), weights.len());
     let first = unready(states, n, store.len(), room, there);
     if first != 0 {
-        return Planned::Refused(first);
+        return unplanned(first);
     }
     let count = intern_all(labels, n, store, ids);
     if count > 256 {

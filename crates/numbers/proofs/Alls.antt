@@ -9,7 +9,7 @@ use native.Mathlib.Numerals.{add-one}
 use native.Mathlib.Nat.{le-of-suc-le-suc, not-suc-le-zero}
 use lib.ListN.{length, getD, take}
 use lib.Seq.{slice, slice-cons, slice-empty, length-take-le, getD-take}
-use Rattle.numbers.specs.Lists.{every, all, any}
+use Rattle.numbers.specs.Lists.{every, all}
 use Rattle.numbers.proofs.Bools.{and-t, or-f, eq-or-ne}
 
 module _ {ℓ} {A : Type ℓ} (t : A → Bool) where
@@ -51,34 +51,6 @@ module _ {ℓ} {A : Type ℓ} (t : A → Bool) where
       assoc : (p q r : Bool) → (p && (q && r)) ≡ ((p && q) && r)
       assoc true q r = refl
       assoc false q r = refl
-
-  -- the same for some entry
-  module _ (l : List A) (n i : ℕ) (z : A) (h : i < n) (k : n ≤ length l) where
-    pub any-stop : t (getD l i z) ≡ true → any t (slice i n l) ≡ true
-    unfolding any
-    any-stop e = ap (any t) (slice-cons i n l z h k) ∙ rw e
-
-    pub any-on : t (getD l i z) ≡ false → any t (slice i n l) ≡ any t (slice (i + 1) n l)
-    unfolding any
-    any-on e = rw (add-one i) (ap (any t) (slice-cons i n l z h k) ∙ rw e)
-
-  pub any-end : (l : List A) (n i : ℕ) → i ≡ n → any t (slice i n l) ≡ false
-  unfolding any
-  any-end l n i e = ap (any t) (ap (λ (j : ℕ). slice j n l) e ∙ slice-empty n l)
-
-  -- what holds of none fails of each
-  pub any-not : (l : List A) (z : A) → any t l ≡ false → (j : ℕ) → j < length l → t (getD l j z) ≡ false
-  unfolding any
-  any-not [] z e j h = absurd (not-suc-le-zero h)
-  any-not (x ∷ l) z e zero h = or-f (t x) (any t l) e .0
-  any-not (x ∷ l) z e (suc j) h = any-not l z (or-f (t x) (any t l) e .1) j (le-of-suc-le-suc h)
-
-  -- one that holds decides
-  pub any-at : (l : List A) (z : A) (j : ℕ) → j < length l → t (getD l j z) ≡ true → any t l ≡ true
-  unfolding any
-  any-at [] z j h e = absurd (not-suc-le-zero h)
-  any-at (x ∷ l) z zero h e = ap (λ (b : Bool). b || any t l) e
-  any-at (x ∷ l) z (suc j) h e = ap (λ (b : Bool). t x || b) (any-at l z j (le-of-suc-le-suc h) e) ∙ or-true (t x)
 
 module _ (t : ℕ → Bool) where
   -- a loop over numbers has passed those below i

@@ -4,7 +4,12 @@ use mathlib.Core.Bool.{Bool, true, false, _||_, true≢false, false≢true}
 use mathlib.Core.Logic.{_≢_}
 use Prim.Native.Nat.{ℕ, zero, suc}
 use native.Mathlib.Omega.{arith}
-use Rattle.numbers.specs.Refuse.{check, first}
+use Rattle.numbers.specs.Refuse.{check}
+
+-- a refusal that was found, or, where it is 0, what the later checks say
+abbrev pub first : ℕ → ℕ → ℕ
+first zero later = later
+first (suc n) later = suc n
 
 -- a check fails: those before it are skipped
 pub check-hit : (n : ℕ) (b : Bool) (later : ℕ) → b ≡ true → check n b later ≡ n

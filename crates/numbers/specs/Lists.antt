@@ -1,6 +1,6 @@
 -- Lists: numbers in a row, tests of every entry, and a result written over the front of a list.
 use Prim.Native.Nat.{ℕ, zero, suc}
-use mathlib.Core.Bool.{Bool, true, false, _&&_, _||_}
+use mathlib.Core.Bool.{Bool, true, _&&_}
 use mathlib.Core.List.{List, [], _∷_, _++_}
 use lib.ListN.{length, drop}
 
@@ -18,11 +18,6 @@ every t (suc n) = t n && every t n
 unfoldable pub all {ℓ} : {A : Type ℓ} → (A → Bool) → List A → Bool
 all t [] = true
 all t (a ∷ l) = t a && all t l
-
--- does a test hold of some entry
-unfoldable pub any {ℓ} : {A : Type ℓ} → (A → Bool) → List A → Bool
-any t [] = false
-any t (a ∷ l) = t a || any t l
 
 -- a result over the front of what was there: entries past its end keep their contents
 abbrev pub over {ℓ} : {A : Type ℓ} → List A → List A → List A

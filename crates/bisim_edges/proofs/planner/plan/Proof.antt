@@ -51,8 +51,14 @@ least-requires-2 c κs = search needs
 unready-requires : tie.Need-unready-requires
 unready-requires c κs = search needs
 
+unplanned-requires : tie.Need-unplanned-requires
+unplanned-requires c κs = search needs
+
 returns : tie.Need-returns
-returns c = (ruled-out (c .before .before .before .before .before .before .before .before .before .before .before .before .before .args .states) (c .before .before .before .before .before .before .before .before .before .before .before .before .before .args .initial) (col (c .before .before .before .before .before .before .before .before .before .before .before .before .before)) (c .before .before .before .before .before .before .before .before .before .before .before .before .before .args .n) (values (c .before .before .before .before .before .before .before .before .before .before .before .before .before)) (room (c .before .before .before .before .before .before .before .before .before .before .before .before .before)) (c .before .unready .ensures) (c .before .before .before .least .ensures) (c .before .before .least2 .ensures) (c .if1 .taken), λ m d e. no-edges _ m d e)
+returns c =
+    let s = c .before .before .before .before .before .before .before .before .before .before .before .before .before .before in
+    let (a, none) = ruled-out (s .args .states) (s .args .initial) (col s) (s .args .n) (values s) (room s) (c .before .before .unready .ensures) (c .before .before .before .before .least .ensures) (c .before .before .before .least2 .ensures) (c .before .if1 .taken) (c .unplanned .ensures) in
+    (a, λ m d e. absurd (none m d e))
 
 intern-all-requires : tie.Need-intern-all-requires
 intern-all-requires c κs = let k = call (c .before .before) in let R = readies (c .before .before) in let a = R .n-in in let v = R .values-are in (l-in k, omega arith, omega arith)
@@ -136,6 +142,7 @@ plan-spec =
     least-requires
     least-requires-2
     unready-requires
+    unplanned-requires
     returns
     intern-all-requires
     same-length
