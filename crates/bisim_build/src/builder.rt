@@ -84,8 +84,7 @@ fn build_in(
     sums: &mut [f64],
 ) -> Built
     requires { ⌜ (given ≤ 4096) × (n ≡ present (transitions (now sources) (now labels) (now targets) (now weights)) given) × (n ≤ length (now ids)) × (n ≤ length (now keys)) × (n ≤ length (now triples)) × (n ≤ length (now sums)) ⌝ }
-    ensures { λ r. ⌜ ends r (columns (now («label_values» .exit)) (now (offsets .exit)) (now («edge_labels» .exit)) (now («edge_targets» .exit)) (now («edge_weights» .exit)))
-        ≡ Build.build states initial (transitions (now (sources .entry)) (now (labels .entry)) (now (targets .entry)) (now (weights .entry))) given (columns (now («label_values» .entry)) (now (offsets .entry)) (now («edge_labels» .entry)) (now («edge_targets» .entry)) (now («edge_weights» .entry))) ⌝ }
+    ensures { λ r. ⌜ ends r (columns (now («label_values» .exit)) (now (offsets .exit)) (now («edge_labels» .exit)) (now («edge_targets» .exit)) (now («edge_weights» .exit))) ≡ Build.build states initial (transitions (now (sources .entry)) (now (labels .entry)) (now (targets .entry)) (now (weights .entry))) given (columns (now («label_values» .entry)) (now (offsets .entry)) (now («edge_labels» .entry)) (now («edge_targets» .entry)) (now («edge_weights» .entry))) ⌝ }
 {
     let mut store = [0u32; 256];
     let planned = plan(
