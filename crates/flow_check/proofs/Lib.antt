@@ -1,0 +1,5 @@
+pub mod Checking
+pub mod Laying
+pub mod Accepting
+pub mod Deciding
+pub mod Relists

@@ -1,0 +1,2 @@
+pub mod Theorem
+pub mod Figures

@@ -1,0 +1,6 @@
+pub mod Network
+pub mod Levels
+pub mod Augment
+pub mod Run
+pub mod Rows
+pub mod Claim
