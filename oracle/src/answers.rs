@@ -15,13 +15,18 @@ pub type Model = Wlts<u32, Real>;
 
 /// An input that the oracle answers.
 pub trait Oracle: Input {
-    /// The answer lines of the case.
+    /// The answer lines of the case, with all lent memory.
     fn oracle(&self) -> Vec<Field>;
+
+    /// Of the answer lines those that the text form has.
+    fn shown(&self, fields: Vec<Field>) -> Vec<Field> {
+        fields
+    }
 
     /// The whole case.
     fn case(&self) -> Case {
         let mut fields = self.fields();
-        fields.extend(self.oracle());
+        fields.extend(self.shown(self.oracle()));
         Case {
             kind: Self::KIND,
             fields,
@@ -131,9 +136,22 @@ fn lay_out(model: &Model, stores: &mut Columns) {
     }
 }
 
+/// DECIDED (docs/DECISIONS.md, "The transitions that are there"): what a column has past the end of the shortest one is
+/// no part of a transition, and is not checked. The refusals, left to themselves, check it (POINTS.md, P6).
+fn whole(a: &BuildArgs) -> BuildArgs {
+    let columns = [&a.sources, &a.labels, &a.targets].map(Vec::len);
+    let there = columns.into_iter().fold(a.weights.len(), usize::min);
+    let mut args = a.clone();
+    args.sources.truncate(there);
+    args.labels.truncate(there);
+    args.targets.truncate(there);
+    args.weights.truncate(there);
+    args
+}
+
 impl Oracle for BuildArgs {
     fn oracle(&self) -> Vec<Field> {
-        let refusal = build_refusal(self);
+        let refusal = build_refusal(&whole(self));
         let mut stores = self.stores.clone();
         let mut values = vec![Value::Number(0); 2];
         if refusal == 0 {

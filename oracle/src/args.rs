@@ -86,6 +86,47 @@ pub struct ReadArgs {
     pub value: u32,
 }
 
+/// A network handed in: `count` links in use, reverses included; link e leads to `heads[e]`; node u's list is
+/// `list[starts[u]..starts[u + 1]]`. Places past those listed are 0.
+#[derive(Debug, Clone, PartialEq)]
+pub struct NetworkArgs {
+    pub nodes: usize,
+    pub count: usize,
+    pub heads: Vec<u32>,
+    pub caps: Vec<f64>,
+    pub costs: Vec<f64>,
+    pub starts: Vec<u32>,
+    pub list: Vec<u32>,
+}
+
+/// `max_flow`.
+#[derive(Debug, Clone)]
+pub struct FlowArgs {
+    pub network: NetworkArgs,
+    pub source: usize,
+    pub sink: usize,
+}
+
+/// `max_flow` over rows that hold the links in use and no others.
+#[derive(Debug, Clone)]
+pub struct RowsArgs(pub FlowArgs);
+
+/// `add_edge`.
+#[derive(Debug, Clone)]
+pub struct EdgeArgs {
+    pub network: NetworkArgs,
+    pub from: usize,
+    pub to: usize,
+    pub capacity: f64,
+    pub cost: f64,
+}
+
+/// `new`.
+#[derive(Debug, Clone)]
+pub struct NodesArgs {
+    pub nodes: usize,
+}
+
 impl Columns {
     /// Lent stores of these lengths, filled with values that no result has at that place.
     pub fn filled(labels: usize, offsets: usize, edges: usize) -> Self {
@@ -136,6 +177,13 @@ pub fn reals(name: &'static str, list: &[f64]) -> Field {
     }
 }
 
+fn real(name: &'static str, x: f64) -> Field {
+    Field {
+        name,
+        value: Value::Real(x),
+    }
+}
+
 /// The number, or absent.
 pub fn maybe(n: Option<u32>) -> Value {
     n.map_or(Value::Absent, |n| Value::Number(n.into()))
@@ -161,11 +209,7 @@ impl Input for RealArgs {
     const KIND: &'static str = "real";
 
     fn fields(&self) -> Vec<Field> {
-        let x = Field {
-            name: "x",
-            value: Value::Real(self.x),
-        };
-        vec![x, reals("xs", &self.xs)]
+        vec![real("x", self.x), reals("xs", &self.xs)]
     }
 
     fn parts(&self) -> usize {
@@ -253,5 +297,131 @@ impl Input for ReadArgs {
         fields.push(number("id", self.id.into()));
         fields.push(number("value", self.value.into()));
         fields
+    }
+}
+
+impl NetworkArgs {
+    /// The seven lines.
+    fn fields(&self) -> Vec<Field> {
+        vec![
+            number("nodes", self.nodes as u64),
+            number("count", self.count as u64),
+            numbers("heads", &self.heads),
+            reals("caps", &self.caps),
+            reals("costs", &self.costs),
+            numbers("starts", &self.starts),
+            numbers("list", &self.list),
+        ]
+    }
+
+    /// Added links that are listed.
+    fn pairs(&self) -> usize {
+        let listed = [self.heads.len(), self.caps.len(), self.costs.len()];
+        listed.into_iter().fold(self.count, usize::min) / 2
+    }
+
+    /// Without the added links `from..to`; the others keep their order, and their places in the node lists.
+    fn without(&self, from: usize, to: usize) -> Self {
+        let gone = 2 * from as u32..2 * to as u32;
+        let taken = gone.end - gone.start;
+        let kept = self.list.iter().filter(|e| !gone.contains(e));
+        let before = |start: u32| {
+            let listed = self.list.iter().take(start as usize);
+            listed.filter(|e| gone.contains(e)).count() as u32
+        };
+        Self {
+            nodes: self.nodes,
+            count: self.count - taken as usize,
+            heads: cut(&self.heads, 2 * from, 2 * to),
+            caps: cut(&self.caps, 2 * from, 2 * to),
+            costs: cut(&self.costs, 2 * from, 2 * to),
+            starts: self.starts.iter().map(|&s| s - before(s)).collect(),
+            list: kept
+                .map(|&e| if e < gone.end { e } else { e - taken })
+                .collect(),
+        }
+    }
+}
+
+impl FlowArgs {
+    /// The same over rows of the links in use and no others; none where not all of them are listed.
+    pub fn rows(&self) -> Option<RowsArgs> {
+        let mut a = self.clone();
+        let n = &mut a.network;
+        n.heads.truncate(n.count);
+        n.caps.truncate(n.count);
+        n.costs.truncate(n.count);
+        let listed = [n.heads.len(), n.caps.len(), n.costs.len()];
+        (listed == [n.count; 3]).then(|| RowsArgs(a))
+    }
+}
+
+impl Input for FlowArgs {
+    const KIND: &'static str = "flow";
+
+    fn fields(&self) -> Vec<Field> {
+        let mut fields = self.network.fields();
+        fields.push(number("source", self.source as u64));
+        fields.push(number("sink", self.sink as u64));
+        fields
+    }
+
+    fn parts(&self) -> usize {
+        self.network.pairs()
+    }
+
+    fn without(&self, from: usize, to: usize) -> Self {
+        Self {
+            network: self.network.without(from, to),
+            ..*self
+        }
+    }
+}
+
+impl Input for RowsArgs {
+    const KIND: &'static str = "rows";
+
+    fn fields(&self) -> Vec<Field> {
+        self.0.fields()
+    }
+
+    fn parts(&self) -> usize {
+        self.0.parts()
+    }
+
+    fn without(&self, from: usize, to: usize) -> Self {
+        Self(self.0.without(from, to))
+    }
+}
+
+impl Input for EdgeArgs {
+    const KIND: &'static str = "edge";
+
+    fn fields(&self) -> Vec<Field> {
+        let mut fields = self.network.fields();
+        fields.push(number("from", self.from as u64));
+        fields.push(number("to", self.to as u64));
+        fields.push(real("capacity", self.capacity));
+        fields.push(real("cost", self.cost));
+        fields
+    }
+
+    fn parts(&self) -> usize {
+        self.network.pairs()
+    }
+
+    fn without(&self, from: usize, to: usize) -> Self {
+        Self {
+            network: self.network.without(from, to),
+            ..*self
+        }
+    }
+}
+
+impl Input for NodesArgs {
+    const KIND: &'static str = "nodes";
+
+    fn fields(&self) -> Vec<Field> {
+        vec![number("nodes", self.nodes as u64)]
     }
 }

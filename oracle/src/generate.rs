@@ -1,13 +1,22 @@
 //! Inputs for the comparison: short ones exhaustively, random ones at each limit, damaged copies of good ones.
 //!
-//! Everything follows from a seed. The kinds `metric` and `card` serve entries that are compared later.
+//! Everything follows from a seed. The kind `card` and parts of `metric` serve entries that are compared later.
 
 pub mod build;
 pub mod card;
+pub mod faults;
 pub mod labels;
 pub mod metric;
 pub mod model;
+pub mod network;
 pub mod remainders;
+
+/// 2^-40, the least weight that is not zero.
+pub const LEAST_WEIGHT: f64 = 1.0 / (1u64 << 40) as f64;
+/// 2^40, the greatest weight given.
+pub const GREATEST_WEIGHT: f64 = (1u64 << 40) as f64;
+/// 2^52, the greatest joined weight.
+pub const GREATEST_JOINED: f64 = (1u64 << 52) as f64;
 
 /// SplitMix64.
 #[derive(Debug, Clone)]

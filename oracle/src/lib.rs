@@ -6,9 +6,11 @@ pub mod args;
 pub mod bisim_core;
 pub mod bisim_metric;
 pub mod generate;
+pub mod network;
 #[cfg(feature = "ours")]
 pub mod ours;
 pub mod pairs;
 pub mod refusals;
+pub mod rows;
 pub mod sample;
 pub mod text;

@@ -1,6 +1,8 @@
 //! The static library that is compared, by its C interface: a slice is a pointer and a length, a reference a pointer.
 //! Each function returns a refusal's number, or 0 with its answer behind the references.
 
+pub mod network;
+
 use crate::answers::{Oracle, answer};
 use crate::args::{BuildArgs, InternArgs, LabelArgs, ModelArgs, ReadArgs, RealArgs, numbers};
 use crate::text::{Field, Value};

@@ -1,6 +1,6 @@
 //! The answers of the two sides, set against each other.
 
-use crate::text::{Field, Value, same};
+use crate::text::{Field, Value, same, same_real};
 
 /// Each answer line with the lent lists after it.
 fn by_entry(fields: &[Field]) -> Vec<&[Field]> {
@@ -22,6 +22,21 @@ pub fn paired<'a>(expected: &'a [Field], got: &'a [Field]) -> Vec<(&'a [Field], 
 pub fn alike(a: &[Field], b: &[Field]) -> bool {
     let line = |(a, b): (&Field, &Field)| a.name == b.name && same(&a.value, &b.value);
     a.len() == b.len() && a.iter().zip(b).all(line)
+}
+
+/// The first line that differs, and of a list the place.
+pub fn first_difference(a: &[Field], b: &[Field]) -> String {
+    let mut lines = a.iter().zip(b);
+    let line = lines.find(|(a, b)| a.name != b.name || !same(&a.value, &b.value));
+    let Some((a, b)) = line else {
+        return "the number of lines".into();
+    };
+    let place = match (&a.value, &b.value) {
+        (Value::Numbers(x), Value::Numbers(y)) => x.iter().zip(y).position(|(x, y)| x != y),
+        (Value::Reals(x), Value::Reals(y)) => x.iter().zip(y).position(|(&x, &y)| !same_real(x, y)),
+        _ => None,
+    };
+    place.map_or(a.name.into(), |i| format!("{} {i}", a.name))
 }
 
 #[cfg(test)]
@@ -74,5 +89,15 @@ mod tests {
             got[i].name = "other";
             assert_eq!(differ(&got), [i < 2, i == 2]);
         }
+    }
+
+    #[test]
+    fn the_first_difference_is_named() {
+        let mut got = two();
+        got[1] = numbers("labels", &[7, 6]);
+        assert_eq!(first_difference(&two(), &got), "labels 1");
+        got[0] = answer("intern", 7, vec![Value::Number(3)]);
+        assert_eq!(first_difference(&two(), &got), "intern");
+        assert_eq!(first_difference(&two(), &two()[..2]), "the number of lines");
     }
 }

@@ -1,14 +1,17 @@
 //! The fixed list of cases that is replayed without Rust: figures of document 01, some of the short inputs, random ones.
+//! The networks, its second part, are in `flow`.
+
+pub mod flow;
 
 use crate::answers::{Oracle, handed_in};
 use crate::args::{BuildArgs, Columns, InternArgs, LabelArgs, ModelArgs, ReadArgs, RealArgs};
 use crate::generate::build::{BAD, Transition, from_transitions};
-use crate::generate::{self, Rng, build, model};
-use crate::refusals::{GREATEST_JOINED, GREATEST_WEIGHT, LEAST_WEIGHT};
+use crate::generate::{self, GREATEST_JOINED, GREATEST_WEIGHT, LEAST_WEIGHT, Rng, build, model};
 use crate::text::{Case, Value, write_case};
 
 /// Random cases of each kind, beside the chosen ones.
 const RANDOM: usize = 95;
+
 /// Every `step`th of the inputs that `all` makes.
 fn every<A>(step: usize, all: impl Fn(&mut dyn FnMut(A))) -> Vec<A> {
     let (mut turn, mut kept) = (0, Vec::new());
@@ -250,9 +253,14 @@ fn fits(case: &Case) -> bool {
     })
 }
 
-fn texts<A: Oracle>(inputs: Vec<A>) -> String {
+/// The cases of these inputs that `fits` takes.
+fn lines<A: Oracle>(inputs: Vec<A>, fits: fn(&Case) -> bool) -> String {
     let cases = inputs.iter().map(Oracle::case).filter(fits);
     cases.map(|case| write_case(&case)).collect()
+}
+
+fn texts<A: Oracle>(inputs: Vec<A>) -> String {
+    lines(inputs, fits)
 }
 
 /// The whole list in the text form, with the oracle's answers.
@@ -275,18 +283,19 @@ mod tests {
     use crate::text::read_cases;
 
     #[test]
-    fn the_list_covers_every_refusal_and_stays_short() {
-        let text = text();
-        assert!(text.len() < 320_000, "{} bytes", text.len());
+    fn the_lists_cover_every_refusal_and_stay_short() {
+        let (models, flows) = (text(), flow::text());
+        assert!(models.len() < 320_000, "{} bytes", models.len());
+        assert!(flows.len() < 640_000, "{} bytes", flows.len());
         let mut counts: BTreeMap<(&str, u32), usize> = BTreeMap::new();
-        for case in read_cases(&text).unwrap() {
+        for case in read_cases(&(models + &flows)).unwrap() {
             for field in case.fields {
                 if let Value::Answer(refusal, _) = field.value {
                     *counts.entry((field.name, refusal)).or_default() += 1;
                 }
             }
         }
-        for &(name, row) in crate::refusals::ROWS {
+        for &(name, row) in crate::rows::ROWS {
             let count = |r: &u32| counts.get(&(name, *r)).copied().unwrap_or(0);
             let total: usize = count(&0) + row.iter().map(count).sum::<usize>();
             assert!(total >= 200, "{name}: {total}");

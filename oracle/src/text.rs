@@ -120,18 +120,44 @@ const MODEL: Shape = &[
     ("label_id", Answer(&[Maybe])),
 ];
 
-/// A network, and what `max_flow` gives: flow, phases, pushes, capacities left (two per added link).
+/// A network, and what `max_flow` gives: flow, phases, pushes; then the capacities left.
 const FLOW: Shape = &[
     ("nodes", Number),
-    ("from", Numbers),
-    ("to", Numbers),
-    ("capacities", Reals),
+    ("count", Number),
+    ("heads", Numbers),
+    ("caps", Reals),
     ("costs", Reals),
+    ("starts", Numbers),
+    ("list", Numbers),
     ("source", Number),
     ("sink", Number),
     ("max_flow", Answer(&[Real, Number, Number])),
-    ("left", Reals),
+    ("caps", Reals),
 ];
+
+/// A network, and how many links it has with one more; then the network.
+const EDGE: Shape = &[
+    ("nodes", Number),
+    ("count", Number),
+    ("heads", Numbers),
+    ("caps", Reals),
+    ("costs", Reals),
+    ("starts", Numbers),
+    ("list", Numbers),
+    ("from", Number),
+    ("to", Number),
+    ("capacity", Real),
+    ("cost", Real),
+    ("add_edge", Answer(&[Number])),
+    ("heads", Numbers),
+    ("caps", Reals),
+    ("costs", Reals),
+    ("starts", Numbers),
+    ("list", Numbers),
+];
+
+/// How many nodes the new network has.
+const NODES: Shape = &[("nodes", Number), ("new", Answer(&[Number]))];
 
 /// Masses and costs by row, and what `transport` gives: total, cells; then the plan.
 const TRANSPORT: Shape = &[
@@ -202,6 +228,8 @@ pub const SHAPES: &[(&str, Shape)] = &[
     ("build", BUILD),
     ("model", MODEL),
     ("flow", FLOW),
+    ("edge", EDGE),
+    ("nodes", NODES),
     ("transport", TRANSPORT),
     ("relation", RELATION),
     ("distance", DISTANCE),

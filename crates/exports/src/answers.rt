@@ -6,9 +6,11 @@ use bisim_core::ids::Resolved;
 use bisim_core::wlts::Counted;
 use bisim_core::wlts::Start;
 use bisim_core::wlts::Successors;
+use flow_core::rows::Answer;
 ghost use mathlib.Core.Path.{_≡_};
 ghost use mathlib.Core.List.{[], _∷_};
 ghost use Rattle.exports.specs.Answers.{ofInterned, ofFound, ofResolved, ofCounted, ofStart, ofSuccessors, ofBuilt};
+ghost use Rattle.exports.specs.Networks.{told, ofFlow};
 
 pub(crate) fn put_interned(answer: Interned, id: &mut u32, total: &mut usize) -> u32
     ensures { λ r. ⌜ r ∷ now (id .exit) ∷ now (total .exit) ∷ [] ≡ ofInterned answer (now (id .entry)) (now (total .entry)) ⌝ }
@@ -104,5 +106,28 @@ pub(crate) fn put_built(answer: Built, edges: &mut usize, labels: &mut usize) ->
             0
         }
         Built::Refused(k) => k,
+    }
+}
+
+pub(crate) fn put_flow(
+    answer: Answer,
+    flow: &mut f64,
+    phases: &mut usize,
+    pushes: &mut usize,
+) -> u32
+    ensures { λ r. ⌜ told r (now (flow .exit)) (now (phases .exit)) (now (pushes .exit)) ≡ ofFlow answer (now (flow .entry)) (now (phases .entry)) (now (pushes .entry)) ⌝ }
+{
+    match answer {
+        Answer::Flow {
+            flow: f,
+            phases: p,
+            pushes: q,
+        } => {
+            *flow = f;
+            *phases = p;
+            *pushes = q;
+            0
+        }
+        Answer::Refused(k) => k,
     }
 }

@@ -1,6 +1,7 @@
-// The library for C and Rust: numbers, slices and references to numbers only. Where a function can refuse, it returns the refusal's
+// The library for C and Rust: numbers, slices and references to numbers, and to networks of links. Where a function can refuse, it returns the refusal's
 // number, or 0 with its answer behind the references at its end, which a refusal leaves as they were.
 mod answers; // answers.rt: answers as numbers
+mod networks; // networks.rt: networks of links
 
 use bisim_build::builder;
 use bisim_core::ids;

@@ -2,15 +2,6 @@
 use crate::tally;
 use crate::text;
 use crate::text::Reader;
-use bisim_build::builder::Built;
-use bisim_core::ids::Found;
-use bisim_core::ids::Interned;
-use bisim_core::ids::Resolved;
-use bisim_core::ids::StateId;
-use bisim_core::wlts::Counted;
-use bisim_core::wlts::Initial;
-use bisim_core::wlts::Start;
-use bisim_core::wlts::Successors;
 
 pub struct Answer {
     pub refusal: u32,
@@ -34,73 +25,6 @@ pub fn given(first: u64, second: u64) -> Answer {
     }
 }
 
-pub fn of_interned(a: Interned) -> Answer {
-    match a {
-        Interned::Id(id, n) => {
-            let i = id.0;
-            given(i as u64, n as u64)
-        }
-        Interned::Refused(k) => refused(k),
-    }
-}
-
-pub fn of_found(a: Found) -> Answer {
-    match a {
-        Found::Id(id) => {
-            let i = id.0;
-            given(i as u64, 0)
-        }
-        Found::Absent => given(text::ABSENT, 0),
-        Found::Refused(k) => refused(k),
-    }
-}
-
-pub fn of_resolved(a: Resolved) -> Answer {
-    match a {
-        Resolved::Label(x) => given(x as u64, 0),
-        Resolved::Refused(k) => refused(k),
-    }
-}
-
-pub fn of_counted(a: Counted) -> Answer {
-    match a {
-        Counted::Number(n) => given(n as u64, 0),
-        Counted::Refused(k) => refused(k),
-    }
-}
-
-pub fn of_start(a: Start) -> Answer {
-    match a {
-        Start::At(s) => {
-            let i = s.0;
-            given(i as u64, 0)
-        }
-        Start::Absent => given(text::ABSENT, 0),
-        Start::Refused(k) => refused(k),
-    }
-}
-
-pub fn of_successors(a: Successors) -> Answer {
-    match a {
-        Successors::Edges(from, to) => given(from as u64, to as u64),
-        Successors::Refused(k) => refused(k),
-    }
-}
-
-pub fn of_built(a: Built) -> Answer {
-    match a {
-        Built::Model(shape) => given(shape.edges as u64, shape.labels as u64),
-        Built::Refused(k) => refused(k),
-    }
-}
-
-pub fn to_initial(x: u64) -> Initial {
-    if x == text::ABSENT {
-        return Initial::Absent;
-    }
-    Initial::At(StateId(text::narrow(x)))
-}
-
 // An answer of one value.
 pub fn expect_one(buf: &mut [u8; 65536], r: Reader, a: Answer) -> Reader {
     let s = text::name(buf, r);
@@ -117,7 +41,7 @@ pub fn expect_two(buf: &mut [u8; 65536], r: Reader, a: Answer) -> Reader {
 pub fn check_one(
     buf: &mut [u8; 65536],
     r: Reader,
-    counts: &mut [u64; 34],
+    counts: &mut [u64; 40],
     entry: usize,
     a: Answer,
 ) -> Reader {
@@ -128,7 +52,7 @@ pub fn check_one(
 pub fn check_two(
     buf: &mut [u8; 65536],
     r: Reader,
-    counts: &mut [u64; 34],
+    counts: &mut [u64; 40],
     entry: usize,
     a: Answer,
 ) -> Reader {
@@ -140,7 +64,7 @@ pub fn check_two(
 pub fn check_refusal(
     buf: &mut [u8; 65536],
     r: Reader,
-    counts: &mut [u64; 34],
+    counts: &mut [u64; 40],
     entry: usize,
     refusal: u32,
 ) -> Reader {

@@ -1,6 +1,8 @@
 // The kind `build`: a model from transitions in columns.
 use crate::answers;
 use crate::answers::Answer;
+use crate::entries;
+use crate::outcomes;
 use crate::tally;
 use crate::text;
 use crate::text::Reader;
@@ -47,7 +49,7 @@ fn check(
     edge_weights: &mut [f64],
 ) -> Reader {
     let initial = x.initial;
-    let a = answers::of_built(builder::build(
+    let a = outcomes::of_built(builder::build(
         x.states,
         initial,
         sources,
@@ -135,16 +137,16 @@ fn run_columns(buf: &mut [u8; 65536], r: Reader, x: Asked) -> Reader {
     )
 }
 
-pub fn run(buf: &mut [u8; 65536], r: Reader, counts: &mut [u64; 34]) -> Reader {
+pub fn run(buf: &mut [u8; 65536], r: Reader, counts: &mut [u64; 40]) -> Reader {
     let states = text::number_field(buf, r);
     let initial = text::number_field(buf, states.r);
     let given = text::number_field(buf, initial.r);
-    let start = answers::to_initial(initial.x);
+    let start = outcomes::to_initial(initial.x);
     let x = Asked {
         states: states.x as usize,
         initial: start,
         given: given.x as usize,
     };
     let s = run_columns(buf, given.r, x);
-    tally::count(counts, tally::BUILD, s)
+    tally::count(counts, entries::BUILD, s)
 }

@@ -1,6 +1,8 @@
 // The kinds `intern` and `label`: the label ids of bisim_core::ids.
 use crate::answers;
 use crate::answers::Answer;
+use crate::entries;
+use crate::outcomes;
 use crate::tally;
 use crate::text;
 use crate::text::Reader;
@@ -15,27 +17,27 @@ struct Asked {
 fn compare_intern(
     buf: &mut [u8; 65536],
     r: Reader,
-    counts: &mut [u64; 34],
+    counts: &mut [u64; 40],
     labels: &[u32],
     a: Answer,
 ) -> Reader {
     let s = answers::expect_two(buf, r, a);
     let t = text::expect_list(buf, s, labels);
-    tally::count(counts, tally::INTERN, t)
+    tally::count(counts, entries::INTERN, t)
 }
 
 fn check_intern(
     buf: &mut [u8; 65536],
     r: Reader,
-    counts: &mut [u64; 34],
+    counts: &mut [u64; 40],
     labels: &mut [u32],
     x: Asked,
 ) -> Reader {
-    let a = answers::of_interned(ids::intern(labels, x.count, x.value));
+    let a = outcomes::of_interned(ids::intern(labels, x.count, x.value));
     compare_intern(buf, r, counts, labels, a)
 }
 
-pub fn run_intern(buf: &mut [u8; 65536], r: Reader, counts: &mut [u64; 34]) -> Reader {
+pub fn run_intern(buf: &mut [u8; 65536], r: Reader, counts: &mut [u64; 40]) -> Reader {
     let mut labels = [0u32; 2112];
     let l = text::list_field(buf, r, &mut labels);
     let count = text::number_field(buf, l.r);
@@ -51,17 +53,17 @@ pub fn run_intern(buf: &mut [u8; 65536], r: Reader, counts: &mut [u64; 34]) -> R
 fn check_label(
     buf: &mut [u8; 65536],
     r: Reader,
-    counts: &mut [u64; 34],
+    counts: &mut [u64; 40],
     labels: &[u32],
     x: Asked,
 ) -> Reader {
-    let get = answers::of_found(ids::get(labels, x.count, x.value));
-    let resolve = answers::of_resolved(ids::resolve(labels, x.count, ids::LabelId(x.id)));
-    let s = answers::check_one(buf, r, counts, tally::GET, get);
-    answers::check_one(buf, s, counts, tally::RESOLVE, resolve)
+    let get = outcomes::of_found(ids::get(labels, x.count, x.value));
+    let resolve = outcomes::of_resolved(ids::resolve(labels, x.count, ids::LabelId(x.id)));
+    let s = answers::check_one(buf, r, counts, entries::GET, get);
+    answers::check_one(buf, s, counts, entries::RESOLVE, resolve)
 }
 
-pub fn run_label(buf: &mut [u8; 65536], r: Reader, counts: &mut [u64; 34]) -> Reader {
+pub fn run_label(buf: &mut [u8; 65536], r: Reader, counts: &mut [u64; 40]) -> Reader {
     let mut labels = [0u32; 2112];
     let l = text::list_field(buf, r, &mut labels);
     let count = text::number_field(buf, l.r);

@@ -1,14 +1,22 @@
 // Runs the port on the stored cases of standard input, and compares each answer, and all lent memory, with the stored ones.
-// The names of lines are skipped. A case whose values are not as laid out, or with a list of over 2,112 entries, differs.
+// The names of lines are skipped. A case whose values are not as laid out, or with a list that is too long, differs.
 mod answers; // answers.rt: answers as numbers
 mod builds; // builds.rt: the kind `build`
+mod edges; // edges.rt: the kind `edge`
+mod entries; // entries.rt: the places of the counts
+mod flows; // flows.rt: the kind `flow`
+mod kept; // kept.rt: what is to be as it was
 mod labels; // labels.rt: the kinds `intern` and `label`
+mod lent; // lent.rt: a network lent to an entry, and taken back
 mod models; // models.rt: the kind `model`
+mod nets; // nets.rt: networks as rows of numbers
+mod nodes; // nodes.rt: the kind `nodes`
+mod outcomes; // outcomes.rt: the answers of the entries on models, as numbers
 mod reals; // reals.rt: the kind `real`
 mod tally; // tally.rt: how many agree, and how many differ
 mod text; // text.rt: the text of a case
 
-use text::Reader;
+use crate::text::Reader;
 
 // The words of the kinds, by their bytes.
 const REAL: u64 = 0x7265616c;
@@ -21,7 +29,13 @@ const BUILD: u64 = 0x6275696c64;
 
 const MODEL: u64 = 0x6d6f64656c;
 
-fn dispatch(buf: &mut [u8; 65536], r: Reader, counts: &mut [u64; 34], kind: u64) -> Reader {
+const FLOW: u64 = 0x666c6f77;
+
+const EDGE: u64 = 0x65646765;
+
+const NODES: u64 = 0x6e6f646573;
+
+fn dispatch(buf: &mut [u8; 65536], r: Reader, counts: &mut [u64; 40], kind: u64) -> Reader {
     if kind == REAL {
         return reals::run(buf, r, counts);
     }
@@ -37,22 +51,26 @@ fn dispatch(buf: &mut [u8; 65536], r: Reader, counts: &mut [u64; 34], kind: u64)
     if kind == MODEL {
         return models::run(buf, r, counts);
     }
-    tally::count(counts, tally::OTHER, text::marked(r, false, true))
+    if kind == FLOW {
+        return flows::run(buf, r, counts);
+    }
+    if kind == EDGE {
+        return edges::run(buf, r, counts);
+    }
+    if kind == NODES {
+        return nodes::run(buf, r, counts);
+    }
+    tally::unknown(r, counts)
 }
 
-// What follows a case is an empty line, or the end: more text is one difference.
-fn run_case(buf: &mut [u8; 65536], r: Reader, counts: &mut [u64; 34]) -> Reader {
+fn run_case(buf: &mut [u8; 65536], r: Reader, counts: &mut [u64; 40]) -> Reader {
     let named = text::name(buf, r);
     let kind = text::word(buf, named);
-    let mut s = dispatch(buf, kind.r, counts, kind.x);
-    if s.fine && text::within_line(s) {
-        s = tally::count(counts, tally::OTHER, text::marked(s, false, true));
-    }
-    let next = text::past_case(buf, s);
-    text::marked(next, true, true)
+    let s = dispatch(buf, kind.r, counts, kind.x);
+    tally::next_case(buf, s, counts)
 }
 
-fn run_all(buf: &mut [u8; 65536], counts: &mut [u64; 34]) {
+fn run_all(buf: &mut [u8; 65536], counts: &mut [u64; 40]) {
     let mut r = text::start(buf);
     let mut turns: u32 = 0;
     while turns < 1000000 && !text::at_end(r) {
@@ -61,29 +79,32 @@ fn run_all(buf: &mut [u8; 65536], counts: &mut [u64; 34]) {
     }
 }
 
-fn print_all(counts: &[u64; 34]) {
-    tally::print_entry(b"real is_valid ", counts, tally::IS_VALID);
-    tally::print_entry(b"real is_zero ", counts, tally::IS_ZERO);
-    tally::print_entry(b"real sum ", counts, tally::SUM);
-    tally::print_entry(b"intern ", counts, tally::INTERN);
-    tally::print_entry(b"label get ", counts, tally::GET);
-    tally::print_entry(b"label resolve ", counts, tally::RESOLVE);
-    tally::print_entry(b"build ", counts, tally::BUILD);
-    tally::print_entry(b"model model_refusal ", counts, tally::MODEL_REFUSAL);
-    tally::print_entry(b"model num_states ", counts, tally::NUM_STATES);
-    tally::print_entry(b"model num_transitions ", counts, tally::NUM_TRANSITIONS);
-    tally::print_entry(b"model num_labels ", counts, tally::NUM_LABELS);
-    tally::print_entry(b"model initial ", counts, tally::INITIAL);
-    tally::print_entry(b"model successors ", counts, tally::SUCCESSORS);
-    tally::print_entry(b"model label ", counts, tally::LABEL);
-    tally::print_entry(b"model label_id ", counts, tally::LABEL_ID);
+fn print_all(counts: &[u64; 40]) {
+    tally::print_entry(b"real is_valid ", counts, entries::IS_VALID);
+    tally::print_entry(b"real is_zero ", counts, entries::IS_ZERO);
+    tally::print_entry(b"real sum ", counts, entries::SUM);
+    tally::print_entry(b"intern ", counts, entries::INTERN);
+    tally::print_entry(b"label get ", counts, entries::GET);
+    tally::print_entry(b"label resolve ", counts, entries::RESOLVE);
+    tally::print_entry(b"build ", counts, entries::BUILD);
+    tally::print_entry(b"model model_refusal ", counts, entries::MODEL_REFUSAL);
+    tally::print_entry(b"model num_states ", counts, entries::NUM_STATES);
+    tally::print_entry(b"model num_transitions ", counts, entries::NUM_TRANSITIONS);
+    tally::print_entry(b"model num_labels ", counts, entries::NUM_LABELS);
+    tally::print_entry(b"model initial ", counts, entries::INITIAL);
+    tally::print_entry(b"model successors ", counts, entries::SUCCESSORS);
+    tally::print_entry(b"model label ", counts, entries::LABEL);
+    tally::print_entry(b"model label_id ", counts, entries::LABEL_ID);
+    tally::print_entry(b"flow max_flow ", counts, entries::MAX_FLOW);
+    tally::print_entry(b"edge add_edge ", counts, entries::ADD_EDGE);
+    tally::print_entry(b"nodes new ", counts, entries::NEW);
     tally::print_entry(b"other ", counts, tally::OTHER);
     tally::print_total(counts);
 }
 
 fn main() {
     let mut buf = io::large_buffer();
-    let mut counts = [0u64; 34];
+    let mut counts = [0u64; 40];
     run_all(&mut buf, &mut counts);
     print_all(&counts);
 }

@@ -1,6 +1,7 @@
 // The kind `model`: the check of a built model, and its readers.
 use crate::answers;
-use crate::tally;
+use crate::entries;
+use crate::outcomes;
 use crate::text;
 use crate::text::Reader;
 use bisim_core::ids::LabelId;
@@ -13,7 +14,7 @@ use bisim_core::wlts::Shape;
 fn check_counts(
     buf: &mut [u8; 65536],
     r: Reader,
-    counts: &mut [u64; 34],
+    counts: &mut [u64; 40],
     shape: Shape,
     label_values: &[u32],
     offsets: &[u32],
@@ -29,7 +30,7 @@ fn check_counts(
         edge_targets,
         edge_weights,
     );
-    let a = answers::of_counted(reader::num_states(
+    let a = outcomes::of_counted(reader::num_states(
         shape,
         label_values,
         offsets,
@@ -37,7 +38,7 @@ fn check_counts(
         edge_targets,
         edge_weights,
     ));
-    let b = answers::of_counted(reader::num_transitions(
+    let b = outcomes::of_counted(reader::num_transitions(
         shape,
         label_values,
         offsets,
@@ -45,7 +46,7 @@ fn check_counts(
         edge_targets,
         edge_weights,
     ));
-    let c = answers::of_counted(reader::num_labels(
+    let c = outcomes::of_counted(reader::num_labels(
         shape,
         label_values,
         offsets,
@@ -53,10 +54,10 @@ fn check_counts(
         edge_targets,
         edge_weights,
     ));
-    let s = answers::check_refusal(buf, r, counts, tally::MODEL_REFUSAL, refusal);
-    let t = answers::check_one(buf, s, counts, tally::NUM_STATES, a);
-    let u = answers::check_one(buf, t, counts, tally::NUM_TRANSITIONS, b);
-    answers::check_one(buf, u, counts, tally::NUM_LABELS, c)
+    let s = answers::check_refusal(buf, r, counts, entries::MODEL_REFUSAL, refusal);
+    let t = answers::check_one(buf, s, counts, entries::NUM_STATES, a);
+    let u = answers::check_one(buf, t, counts, entries::NUM_TRANSITIONS, b);
+    answers::check_one(buf, u, counts, entries::NUM_LABELS, c)
 }
 
 struct Asked {
@@ -69,7 +70,7 @@ struct Asked {
 fn check_readers(
     buf: &mut [u8; 65536],
     r: Reader,
-    counts: &mut [u64; 34],
+    counts: &mut [u64; 40],
     x: Asked,
     shape: Shape,
     label_values: &[u32],
@@ -80,7 +81,7 @@ fn check_readers(
 ) -> Reader {
     let state = StateId(x.s);
     let id = LabelId(x.id);
-    let a = answers::of_start(reader::initial(
+    let a = outcomes::of_start(reader::initial(
         shape,
         label_values,
         offsets,
@@ -88,7 +89,7 @@ fn check_readers(
         edge_targets,
         edge_weights,
     ));
-    let b = answers::of_successors(reader::successors(
+    let b = outcomes::of_successors(reader::successors(
         shape,
         label_values,
         offsets,
@@ -97,7 +98,7 @@ fn check_readers(
         edge_weights,
         state,
     ));
-    let c = answers::of_resolved(reader::label(
+    let c = outcomes::of_resolved(reader::label(
         shape,
         label_values,
         offsets,
@@ -106,7 +107,7 @@ fn check_readers(
         edge_weights,
         id,
     ));
-    let d = answers::of_found(reader::label_id(
+    let d = outcomes::of_found(reader::label_id(
         shape,
         label_values,
         offsets,
@@ -115,16 +116,16 @@ fn check_readers(
         edge_weights,
         x.value,
     ));
-    let s = answers::check_one(buf, r, counts, tally::INITIAL, a);
-    let t = answers::check_two(buf, s, counts, tally::SUCCESSORS, b);
-    let u = answers::check_one(buf, t, counts, tally::LABEL, c);
-    answers::check_one(buf, u, counts, tally::LABEL_ID, d)
+    let s = answers::check_one(buf, r, counts, entries::INITIAL, a);
+    let t = answers::check_two(buf, s, counts, entries::SUCCESSORS, b);
+    let u = answers::check_one(buf, t, counts, entries::LABEL, c);
+    answers::check_one(buf, u, counts, entries::LABEL_ID, d)
 }
 
 fn run_readers(
     buf: &mut [u8; 65536],
     r: Reader,
-    counts: &mut [u64; 34],
+    counts: &mut [u64; 40],
     shape: Shape,
     label_values: &[u32],
     offsets: &[u32],
@@ -165,7 +166,7 @@ fn run_readers(
     )
 }
 
-fn run_columns(buf: &mut [u8; 65536], r: Reader, counts: &mut [u64; 34], shape: Shape) -> Reader {
+fn run_columns(buf: &mut [u8; 65536], r: Reader, counts: &mut [u64; 40], shape: Shape) -> Reader {
     let mut l_store = [0u32; 2112];
     let mut o_store = [0u32; 2112];
     let mut el_store = [0u32; 2112];
@@ -194,12 +195,12 @@ fn run_columns(buf: &mut [u8; 65536], r: Reader, counts: &mut [u64; 34], shape: 
     )
 }
 
-pub fn run(buf: &mut [u8; 65536], r: Reader, counts: &mut [u64; 34]) -> Reader {
+pub fn run(buf: &mut [u8; 65536], r: Reader, counts: &mut [u64; 40]) -> Reader {
     let states = text::number_field(buf, r);
     let edges = text::number_field(buf, states.r);
     let labels = text::number_field(buf, edges.r);
     let initial = text::number_field(buf, labels.r);
-    let start = answers::to_initial(initial.x);
+    let start = outcomes::to_initial(initial.x);
     let shape = Shape {
         states: states.x as usize,
         edges: edges.x as usize,

@@ -1,5 +1,6 @@
 // The kind `real`: `Real` of the crate numbers.
 use crate::answers;
+use crate::entries;
 use crate::tally;
 use crate::text;
 use crate::text::Reader;
@@ -9,34 +10,34 @@ fn bit(b: bool) -> u64 {
     if b { 1 } else { 0 }
 }
 
-fn check_sum(buf: &mut [u8; 65536], r: Reader, counts: &mut [u64; 34], xs: &[f64]) -> Reader {
+fn check_sum(buf: &mut [u8; 65536], r: Reader, counts: &mut [u64; 40], xs: &[f64]) -> Reader {
     let s = text::name(buf, r);
     let t = text::expect(buf, s, 0);
     let sum = Real::sum(xs);
     let u = text::expect_real(buf, t, sum.0);
-    tally::count(counts, tally::SUM, u)
+    tally::count(counts, entries::SUM, u)
 }
 
-fn check(buf: &mut [u8; 65536], r: Reader, counts: &mut [u64; 34], x: f64, xs: &[f64]) -> Reader {
+fn check(buf: &mut [u8; 65536], r: Reader, counts: &mut [u64; 40], x: f64, xs: &[f64]) -> Reader {
     let v = Real(x);
     let s = answers::check_one(
         buf,
         r,
         counts,
-        tally::IS_VALID,
+        entries::IS_VALID,
         answers::given(bit(v.is_valid()), 0),
     );
     let t = answers::check_one(
         buf,
         s,
         counts,
-        tally::IS_ZERO,
+        entries::IS_ZERO,
         answers::given(bit(v.is_zero()), 0),
     );
     check_sum(buf, t, counts, xs)
 }
 
-pub fn run(buf: &mut [u8; 65536], r: Reader, counts: &mut [u64; 34]) -> Reader {
+pub fn run(buf: &mut [u8; 65536], r: Reader, counts: &mut [u64; 40]) -> Reader {
     let mut xs = [0.0f64; 2112];
     let x = text::real_field(buf, r);
     let l = text::reals_field(buf, x.r, &mut xs);

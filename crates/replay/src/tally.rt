@@ -3,40 +3,12 @@ use crate::text;
 use crate::text::Reader;
 use libc::STDOUT_FILENO;
 
-// The places of the counts: agree, and differ after it.
-pub const IS_VALID: usize = 0;
+// A count has two places: how many agree, and how many differ.
+// Cases of no known kind, and cases with more text than their kind has, are counted here.
+pub const OTHER: usize = 36;
 
-pub const IS_ZERO: usize = 2;
-
-pub const SUM: usize = 4;
-
-pub const INTERN: usize = 6;
-
-pub const GET: usize = 8;
-
-pub const RESOLVE: usize = 10;
-
-pub const BUILD: usize = 12;
-
-pub const MODEL_REFUSAL: usize = 14;
-
-pub const NUM_STATES: usize = 16;
-
-pub const NUM_TRANSITIONS: usize = 18;
-
-pub const NUM_LABELS: usize = 20;
-
-pub const INITIAL: usize = 22;
-
-pub const SUCCESSORS: usize = 24;
-
-pub const LABEL: usize = 26;
-
-pub const LABEL_ID: usize = 28;
-// Cases of no known kind, and cases with more text than their kind has.
-pub const OTHER: usize = 30;
 // All of them.
-pub const TOTAL: usize = 32;
+pub const TOTAL: usize = 38;
 
 fn one_more(counts: &mut [u64], i: usize) {
     if i < counts.len() {
@@ -54,7 +26,7 @@ fn place(entry: usize, agrees: bool) -> usize {
 }
 
 // Counts an answer, and makes ready for the next.
-pub fn count(counts: &mut [u64; 34], entry: usize, r: Reader) -> Reader {
+pub fn count(counts: &mut [u64; 40], entry: usize, r: Reader) -> Reader {
     let agrees = r.fine && r.same;
     one_more(counts, place(entry, agrees));
     one_more(counts, place(TOTAL, agrees));
@@ -69,7 +41,7 @@ fn print(s: &[u8]) {
     io::write_all(STDOUT_FILENO, s);
 }
 
-pub fn print_entry(what: &[u8], counts: &[u64; 34], entry: usize) {
+pub fn print_entry(what: &[u8], counts: &[u64; 40], entry: usize) {
     print(what);
     io::print_decimal(STDOUT_FILENO, at(counts, place(entry, true)));
     print(b" agree ");
@@ -77,9 +49,24 @@ pub fn print_entry(what: &[u8], counts: &[u64; 34], entry: usize) {
     print(b" differ\n");
 }
 
-pub fn print_total(counts: &[u64; 34]) {
+pub fn print_total(counts: &[u64; 40]) {
     io::print_decimal(STDOUT_FILENO, at(counts, place(TOTAL, true)));
     print(b" agree, ");
     io::print_decimal(STDOUT_FILENO, at(counts, place(TOTAL, false)));
     print(b" differ\n");
+}
+
+// What follows a case is an empty line, or the end: more text is one difference.
+pub fn next_case(buf: &mut [u8; 65536], r: Reader, counts: &mut [u64; 40]) -> Reader {
+    let mut s = r;
+    if s.fine && text::within_line(s) {
+        s = unknown(s, counts);
+    }
+    let next = text::past_case(buf, s);
+    text::marked(next, true, true)
+}
+
+// A case that cannot be read: one difference.
+pub fn unknown(r: Reader, counts: &mut [u64; 40]) -> Reader {
+    count(counts, OTHER, text::marked(r, false, true))
 }

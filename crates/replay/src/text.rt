@@ -369,7 +369,7 @@ pub fn expect(buf: &mut [u8; 65536], r: Reader, x: u64) -> Reader {
 }
 
 // Two zeros are the same, and so are two NaNs; otherwise the bits are.
-fn alike(x: f64, y: f64) -> bool {
+pub fn alike(x: f64, y: f64) -> bool {
     if x == y {
         return true;
     }

@@ -6,17 +6,14 @@
 use std::collections::BTreeMap;
 use std::process::ExitCode;
 
-use oracle::generate::{Rng, build, labels, model, remainders};
+use oracle::args::FlowArgs;
+use oracle::generate::{Rng, build, labels, model, network, remainders};
 use oracle::ours::Ours;
-use oracle::pairs::{alike, paired};
-use oracle::refusals::ROWS;
+use oracle::pairs::{alike, first_difference, paired};
+use oracle::rows::{PARTS, ROWS, floors};
 use oracle::sample;
 use oracle::text::{Case, Field, Value, write_case};
 
-/// Least number of comparisons of every entry.
-const FLOOR: u64 = 10_000;
-/// Least number of comparisons of every entry for each refusal number of its row, and of those not refused.
-const REFUSAL_FLOOR: u64 = 200;
 /// Differences printed of each entry.
 const SHOWN: u64 = 3;
 /// Steps to make a difference shorter.
@@ -64,12 +61,14 @@ fn shrunk<C: Ours>(case: &C) -> C {
 /// Prints the case, shortened, and what the library answers.
 fn show<C: Ours>(case: &C) {
     let case = shrunk(case);
+    let (expected, got) = (case.oracle(), case.ours());
+    let place = first_difference(&expected, &got);
     let ours = Case {
         kind: C::KIND,
-        fields: case.ours(),
+        fields: case.shown(got),
     };
     print!(
-        "differs:\n{}ours:\n{}",
+        "differs, first in {place}:\n{}ours:\n{}",
         write_case(&case.case()),
         write_case(&ours)
     );
@@ -99,42 +98,41 @@ impl Tally {
         }
     }
 
-    /// Prints a line per entry; true where a floor is not reached.
-    fn report(&self) -> bool {
-        let mut short = false;
-        for &(name, row) in ROWS {
-            let none = Entry::default();
-            let entry = self.entries.get(name).unwrap_or(&none);
-            let count = |number: u32| entry.refused.get(&number).copied().unwrap_or(0);
-            let refused: Vec<String> = row.iter().map(|&r| format!("{r} {}", count(r))).collect();
-            let refused = if row.is_empty() {
-                "none".into()
-            } else {
-                refused.join(", ")
-            };
-            println!(
-                "{name}: {} compared, {} differ (refused: {refused})",
-                entry.compared, entry.differ
-            );
-            let low = |number: &u32| count(*number) < REFUSAL_FLOOR;
-            if entry.compared < FLOOR || row.iter().chain(&[0]).any(low) {
-                println!(
-                    "{name}: floor of {FLOOR} compared, {REFUSAL_FLOOR} per outcome, not reached"
-                );
-                short = true;
-            }
+    /// Prints the entry's line; true where a floor is not reached.
+    fn report(&self, name: &str, row: &[u32]) -> bool {
+        let none = Entry::default();
+        let entry = self.entries.get(name).unwrap_or(&none);
+        let count = |number: u32| entry.refused.get(&number).copied().unwrap_or(0);
+        let refused: Vec<String> = row.iter().map(|&r| format!("{r} {}", count(r))).collect();
+        let refused = if row.is_empty() {
+            "none".into()
+        } else {
+            refused.join(", ")
+        };
+        println!(
+            "{name}: {} compared, {} differ (refused: {refused})",
+            entry.compared, entry.differ
+        );
+        let (least, per_outcome) = floors(name);
+        let low = |number: &u32| count(*number) < per_outcome;
+        let short = entry.compared < least || row.iter().chain(&[0]).any(low);
+        if short {
+            println!("{name}: floor of {least} compared, {per_outcome} per outcome, not reached");
         }
         short
     }
 }
 
-/// The fixed list that is replayed without Rust.
+/// The fixed lists that are replayed without Rust.
 fn samples(tally: &mut Tally) {
     sample::reals().iter().for_each(|a| tally.check(a));
     sample::interns().iter().for_each(|a| tally.check(a));
     sample::labels().iter().for_each(|a| tally.check(a));
     sample::builds().iter().for_each(|a| tally.check(a));
     sample::models().iter().for_each(|a| tally.check(a));
+    sample::flow::nodes().iter().for_each(|a| tally.check(a));
+    sample::flow::edges().iter().for_each(|a| tally.check(a));
+    sample::flow::flows().iter().for_each(|a| flow(tally, a));
 }
 
 fn reals_and_labels(tally: &mut Tally, rng: &mut Rng, scale: usize) {
@@ -183,6 +181,19 @@ fn models(tally: &mut Tally, rng: &mut Rng, scale: usize) {
     }
 }
 
+/// On the network, and over rows of its links in use where all of them are listed.
+fn flow(tally: &mut Tally, a: &FlowArgs) {
+    tally.check(a);
+    a.rows().iter().for_each(|a| tally.check(a));
+}
+
+fn networks(tally: &mut Tally, rng: &mut Rng, scale: usize) {
+    let nodes = network::node_counts();
+    nodes.iter().for_each(|a| tally.check(a));
+    network::edges(rng, scale, &mut |a| tally.check(&a));
+    network::flows(rng, scale, &mut |a| flow(tally, &a));
+}
+
 /// Seed and scale.
 fn options() -> Option<(u64, usize)> {
     let (mut seed, mut scale) = (1, 1);
@@ -209,9 +220,11 @@ fn main() -> ExitCode {
     reals_and_labels(&mut tally, &mut rng, scale);
     builds(&mut tally, &mut rng, scale);
     models(&mut tally, &mut rng, scale);
-    let short = tally.report();
+    networks(&mut tally, &mut rng, scale);
+    let entries = ROWS.iter().chain(PARTS);
+    let low = entries.filter(|row| tally.report(row.0, row.1)).count();
     let compared: u64 = tally.entries.values().map(|e| e.compared).sum();
     let differ: u64 = tally.entries.values().map(|e| e.differ).sum();
     println!("{compared} compared, {differ} differ");
-    ExitCode::from(u8::from(short || differ > 0))
+    ExitCode::from(u8::from(low > 0 || differ > 0))
 }

@@ -11,7 +11,8 @@ const EPS: f64 = 1e-12;
 #[derive(Debug, Clone)]
 pub struct FlowNetwork {
     /// Per node: indices into `edges`.
-    adj: Vec<Vec<usize>>,
+    // CHANGED: `pub(crate)`, so that the node lists can be compared.
+    pub(crate) adj: Vec<Vec<usize>>,
     /// `(to, residual capacity, cost)`; edge `i ^ 1` is the reverse of `i`.
     // CHANGED: `pub(crate)`, so that the capacities left can be compared.
     pub(crate) edges: Vec<(usize, f64, f64)>,

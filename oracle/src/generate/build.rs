@@ -1,8 +1,7 @@
 //! Inputs of `build`.
 
-use super::{Rng, all_digits, place, shorten};
+use super::{GREATEST_WEIGHT, LEAST_WEIGHT, Rng, all_digits, place, shorten};
 use crate::args::{BuildArgs, Columns};
-use crate::refusals::{GREATEST_WEIGHT, LEAST_WEIGHT};
 
 /// A transition: source, label, target, weight.
 pub type Transition = (u32, u32, u32, f64);

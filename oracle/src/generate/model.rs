@@ -1,10 +1,9 @@
 //! Built models handed in, good and damaged.
 
 use super::build::{self, Size, lengthen_columns, shorten_store};
-use super::{Rng, all_digits, place, remainders};
+use super::{GREATEST_JOINED, LEAST_WEIGHT, Rng, all_digits, place, remainders};
 use crate::answers::handed_in;
 use crate::args::{BuildArgs, Columns, ModelArgs, ReadArgs};
-use crate::refusals::{GREATEST_JOINED, LEAST_WEIGHT};
 
 /// Weights that a built model may not have.
 const BAD: &[f64] = &[

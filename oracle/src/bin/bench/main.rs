@@ -2,7 +2,9 @@
 //!
 //! Prints `NAME rust_ns A ours_ns B ratio A/B`, medians over the samples. The Rust side is a new builder, each
 //! transition added, `build` and the release of the model. Our side is `build` into stores that are allocated once and
-//! not cleared between calls. The readers are left out.
+//! not cleared between calls. The readers are left out. The flow is in `flow`.
+
+mod flow;
 
 use std::hint::black_box;
 use std::time::Instant;
@@ -95,16 +97,23 @@ fn measure(name: &str, args: &BuildArgs) {
         a.push(nanoseconds(turns, &mut rust));
         b.push(nanoseconds(turns, &mut library));
     }
-    let (a, b) = (median(a), median(b));
-    let ratio = a as f64 / b.max(1) as f64;
-    println!("{name} rust_ns {a} ours_ns {b} ratio {ratio:.2}");
+    print(name, median(a), median(b));
+}
+
+fn print(name: &str, rust: u128, ours: u128) {
+    let ratio = rust as f64 / ours.max(1) as f64;
+    println!("{name} rust_ns {rust} ours_ns {ours} ratio {ratio:.2}");
 }
 
 fn main() {
     let names: Vec<String> = std::env::args().skip(1).collect();
-    for (name, args) in cases() {
-        if names.is_empty() || names.iter().any(|prefix| name.starts_with(prefix.as_str())) {
-            measure(name, &args);
-        }
+    let chosen = |name: &str| {
+        names.is_empty() || names.iter().any(|prefix| name.starts_with(prefix.as_str()))
+    };
+    for (name, args) in cases().iter().filter(|case| chosen(case.0)) {
+        measure(name, args);
+    }
+    for (name, test) in flow::cases().iter().filter(|case| chosen(case.0)) {
+        flow::measure(name, test);
     }
 }

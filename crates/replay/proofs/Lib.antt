@@ -1,0 +1,2 @@
+-- Laws of this crate's proofs.
+pub mod Lending

@@ -1,0 +1,35 @@
+//! The entries, their refusal numbers, and how many comparisons each needs.
+
+/// Each entry with its row of refusal numbers.
+pub const ROWS: &[(&str, &[u32])] = &[
+    ("is_valid", &[]),
+    ("is_zero", &[]),
+    ("sum", &[]),
+    ("intern", &[3, 4, 7]),
+    ("get", &[3, 4]),
+    ("resolve", &[3, 4]),
+    ("build", &[3, 4, 5, 6, 7]),
+    ("model_refusal", &[3, 4, 5, 6]),
+    ("num_states", &[3, 4, 5, 6]),
+    ("num_transitions", &[3, 4, 5, 6]),
+    ("num_labels", &[3, 4, 5, 6]),
+    ("initial", &[3, 4, 5, 6]),
+    ("successors", &[3, 4, 5, 6]),
+    ("label", &[3, 4, 5, 6]),
+    ("label_id", &[3, 4, 5, 6]),
+    ("new", &[15]),
+    ("add_edge", &[15]),
+    ("max_flow", &[15]),
+];
+
+/// The parts of `max_flow` that the library has beside it: the run over rows, and its check alone.
+pub const PARTS: &[(&str, &[u32])] = &[("max_flow_rows", &[15]), ("network_refusal", &[15])];
+
+/// Least number of comparisons of an entry, and least number for each refusal number of its row and for none.
+pub fn floors(name: &str) -> (u64, u64) {
+    match name {
+        // 0 to 66 nodes are accepted, which is 67 inputs
+        "new" => (1_000, 67),
+        _ => (10_000, 200),
+    }
+}
