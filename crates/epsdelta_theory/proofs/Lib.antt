@@ -1,0 +1,13 @@
+pub mod Pairs
+pub mod Marks
+pub mod Sweeps
+pub mod Strikes
+pub mod Runs
+pub mod FlowTests
+pub mod Rates
+pub mod Targets
+pub mod Rows
+pub mod Unrefused
+pub mod Theorem
+pub mod Figures
+pub mod Samples

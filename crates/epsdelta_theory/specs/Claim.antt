@@ -1,0 +1,105 @@
+-- What is claimed of the whole run of `epsdelta` (document 01, demand 3), from the marks to the sweep without a strike, in words of its definition.
+use mathlib.Core.Path.{_≡_}
+use Prim.Native.Nat.{ℕ, _<_}
+use mathlib.Core.Bool.{Bool, true, false, cond}
+use mathlib.Core.List.{List, [], _∷_}
+use lib.ListN.{length}
+use lib.Ieee.{lt}
+use Rattle.numbers.specs.Real.{eps}
+use Rattle.numbers.specs.Lists.{In}
+use Rattle.flow_theory.specs.Network.{Net, nodes, links, head, tail, left}
+use Rattle.flow_theory.specs.Run.{FlowRun}
+use Rattle.flow_theory.specs.Claim.{inCut, Bounded}
+use Rattle.epsdelta_theory.specs.Relation.{holds, clear}
+use Rattle.epsdelta_theory.specs.Sweeps.{Task, marks, Strike, Run, sweep}
+use Rattle.epsdelta_theory.specs.FlowTest.{testLinks, testNodes, testNetwork, testRun}
+use Rattle.epsdelta_theory.specs.Epsdelta.{Given, class, task, epsdelta}
+
+-- ---- of a run of sweeps, whatever its tests
+
+-- both orders of a pair stand, or neither does
+abbrev pub Symmetric : ℕ → List Bool → Type 0
+Symmetric n R = (s t : ℕ) → s < n → t < n → holds n R s t ≡ holds n R t s
+
+-- each state stands with itself
+abbrev pub Reflexive : ℕ → List Bool → Type 0
+Reflexive n R = (s : ℕ) → s < n → holds n R s s ≡ true
+
+-- equal classes, passed rates and, if the lower-numbered exit rate is not zero, both tests passed against R
+pub record Stands (Q : Task) (R : List Bool) (s t : ℕ) : Type 0 where
+  pub classes : Q .class s ≡ Q .class t
+  pub rates : Q .ratesPass s t ≡ true
+  pub forth : Q .noExit s ≡ false → Q .test R s t ≡ true
+  pub back : Q .noExit s ≡ false → Q .test R t s ≡ true
+
+-- S holds all that R holds
+abbrev pub Within : ℕ → List Bool → List Bool → Type 0
+Within n R S = (s t : ℕ) → holds n R s t ≡ true → holds n S s t ≡ true
+
+-- the states from which and to which the test went that failed
+abbrev pub failedFrom : Strike → ℕ
+failedFrom k = cond (k .back) (k .high) (k .low)
+
+abbrev pub failedTo : Strike → ℕ
+failedTo k = cond (k .back) (k .low) (k .high)
+
+-- strike k of the run x struck s and t, on a test that failed against the relation as it then stood, which holds all of the final one
+pub record Struck (Q : Task) (x : Run) (s t : ℕ) (k : Strike) : Type 0 where
+  pub listed : In k (x .strikes)
+  pub low : k .low ≡ s
+  pub high : k .high ≡ t
+  pub stood : holds (Q .states) (k .before) s t ≡ true
+  pub exits : Q .noExit s ≡ false
+  pub failed : Q .test (k .before) (failedFrom k) (failedTo k) ≡ false
+  pub within : Within (Q .states) (x .relation) (k .before)
+
+-- the strikes, the last first, lead from the marks to R: the relation of each is the marks less the strikes before it, and R the marks less all
+abbrev pub Trail : Task → List Strike → List Bool → Type 0
+Trail Q [] R = R ≡ marks Q
+Trail Q (k ∷ ks) R = (R ≡ clear (Q .states) (k .before) (k .low) (k .high)) × Trail Q ks (k .before)
+
+-- x is what a sweep without a strike left
+pub record Ended (Q : Task) (x : Run) : Type 0 where
+  pub before : Run
+  pub last : x ≡ sweep Q before
+  pub none : x .struck ≡ false
+
+-- ---- of a flow test
+
+-- nodes with the source and without the sink, and no link out of them, reverses included, with over 1e-12 left when `max_flow` ended
+pub record Cut (N : Net) (r : FlowRun) : Type 0 where
+  pub source-in : inCut r (N .source) ≡ true
+  pub sink-out : inCut r (N .sink) ≡ false
+  pub none-out : (e : ℕ) → e < links N → inCut r (tail N e) ≡ true → inCut r (head N e) ≡ false → lt eps (left (r .cap) e) ≡ false
+
+-- ---- the claim
+
+-- the states of both models
+abbrev pub states : Given → ℕ
+states G = (task G) .states
+
+-- the final relation
+abbrev pub final : Given → List Bool
+final G = (epsdelta G) .relation
+
+-- the one claim of the whole run
+pub record Sound (G : Given) : Type 0 where
+  -- the final relation is symmetric and holds each state with itself
+  pub symmetric : Symmetric (states G) (final G)
+  pub reflexive : Reflexive (states G) (final G)
+  -- distinct states stand only for a reason, and on flow tests that passed against the final relation
+  pub standing : (s t : ℕ) → s < t → t < states G → holds (states G) (final G) s t ≡ true → Stands (task G) (final G) s t
+  -- a missing pair with equal classes and passed rates was struck on a flow test that failed
+  pub missing : (s t : ℕ) → s < t → t < states G → class G s ≡ class G t → (task G) .ratesPass s t ≡ true
+      → holds (states G) (final G) s t ≡ false → (k : Strike) × Struck (task G) (epsdelta G) s t k
+  -- the failed test of every strike left a cut
+  pub cut : (k : Strike) → In k ((epsdelta G) .strikes)
+      → Cut (testNetwork (G .jumps) (k .before) (failedFrom k) (failedTo k)) (testRun (G .jumps) (k .before) (failedFrom k) (failedTo k))
+  -- every flow test, passed or failed, has V nodes and E added links: at most V - 1 phases, at most E pushes in each, the sink's level higher in each than in the one before; these phases
+  -- and pushes are the steps of its run
+  pub nodes-counted : (R : List Bool) (s t : ℕ) → nodes (testNetwork (G .jumps) R s t) ≡ testNodes (G .jumps) s t
+  pub bounded : (R : List Bool) (s t : ℕ) → s < states G → t < states G
+      → Bounded (testNetwork (G .jumps) R s t) (length (testLinks (G .jumps) R s t)) (testRun (G .jumps) R s t)
+  -- the strikes are the run's own trace, and the run ends with a sweep without a strike
+  pub trail : Trail (task G) ((epsdelta G) .strikes) (final G)
+  pub ended : Ended (task G) (epsdelta G)
