@@ -250,9 +250,9 @@ pub fn bits(x: f64) -> u64 {
     }
 }
 
-/// Equal for the comparison: same bits, or both zero, or both NaN.
+/// Equal for the comparison: same bits, or both NaN.
 pub fn same_real(a: f64, b: f64) -> bool {
-    a == b || (a.is_nan() && b.is_nan())
+    bits(a) == bits(b)
 }
 
 /// Equal for the comparison; floats by [`same_real`].
@@ -452,8 +452,8 @@ mod tests {
     }
 
     #[test]
-    fn zeros_and_nans_count_as_equal() {
-        assert!(same(&Value::Real(0.0), &Value::Real(-0.0)));
+    fn floats_are_equal_by_bits_and_nans_alike() {
+        assert!(!same(&Value::Real(0.0), &Value::Real(-0.0)));
         assert!(same(
             &Value::Reals(vec![f64::NAN]),
             &Value::Reals(vec![-f64::NAN])

@@ -14,7 +14,8 @@ use Rattle.numbers.specs.Real.{nought}
 use Rattle.numbers.proofs.Floats.{Low}
 use Rattle.flow_theory.specs.Network.{rev, Net, nodes, links, head, left, nodeLists}
 use Rattle.flow_theory.specs.Run.{FlowRun}
-use Rattle.flow_theory.specs.Claim.{Accepted, Bounded}
+use Rattle.flow_theory.specs.Claim.{Bounded}
+use Rattle.flow_theory.proofs.Accepted.{Accepted}
 use Rattle.flow_theory.proofs.Theorem.{nodeLists-length, flow-run}
 use Rattle.epsdelta_theory.specs.Jumps.{Jump, Jumps, prob}
 use Rattle.epsdelta_theory.specs.Relation.{holds}

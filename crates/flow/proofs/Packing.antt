@@ -9,10 +9,14 @@ use lib.ListN.{length, getD, set, take, drop, length-map}
 use lib.Seq.{take-at, length-take-le}
 use lib.Ieee.{Float, nan}
 use Rattle.flow.specs.declared.network.Link.{Link}
-use Rattle.flow.specs.Network.{pastEnd, headsOf, capsOf, costsOf, withCaps}
+use Rattle.flow.specs.Network.{headsOf, capsOf, costsOf, withCaps}
 use Rattle.flow_theory.proofs.ListRows.{Fitting}
 use Rattle.flow_theory.proofs.Lists.{over-end, at-map}
 use Rattle.numbers.proofs.Over.{over-step, over-length}
+
+-- what stands past the end of a list of links, as the checker has it
+abbrev pub pastEnd : Link
+pastEnd = record { head = 0; cap = nan; cost = nan }
 
 -- the rows hold heads, capacities and costs of the first n links
 abbrev pub Unpacked : List Link → ℕ → List ℕ → List Float → List Float → Type 0

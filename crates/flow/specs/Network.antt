@@ -4,7 +4,7 @@ use mathlib.Core.List.{List, [], _∷_, map}
 use mathlib.Core.Bool.{Bool, true, false, _&&_}
 use lib.Dec.{leb, ltb}
 use lib.ListN.{take, set, replicate}
-use lib.Ieee.{Float, nan, neg}
+use lib.Ieee.{Float, neg}
 use Rattle.numbers.specs.Real.{nought}
 use Rattle.flow_check.specs.Adding.{Relisted, relist}
 use Rattle.flow_core.specs.Outcome.{flowOn, Claimed}
@@ -13,10 +13,6 @@ use Rattle.flow.specs.declared.network.FlowNetwork.{FlowNetwork}
 use Rattle.flow.specs.declared.network.Made.{Made}
 use Rattle.flow_core.specs.declared.rows.Answer.{Answer}
 use Rattle.flow_core.specs.declared.rows.Answer.the-variants as says
-
--- what stands past the end of a list of links, as the checker has it
-abbrev pub pastEnd : Link
-pastEnd = record { head = 0; cap = nan; cost = nan }
 
 -- heads, capacities and costs of the first n links
 abbrev pub headsOf : ℕ → List Link → List ℕ
@@ -73,7 +69,7 @@ made n = madeIf (leb n 66) n
 
 -- ---- adding a link
 
--- the first n links, then a link and its reverse, which has capacity 0 and the cost negated
+-- a link at place n, and at the next its reverse, which has capacity 0 and the cost negated
 abbrev pub withLink : List Link → ℕ → ℕ → ℕ → Float → Float → List Link
 withLink ls n from to cap cost = set (set ls n (record { head = to; cap = cap; cost = cost })) (n + 1) (record { head = from; cap = nought; cost = neg cost })
 

@@ -108,7 +108,7 @@ fn link_in(
     )
 }
 
-// The network with the last pair of the links, n of them, added; or the refusal beside the network as it is.
+// The network with two links more, which stand after those in use; or the refusal beside the network as it is.
 fn grow(net: FlowNetwork, links: [Link; 2176]) -> Made
     requires { ⌜ net .count ≤ 2174 ⌝ }
     ensures { λ r. ⌜ r ≡ addedIf true net links ⌝ }

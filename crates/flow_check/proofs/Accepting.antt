@@ -10,7 +10,7 @@ use lib.ListN.{length, getD}
 use lib.Ieee.{Float, fin, inf, nan, lt, le, eq, ofBits}
 use Rattle.flow_theory.specs.Network.{head, rev, left, nodeLists}
 use Rattle.numbers.specs.Real.{nought, greatestWeight}
-use Rattle.flow_theory.specs.Claim.{Accepted}
+use Rattle.flow_theory.proofs.Accepted.{Accepted}
 use Rattle.numbers.proofs.Bools.{t-of, and-t, eq-or-ne, or-t}
 use borrow.Author.Tests.{eqb-true, eqb-false, eq-eqb, lt-ltb, le-ltb, ltb-true, not-true}
 use Rattle.flow_theory.proofs.Theorem.{accepted-good, accepted-caps}

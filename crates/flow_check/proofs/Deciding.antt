@@ -11,7 +11,7 @@ use lib.ListN.{length, getD}
 use lib.Ieee.{Float, inf, nan, le, eq}
 use Rattle.flow_theory.specs.Network.{head, rev, left}
 use Rattle.numbers.specs.Real.{nought, greatestWeight}
-use Rattle.flow_theory.specs.Claim.{Accepted}
+use Rattle.flow_theory.proofs.Accepted.{Accepted}
 use lib.Ieee.Bits.{is-true}
 use Rattle.flow_theory.specs.Rows.{network}
 use Rattle.flow_check.specs.Refusal.{capFits, linkFits, costFits, pairFits, sizesFit, endsFit, listsFit, accepts}

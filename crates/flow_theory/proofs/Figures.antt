@@ -12,7 +12,8 @@ use Rattle.numbers.specs.Real.{nought, half, greatestWeight, eps}
 use Rattle.numbers.proofs.Comparisons.{fin-inf}
 use Rattle.flow_theory.specs.Network.{Net, head, tail, left, nodeLists}
 use Rattle.flow_theory.specs.Run.{maxFlow}
-use Rattle.flow_theory.specs.Claim.{Accepted, Bounded, inCut}
+use Rattle.flow_theory.specs.Claim.{Bounded, inCut}
+use Rattle.flow_theory.proofs.Accepted.{Accepted}
 use Rattle.flow_theory.proofs.Theorem.{flow-run}
 
 -- source 0, middle 1, sink 2: capacities 0.75, then 0.5

@@ -26,3 +26,4 @@ pub mod Augmenting
 pub mod Blocking
 pub mod Rounds
 pub mod Running
+pub mod Accepted

@@ -21,7 +21,8 @@ use Rattle.numbers.specs.Lists.{In}
 use Rattle.numbers.proofs.Members.{in-last, in-left, in-snoc}
 use Rattle.numbers.proofs.Floats.{Low}
 use Rattle.flow_theory.proofs.Runs.{bounded}
-use Rattle.flow_theory.specs.Claim.{Accepted, Bounded}
+use Rattle.flow_theory.specs.Claim.{Bounded}
+use Rattle.flow_theory.proofs.Accepted.{Accepted}
 
 abbrev pub row : List (List ℕ) → ℕ → List ℕ
 row ls u = getD ls u []

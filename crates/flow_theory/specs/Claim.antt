@@ -1,14 +1,13 @@
 -- What is claimed of every flow run (document 01, demand 3), in words of its definition.
 use mathlib.Core.Path.{_≡_}
-use Prim.Native.Nat.{ℕ, _+_, _≤_, _<_}
-use mathlib.Core.Logic.{_≢_, _⊎_}
+use Prim.Native.Nat.{ℕ, _≤_, _<_}
 use mathlib.Core.Bool.{Bool, true, false, not}
 use mathlib.Core.List.{List, [], _∷_}
 use lib.ListN.{length}
-use lib.Dec.{T, eqb}
-use lib.Ieee.{Float, inf, lt, le}
-use Rattle.numbers.specs.Real.{nought, greatestWeight, eps}
-use Rattle.flow_theory.specs.Network.{Net, nodes, links, head, tail, left, nodeLists}
+use lib.Dec.{eqb}
+use lib.Ieee.{lt}
+use Rattle.numbers.specs.Real.{eps}
+use Rattle.flow_theory.specs.Network.{Net, nodes, links, head, tail, left}
 use Rattle.flow_theory.specs.Levels.{unset, levelOf}
 use Rattle.flow_theory.specs.Run.{Phase, FlowRun}
 
@@ -34,17 +33,3 @@ pub record Bounded (N : Net) (added : ℕ) (r : FlowRun) : Type 0 where
   pub source-in : inCut r (N .source) ≡ true
   pub sink-out : inCut r (N .sink) ≡ false
   pub cut : (e : ℕ) → e < links N → inCut r (tail N e) ≡ true → inCut r (head N e) ≡ false → lt eps (left (r .cap) e) ≡ false
-
--- a network that refusal 15 lets pass (its costs aside, which a flow run does not read)
-pub record Accepted (N : Net) (c : List Float) (added : ℕ) : Type 0 where
-  pub few : nodes N ≤ 66
-  pub small : added ≤ 1088
-  pub pairs : links N ≡ added + added
-  pub size : length c ≡ links N
-  pub heads-in : (e : ℕ) → e < links N → head N e < nodes N
-  pub source-in : N .source < nodes N
-  pub sink-in : N .sink < nodes N
-  pub ends : N .source ≢ N .sink
-  pub range : (e : ℕ) → e < links N → T (le nought (left c e)) × (T (le (left c e) greatestWeight) ⊎ (left c e ≡ inf false))
-  pub finite : (e : ℕ) → e < links N → tail N e ≡ N .source → left c e ≢ inf false
-  pub lists : N .lists ≡ nodeLists (N .heads) (nodes N) (links N)

@@ -97,7 +97,9 @@ fn set_cost(rng: &mut Rng, n: &mut NetworkArgs, cost: f64) {
 fn bad_reverse_cost(rng: &mut Rng, n: &mut NetworkArgs) {
     let e = link(rng, n, 0);
     let cost = n.costs[e];
+    let unnegated = if cost == 0.0 { 1.0 } else { cost };
     let others = [
+        unnegated,
         (-cost).next_up(),
         (-cost).next_down(),
         cost + 1.0,

@@ -67,7 +67,8 @@ use Rattle.flow_core.proofs.rows.Answer as S
 use Rattle.flow_core.proofs.rows.Answer.Laws as S′
 use Rattle.flow.specs.declared.network.Link.{Link}
 use Rattle.flow.specs.declared.network.FlowNetwork.{FlowNetwork}
-use Rattle.flow.specs.Network.{pastEnd, withLinks, withCaps}
+use Rattle.flow.specs.Network.{withLinks, withCaps}
+use Rattle.flow.proofs.Packing.{pastEnd}
 use Rattle.flow.proofs.Packing.{capAt, caps-suc, caps-none, caps-length, fill-next, fill-length}
 use Rattle.flow.proofs.Running.{heads-in, caps-in, costs-in, Said, flow-is}
 use Rattle.flow.proofs.Entering.{alloc-all, free-all}
