@@ -1,4 +1,4 @@
-//! OURS, no part of the Rust: the refusals of document 01 ("Turned back, in this order"), written from that paper and its readings alone.
+//! OURS, no part of the Rust: the refusals of document 01 ("Turned back, in this order"), written from that paper and its readings.
 
 // Each public function gives the number of the first check that fails, 0 where none does. Lent stores are only measured.
 // Within one number the order of the clauses cannot be seen; here a clause that reads a column stands after those that
