@@ -5,7 +5,7 @@ use mathlib.Core.List.{List}
 use lib.Dec.{ltb, leb}
 use lib.ListN.{length, take}
 use lib.Ieee.{Float}
-use Rattle.numbers.specs.Lists.{over}
+use Rattle.numbers.specs.Lists.{over, all}
 use Rattle.flow_theory.specs.Rows.{startsOf, listOf}
 use Rattle.flow_check.specs.Refusal.{sizesFit, linksFit, listsFit}
 
@@ -32,3 +32,11 @@ relistIf false H nodes s l = relisted false s l
 -- the node lists with the link, laid over two lists; where it is not added these stay as they are
 abbrev pub relist : List ℕ → List Float → List Float → List ℕ → List ℕ → ℕ → List ℕ → List ℕ → Relisted
 relist H c p starts list nodes s l = relistIf (addable H c p starts list nodes (length s) (length l)) H nodes s l
+
+-- may links be listed: at most 66 nodes and 1,088 added links, each head a node, and room for the node lists
+abbrev pub listable : List ℕ → ℕ → ℕ → ℕ → Bool
+listable H nodes places room = sizesFit nodes (length H) (length H) (length H) room && (ltb nodes places && all (λ v. ltb v nodes) H)
+
+-- the node lists of the links, laid over two lists; where they are not made these stay as they are
+abbrev pub enlist : List ℕ → ℕ → List ℕ → List ℕ → Relisted
+enlist H nodes s l = relistIf (listable H nodes (length s) (length l)) H nodes s l

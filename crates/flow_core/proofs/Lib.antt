@@ -1,2 +1,3 @@
+pub mod Tests
 pub mod Theorem
 pub mod Figures

@@ -31,4 +31,4 @@ flowOn H c p starts list n s t = settled (accepts H c p starts list n s t) (maxF
 
 -- what is claimed of that run: V nodes, E added links, which are two links each
 abbrev pub Claimed : List ℕ → List Float → List Float → List ℕ → List ℕ → ℕ → ℕ → ℕ → Type 0
-Claimed H c p starts list n s t = accepts H c p starts list n s t ≡ true → Bounded (network H n s t) (length H / 2) (maxFlow (network H n s t) c)
+Claimed H c p starts list n s t = accepts H c p starts list n s t ≡ true → Bounded (network H n s t) c (length H / 2) (maxFlow (network H n s t) c)

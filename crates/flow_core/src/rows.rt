@@ -15,7 +15,7 @@ pub enum Answer {
 }
 
 // A network that is turned back.
-const NETWORK: u32 = 15;
+pub(crate) const NETWORK: u32 = 15;
 
 // The maximum flow from source to sink; the capacities are left as the run leaves them, and untouched by a refusal.
 pub fn max_flow_rows(

@@ -95,5 +95,5 @@ m3-accepted = record {
     finites (suc (suc (suc zero))) l f = fin-inf _ _ _
     finites (suc (suc (suc (suc e)))) l f = absurd (omega arith)
 
-m3-bounded : Bounded line 2 (maxFlow line caps)
+m3-bounded : Bounded line caps 2 (maxFlow line caps)
 m3-bounded = flow-run line caps 2 m3-accepted

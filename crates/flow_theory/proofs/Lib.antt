@@ -4,6 +4,7 @@ pub mod Levels
 pub mod Paths
 pub mod Pushes
 pub mod Phases
+pub mod Traces
 pub mod Runs
 pub mod Theorem
 pub mod Figures

@@ -8,17 +8,17 @@ use mathlib.Core.List.{List, [], _∷_}
 use native.Mathlib.Omega.{arith}
 use lib.Dec.{eqb}
 use lib.ListN.{length}
-use Rattle.numbers.specs.Real.{nought}
 use lib.Ieee.{Float, lt}
 use Rattle.flow_theory.specs.Network.{Net, nodes, head, tail, left, residual}
 use Rattle.flow_theory.specs.Levels.{unset, levelOf, levels}
-use Rattle.flow_theory.specs.Run.{phase, Phase, FlowRun, afterPhase, atEnd, run, maxFlow}
+use Rattle.flow_theory.specs.Run.{phase, Phase, FlowRun, afterPhase, atEnd, run, start, maxFlow}
 use Rattle.numbers.specs.Real.{eps}
-use Rattle.flow_theory.specs.Claim.{lastSinkLevel, Phases, inCut, Bounded}
+use Rattle.flow_theory.specs.Claim.{lastSinkLevel, Phases, PhaseTrail, inCut, Bounded}
 use borrow.Author.Tests.{eq-eqb, eqb-false, eqb-true, ne-eqb}
 use Rattle.flow_theory.proofs.Links.{HasLevel, WellFormed, Caps}
 use Rattle.flow_theory.proofs.Levels.{Levels, levels-ok, Pred}
 use Rattle.flow_theory.proofs.Phases.{phased, rises}
+use Rattle.flow_theory.proofs.Traces.{trail-on}
 
 pub run-on : (N : Net) (k : ℕ) (s : FlowRun) → levelOf (levels N (s .cap)) (N .sink) ≢ unset → run N (suc k) s ≡ run N k (afterPhase N s (levels N (s .cap)))
 unfolding run
@@ -48,11 +48,13 @@ module _ (N : Net) (G : WellFormed N) where
   not-b true e = absurd (false≢true e)
   not-b false e = refl
 
-  pub finished : (s : FlowRun) (k : ℕ) → Running s k → (L : List ℕ) → Levels N (s .cap) L → levelOf L (N .sink) ≡ unset → Bounded N (G .added) (atEnd s L)
+  finished : (c : List Float) (s : FlowRun) (k : ℕ) → Running s k → PhaseTrail N c (s .phases) s → (L : List ℕ) → L ≡ levels N (s .cap) → Levels N (s .cap) L → levelOf L (N .sink) ≡ unset
+      → Bounded N c (G .added) (atEnd s L)
   unfolding atEnd inCut
-  finished s k I L B h = record {
+  finished c s k I T L q B h = record {
     few-phases = let n = phases-length (G .added) (s .phases) (I .phases) in let l = I .low in omega arith;
     each-phase = I .phases;
+    traced = record { last = s; trail = T; unreached = rw (← q) h; ends = rw (← q) };
     source-in = ap not ((ne-eqb _ _) source-set);
     sink-out = ap not ((eq-eqb _ _) h);
     cut = λ e l i o. pick e (not-b _ i) o (residual (s .cap) e) refl;
@@ -79,9 +81,9 @@ module _ (N : Net) (G : WellFormed N) where
         rise = λ L' B' h'. rises N G (s .cap) L B (phase N s L) P L' B' h';
       }
 
-  pub ran : (k : ℕ) (s : FlowRun) → Running s k → Bounded N (G .added) (run N k s)
-  ran zero s I = let f = I .fuel in let l = I .low in absurd (omega arith)
-  ran (suc k) s I = pick (λ t J. ran k t J) (eqb (levelOf L (N .sink)) unset) refl
+  ran : (c : List Float) (k : ℕ) (s : FlowRun) → Running s k → PhaseTrail N c (s .phases) s → Bounded N c (G .added) (run N k s)
+  ran c zero s I T = let f = I .fuel in let l = I .low in absurd (omega arith)
+  ran c (suc k) s I T = pick (λ t J U. ran c k t J U) (eqb (levelOf L (N .sink)) unset) refl
     where
       L : List ℕ
       L = levels N (s .cap)
@@ -89,15 +91,12 @@ module _ (N : Net) (G : WellFormed N) where
       B : Levels N (s .cap) L
       B = levels-ok N G (s .cap) (I .caps)
 
-      pick : ((t : FlowRun) → Running t k → Bounded N (G .added) (run N k t)) → (b : Bool) → eqb (levelOf L (N .sink)) unset ≡ b → Bounded N (G .added) (run N (suc k) s)
-      pick again true t = rw (run-end N k s ((eqb-true _ _) t)) (finished s (suc k) I L B ((eqb-true _ _) t))
-      pick again false f = rw (run-on N k s ((eqb-false _ _) f)) (again (afterPhase N s L) (onwards s k I L B ((eqb-false _ _) f)))
+      pick : ((t : FlowRun) → Running t k → PhaseTrail N c (t .phases) t → Bounded N c (G .added) (run N k t)) → (b : Bool) → eqb (levelOf L (N .sink)) unset ≡ b
+          → Bounded N c (G .added) (run N (suc k) s)
+      pick again true t = rw (run-end N k s ((eqb-true _ _) t)) (finished c s (suc k) I T L refl B ((eqb-true _ _) t))
+      pick again false f = rw (run-on N k s ((eqb-false _ _) f)) (again (afterPhase N s L) (onwards s k I L B ((eqb-false _ _) f)) (trail-on N G c s (I .caps) B ((eqb-false _ _) f) T))
 
-  -- where a run begins
-  abbrev pub runStart : List Float → FlowRun
-  runStart c = record { total = nought; cap = c; level = []; phases = [] }
-
-  pub run-starts : (c : List Float) → Caps N c → Running (runStart c) (nodes N)
+  pub run-starts : (c : List Float) → Caps N c → Running (start c) (nodes N)
   run-starts c C = record { caps = C; phases = tt; low = let i = G .source-in in omega arith; fuel = omega arith; rise = first }
     where
       first : (L : List ℕ) → Levels N c L → HasLevel L (N .sink) → 0 < levelOf L (N .sink)
@@ -108,6 +107,6 @@ module _ (N : Net) (G : WellFormed N) where
           pick (inr (e, l, q, t)) = omega arith
 
   -- every run on an accepted network
-  pub bounded : (c : List Float) → Caps N c → Bounded N (G .added) (maxFlow N c)
+  pub bounded : (c : List Float) → Caps N c → Bounded N c (G .added) (maxFlow N c)
   unfolding maxFlow
-  bounded c C = ran (nodes N) (runStart c) (run-starts c C)
+  bounded c C = ran c (nodes N) (start c) (run-starts c C) refl

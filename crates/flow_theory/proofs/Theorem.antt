@@ -130,6 +130,6 @@ accepted-caps N c added A = record { size = A .size; low = λ e l f. pick e l f 
     pick e l f (inr q) = absurd (A .finite e l f q)
 
 -- every flow run on an accepted network, of any number of nodes and links
-pub flow-run : (N : Net) (c : List Float) (added : ℕ) → Accepted N c added → Bounded N added (maxFlow N c)
+pub flow-run : (N : Net) (c : List Float) (added : ℕ) → Accepted N c added → Bounded N c added (maxFlow N c)
 unfolding accepted-good made
 flow-run N c added A = bounded N (accepted-good N c added A) c (accepted-caps N c added A)

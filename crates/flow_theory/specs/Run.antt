@@ -47,10 +47,14 @@ pub record FlowRun : Type 0 where
   pub level : List ℕ
   pub phases : List Phase
 
--- a phase with levels L: every mark is at its node's first link
+-- where a phase begins: every mark is at its node's first link
+abbrev pub opening : Net → FlowRun → PhaseState
+opening N s = record { total = s .total; cap = s .cap; next = replicate (nodes N) 0; pushes = 0 }
+
+-- a phase with levels L
 unfoldable pub phase : Net → FlowRun → List ℕ → PhaseState
 unfolding blockingFlow
-phase N s L = blockingFlow N L (suc (links N)) (record { total = s .total; cap = s .cap; next = replicate (nodes N) 0; pushes = 0 })
+phase N s L = blockingFlow N L (suc (links N)) (opening N s)
 
 -- after a phase, and where the levels do not reach the sink
 unfoldable pub afterPhase : Net → FlowRun → List ℕ → FlowRun
@@ -66,9 +70,13 @@ unfolding levels afterPhase atEnd levelOf unset
 run N zero s = s
 run N (suc k) s = let L = levels N (s .cap) in elim (eqb (levelOf L (N .sink)) unset) [ true ↦ atEnd s L | false ↦ run N k (afterPhase N s L) ]
 
+-- where a run begins
+abbrev pub start : List Float → FlowRun
+start c = record { total = nought; cap = c; level = []; phases = [] }
+
 unfoldable pub maxFlow : Net → List Float → FlowRun
 unfolding run
-maxFlow N c = run N (nodes N) (record { total = nought; cap = c; level = []; phases = [] })
+maxFlow N c = run N (nodes N) (start c)
 
 -- the pushes of all phases
 abbrev pub allPushes : List Phase → ℕ

@@ -1,0 +1,2 @@
+pub mod LinkWrites
+pub mod Fitting
