@@ -10,5 +10,4 @@ pub mod IdsExamples
 pub mod Models
 pub mod RowChecks
 pub mod Fits
-pub mod Answers
 pub mod Accepted

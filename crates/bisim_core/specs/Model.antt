@@ -105,13 +105,21 @@ weighs w = isZero w || (le leastWeight w && le w greatestWeight)
 abbrev pub joinedWeighs : Edge → Bool
 joinedWeighs a = le leastWeight (a .weight) && le (a .weight) greatestJoined
 
+-- 5: a weight outside 2^-40 to 2^52
+abbrev pub weightsOutside : Shape → Columns → Bool
+weightsOutside S M = not (all joinedWeighs (rows M 0 (S .states)))
+
+-- 6: a state with over 31 distinct targets other than itself
+abbrev pub crowded : Shape → Columns → Bool
+crowded S M = crowdedIn (rows M 0 (S .states)) (span 0 (S .states))
+
 -- the first check that fails, 0 if none does; `stray` where a number handed in beside the model is not below its count
 abbrev pub refusalWith : Bool → Shape → Columns → ℕ
 refusalWith stray S M =
     check 3 (large S)
     (check 4 (stray || unfit S M)
-    (check 5 (not (all joinedWeighs (rows M 0 (S .states))))
-    (check 6 (crowdedIn (rows M 0 (S .states)) (span 0 (S .states)))
+    (check 5 (weightsOutside S M)
+    (check 6 (crowded S M)
     0)))
 
 unfoldable pub modelRefusal : Shape → Columns → ℕ

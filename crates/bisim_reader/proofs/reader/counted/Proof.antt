@@ -1,7 +1,7 @@
 -- By whether the refusal is 0.
-use Rattle.bisim_core.proofs.Answers.{count-refused, count-found}
-use Rattle.bisim_core.proofs.reader.counted.Statement.{statement}
-use Rattle.bisim_core.proofs.reader.counted.Tie as tie
+use Rattle.bisim_reader.proofs.Answers.{count-refused, count-found}
+use Rattle.bisim_reader.proofs.reader.counted.Statement.{statement}
+use Rattle.bisim_reader.proofs.reader.counted.Tie as tie
 
 returns : tie.Need-returns
 returns c = count-refused _ _ (c .if1 .taken)

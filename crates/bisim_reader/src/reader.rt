@@ -1,21 +1,26 @@
 // What a built model that is handed in answers, once it has passed its check.
-use crate::check;
-use crate::ids::Found;
-use crate::ids::LabelId;
-use crate::ids::Resolved;
-use crate::ids::StateId;
-use crate::wlts::Counted;
-use crate::wlts::Initial;
-use crate::wlts::Shape;
-use crate::wlts::Start;
-use crate::wlts::Successors;
-use crate::wlts::model_refusal;
+use bisim_core::ids::Found;
+use bisim_core::ids::LabelId;
+use bisim_core::ids::Resolved;
+use bisim_core::ids::StateId;
+use bisim_core::wlts::Counted;
+use bisim_core::wlts::Initial;
+use bisim_core::wlts::Shape;
+use bisim_core::wlts::Start;
+use bisim_core::wlts::Successors;
+use bisim_core::wlts::model_refusal;
 ghost use mathlib.Core.Path.{_≡_};
 ghost use lib.Dec.{eqb};
 ghost use Rattle.numbers.specs.Refuse;
 ghost use Rattle.bisim_core.specs.Data.{columns};
 ghost use Rattle.bisim_core.specs.Model;
 ghost use Rattle.bisim_core.specs.Model.{countEnds, numStates, numTransitions, numLabels, startOf, startEnds, successorsOf, labelId};
+
+fn wide(x: u32) -> usize
+    ensures { λ r. ⌜ r ≡ x ⌝ }
+{
+    x as usize
+}
 
 fn counted(refusal: u32, number: usize) -> Counted
     ensures { λ r. ⌜ r ≡ countEnds refusal number ⌝ }
@@ -158,13 +163,13 @@ pub fn successors(
         edge_weights,
     );
     let k = s.0;
-    let at = check::wide(k);
+    let at = wide(k);
     let all = refused_with(at >= shape.states, refusal);
     if all != 0 {
         return Successors::Refused(all);
     }
-    let from = check::wide(offsets[at]);
-    let to = check::wide(offsets[at + 1]);
+    let from = wide(offsets[at]);
+    let to = wide(offsets[at + 1]);
     Successors::Edges(from, to)
 }
 
@@ -189,7 +194,7 @@ pub fn label(
         edge_weights,
     );
     let k = id.0;
-    let at = check::wide(k);
+    let at = wide(k);
     let all = refused_with(at >= shape.labels, refusal);
     if all != 0 {
         return Resolved::Refused(all);

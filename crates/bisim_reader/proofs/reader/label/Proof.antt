@@ -7,16 +7,16 @@ use lib.Dec.{eqb, leb}
 use lib.ListN.{getD}
 use borrow.Author.Tests.{leb-false}
 use Rattle.numbers.specs.Refuse.{check}
 use Rattle.bisim_core.specs.Data.{Columns, columns}
 use Rattle.bisim_core.specs.declared.wlts.Shape.{Shape}
 use Rattle.bisim_core.specs.Ids.{resolveEnds}
 use Rattle.bisim_core.specs.Model.{refusalWith}
 use Rattle.bisim_core.specs.Model as model
 use Rattle.bisim_core.proofs.Fits.{Small, Fit}
-use Rattle.bisim_core.proofs.Answers.{refusal-with, none-refused, resolve-refused, resolve-found}
+use Rattle.bisim_reader.proofs.Answers.{refusal-with, none-refused, resolve-refused, resolve-found}
 use borrow.Author.Needs.{needs}
-use Rattle.bisim_core.proofs.reader.label.Statement.{statement}
-use Rattle.bisim_core.proofs.reader.label.Tie as tie
+use Rattle.bisim_reader.proofs.reader.label.Statement.{statement}
+use Rattle.bisim_reader.proofs.reader.label.Tie as tie
 
 abbrev S : tie.Start → Shape
 S c = c .args .shape

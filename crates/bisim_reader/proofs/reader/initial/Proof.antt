@@ -1,11 +1,11 @@
 -- The refusal is the model's, and the answer is `started`'s of it.
 use mathlib.Core.Path.{ap, _∙_}
 use Prim.Native.Nat.{ℕ}
 use Rattle.bisim_core.specs.Model.{startOf, startEnds}
 use Rattle.bisim_core.specs.Model as model
 use borrow.Author.Needs.{needs}
-use Rattle.bisim_core.proofs.reader.initial.Statement.{statement}
-use Rattle.bisim_core.proofs.reader.initial.Tie as tie
+use Rattle.bisim_reader.proofs.reader.initial.Statement.{statement}
+use Rattle.bisim_reader.proofs.reader.initial.Tie as tie
 
 model-refusal-requires : tie.Need-model-refusal-requires
 model-refusal-requires c κs = search needs

@@ -2,8 +2,8 @@
 use mathlib.Core.Path.{refl, sym}
 use borrow.Author.Tests.{eq-eqb, ne-eqb}
 use Rattle.numbers.proofs.Refuses.{check-hit, check-skip}
-use Rattle.bisim_core.proofs.reader.refused_with.Statement.{statement}
-use Rattle.bisim_core.proofs.reader.refused_with.Tie as tie
+use Rattle.bisim_reader.proofs.reader.refused_with.Statement.{statement}
+use Rattle.bisim_reader.proofs.reader.refused_with.Tie as tie
 
 returns : tie.Need-returns
 returns c = sym (check-hit _ _ _ (eq-eqb _ _ (c .if1 .taken)))

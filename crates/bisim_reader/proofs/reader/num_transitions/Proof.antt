@@ -1,10 +1,10 @@
 -- The refusal is the model's, and the answer is `counted`'s of it.
 use mathlib.Core.Path.{ap, _∙_}
 use Prim.Native.Nat.{ℕ}
 use Rattle.bisim_core.specs.Model.{countEnds, numTransitions}
 use borrow.Author.Needs.{needs}
-use Rattle.bisim_core.proofs.reader.num_transitions.Statement.{statement}
-use Rattle.bisim_core.proofs.reader.num_transitions.Tie as tie
+use Rattle.bisim_reader.proofs.reader.num_transitions.Statement.{statement}
+use Rattle.bisim_reader.proofs.reader.num_transitions.Tie as tie
 
 model-refusal-requires : tie.Need-model-refusal-requires
 model-refusal-requires c κs = search needs

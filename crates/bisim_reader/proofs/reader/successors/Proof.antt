@@ -7,14 +7,14 @@ use lib.Dec.{eqb, leb}
 use lib.ListN.{getD}
 use borrow.Author.Tests.{leb-false}
 use Rattle.numbers.specs.Refuse.{check}
 use Rattle.bisim_core.specs.Data.{Columns, columns}
 use Rattle.bisim_core.specs.declared.wlts.Shape.{Shape}
 use Rattle.bisim_core.specs.Model.{begins, refusalWith, rowEnds, successorsOf}
 use Rattle.bisim_core.proofs.Fits.{Small, Fit}
-use Rattle.bisim_core.proofs.Answers.{refusal-with, none-refused, row-refused, row-found}
+use Rattle.bisim_reader.proofs.Answers.{refusal-with, none-refused, row-refused, row-found}
 use borrow.Author.Needs.{needs}
-use Rattle.bisim_core.proofs.reader.successors.Statement.{statement}
-use Rattle.bisim_core.proofs.reader.successors.Tie as tie
+use Rattle.bisim_reader.proofs.reader.successors.Statement.{statement}
+use Rattle.bisim_reader.proofs.reader.successors.Tie as tie
 
 abbrev S : tie.Start → Shape
 S c = c .args .shape

@@ -1,10 +1,10 @@
 -- By whether the refusal is 0, and the cases of the initial state.
 use mathlib.Core.Path.{sym, ap}
 use Rattle.bisim_core.specs.Model.{startOf}
-use Rattle.bisim_core.proofs.Answers.{start-refused, start-found}
+use Rattle.bisim_reader.proofs.Answers.{start-refused, start-found}
 use borrow.Author.Needs.{needs}
-use Rattle.bisim_core.proofs.reader.started.Statement.{statement}
-use Rattle.bisim_core.proofs.reader.started.Tie as tie
+use Rattle.bisim_reader.proofs.reader.started.Statement.{statement}
+use Rattle.bisim_reader.proofs.reader.started.Tie as tie
 
 returns : tie.Need-returns
 returns c = start-refused _ _ (c .if1 .taken)

@@ -5,15 +5,15 @@ use native.Mathlib.Omega.{arith}
 use lib.ListN.{take}
 use lib.Seq.{length-take-le}
 use Rattle.numbers.specs.Search.{seek}
 use Rattle.bisim_core.specs.Data.{Columns, columns}
 use Rattle.bisim_core.specs.declared.wlts.Shape.{Shape}
 use Rattle.bisim_core.specs.Ids.{listed, idOf, getEnds}
 use Rattle.bisim_core.specs.Model.{labelId}
 use Rattle.bisim_core.proofs.Fits.{Small, Fit}
-use Rattle.bisim_core.proofs.Answers.{passed, get-refused, get-found, id-found, id-absent}
+use Rattle.bisim_reader.proofs.Answers.{passed, get-refused, get-found, id-found, id-absent}
 use borrow.Author.Needs.{needs}
-use Rattle.bisim_core.proofs.reader.label_id.Statement.{statement}
-use Rattle.bisim_core.proofs.reader.label_id.Tie as tie
+use Rattle.bisim_reader.proofs.reader.label_id.Statement.{statement}
+use Rattle.bisim_reader.proofs.reader.label_id.Tie as tie
 
 abbrev S : tie.Start → Shape
 S c = c .args .shape
