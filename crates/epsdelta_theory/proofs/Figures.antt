@@ -1,4 +1,4 @@
--- M2, M8, M9 and the worked card of document 01, run by computation; and the card is not refused, so that the theorem says something.
+-- M2, M8, M9, M10 and the worked card of document 01, run by computation; and the card is not refused, so that the theorem says something.
 use mathlib.Core.Path.{_≡_, refl}
 use Prim.Native.Nat.{ℕ}
 use mathlib.Core.Bool.{Bool, true, false}
@@ -9,11 +9,13 @@ use Rattle.numbers.specs.Bits.{packed}
 use Rattle.numbers.specs.Real.{nought, one}
 use Rattle.bisim_core.specs.Data.{Columns, columns}
 use Rattle.bisim_core.specs.declared.wlts.Shape.{Shape}
-use Rattle.bisim_core.specs.declared.wlts.Initial.the-variants.{At}
+use Rattle.bisim_core.specs.declared.wlts.Initial.the-variants.{At, Absent}
 use Rattle.epsdelta_theory.specs.Relation.{related}
 use Rattle.epsdelta_theory.specs.Epsdelta.{ratesClose, Given, given, epsdelta}
-use Rattle.epsdelta_theory.specs.Refusal.{epsdeltaRefusal}
+use Rattle.epsdelta_theory.specs.Refusal.{epsdeltaRefusal, bisimilarRefusal, minEpsilonRefusal}
 use Rattle.epsdelta_theory.specs.Claim.{Sound}
+use Rattle.epsdelta_theory.specs.Bisimilar.{bisimilar}
+use Rattle.epsdelta_theory.specs.MinEpsilon.{at, none, minEpsilon}
 use Rattle.epsdelta_theory.proofs.Theorem.{epsdelta-sound}
 
 abbrev two : Float
@@ -93,20 +95,51 @@ card-nan : cardRefusal nan 2 ≡ 9
 unfolding epsdeltaRefusal ofBits
 card-nan = refl
 
+-- ---- the card without an initial state
+
+absentRefusal : Float → ℕ → ℕ
+absentRefusal ε bytes = bisimilarRefusal (record { states = 2; edges = 1; labels = 1; initial = Absent }) (line two) (shape 2 1) (line four) (0 ∷ 1 ∷ []) (0 ∷ 1 ∷ []) ε two bytes
+
+-- 8 comes before 9
+absent-nan : absentRefusal nan 2 ≡ 8
+unfolding absentRefusal bisimilarRefusal ofBits
+absent-nan = refl
+
+-- and after 7
+absent-short : absentRefusal nan 1 ≡ 7
+unfolding absentRefusal bisimilarRefusal ofBits
+absent-short = refl
+
 -- ---- M9: rates 3, 1 against 2, 2 to classes 1, 2, at ρ = 1
 
 abbrev fork : Float → Float → Columns
 fork v w = columns (0 ∷ []) (0 ∷ 2 ∷ 2 ∷ 2 ∷ []) (0 ∷ 0 ∷ []) (1 ∷ 2 ∷ []) (v ∷ w ∷ [])
 
-abbrev m9 : Float → Given
-m9 ε = given (shape 3 2) (fork (fin false 3 (pos 0)) one) (shape 3 2) (fork two two) (0 ∷ 1 ∷ 2 ∷ []) (0 ∷ 1 ∷ 2 ∷ []) ε one
+m9 : Float → Bool
+m9 ε = bisimilar (shape 3 2) (fork (fin false 3 (pos 0)) one) (shape 3 2) (fork two two) (0 ∷ 1 ∷ 2 ∷ []) (0 ∷ 1 ∷ 2 ∷ []) ε one
 
 -- alike at ε 0.25
-m9-alike : related 6 3 ((epsdelta (m9 (fin false 1 (negsuc 1)))) .relation) 0 0 ≡ true
-unfolding related epsdelta given ofBits
+m9-alike : m9 (fin false 1 (negsuc 1)) ≡ true
+unfolding m9 bisimilar ofBits
 m9-alike = refl
 
 -- not at 0.2
-m9-apart : related 6 3 ((epsdelta (m9 (fin false 3602879701896397 (negsuc 53)))) .relation) 0 0 ≡ false
-unfolding related epsdelta given ofBits
+m9-apart : m9 (fin false 3602879701896397 (negsuc 53)) ≡ false
+unfolding m9 bisimilar ofBits
 m9-apart = refl
+
+-- ---- M10: `min_epsilon` there is 0.25, after 16 runs
+
+m10 : minEpsilon (shape 3 2) (fork (fin false 3 (pos 0)) one) (shape 3 2) (fork two two) (0 ∷ 1 ∷ 2 ∷ []) (0 ∷ 1 ∷ 2 ∷ []) one
+    ≡ record { least = at (fin false 1 (negsuc 1)); tried = one ∷ nought ∷ fin false 1 (negsuc 0) ∷ fin false 1 (negsuc 1) ∷ fin false 1 (negsuc 2) ∷ fin false 3 (negsuc 3) ∷ fin false 7 (negsuc 4) ∷ fin false 15 (negsuc 5) ∷ fin false 31 (negsuc 6) ∷ fin false 63 (negsuc 7) ∷ fin false 127 (negsuc 8) ∷ fin false 255 (negsuc 9) ∷ fin false 511 (negsuc 10) ∷ fin false 1023 (negsuc 11) ∷ fin false 2047 (negsuc 12) ∷ fin false 4095 (negsuc 13) ∷ [] }
+unfolding minEpsilon ofBits
+m10 = refl
+
+m10-accepted : minEpsilonRefusal (shape 3 2) (fork (fin false 3 (pos 0)) one) (shape 3 2) (fork two two) (0 ∷ 1 ∷ 2 ∷ []) (0 ∷ 1 ∷ 2 ∷ []) one 5 ≡ 0
+unfolding minEpsilonRefusal ofBits
+m10-accepted = refl
+
+-- none for the card at ρ = 1.5, after the run at ε = 1
+card-none : minEpsilon (shape 2 1) (line two) (shape 2 1) (line four) (0 ∷ 1 ∷ []) (0 ∷ 1 ∷ []) threeHalves ≡ record { least = none; tried = one ∷ [] }
+unfolding minEpsilon ofBits
+card-none = refl

@@ -19,7 +19,7 @@ use Rattle.flow_theory.proofs.Accepted.{Accepted}
 use Rattle.flow_theory.proofs.Theorem.{nodeLists-length, flow-run}
 use Rattle.epsdelta_theory.specs.Jumps.{Jump, Jumps, prob}
 use Rattle.epsdelta_theory.specs.Relation.{holds}
-use Rattle.epsdelta_theory.specs.FlowTest.{Link, sourceLinks, sinkLinks, linkIf, crossLinks, allCrossLinks, linksOf, heads, caps, testLinks, testNodes, testNetwork, testRun}
+use Rattle.epsdelta_theory.specs.FlowTest.{Link, sourceLinks, sinkLinks, linkIf, crossLinks, allCrossLinks, linksOf, heads, caps, networkBetween, runBetween, testLinks, testNodes, testNetwork, testRun}
 use Rattle.epsdelta_theory.specs.Claim.{Cut}
 
 -- from 0 to 2 ^ 40
@@ -97,12 +97,12 @@ links-within m R ps pt h h' =
 
 -- ---- links as heads and capacities
 
-heads-length : (ls : List Link) → length (heads ls) ≡ length ls + length ls
+pub heads-length : (ls : List Link) → length (heads ls) ≡ length ls + length ls
 unfolding heads
 heads-length [] = refl
 heads-length (l ∷ ls) = let h = heads-length ls in omega arith
 
-caps-length : (ls : List Link) → length (caps ls) ≡ length (heads ls)
+pub caps-length : (ls : List Link) → length (caps ls) ≡ length (heads ls)
 unfolding caps heads
 caps-length [] = refl
 caps-length (l ∷ ls) = ap (λ (x : ℕ). suc (suc x)) (caps-length ls)
@@ -185,58 +185,57 @@ links-length m R ps pt h k =
 -- ---- the network
 
 pub test-nodes : (J : Jumps) (R : List Bool) (s t : ℕ) → nodes (testNetwork J R s t) ≡ testNodes J s t
-unfolding testNetwork
+unfolding testNetwork testLinks testNodes
 test-nodes J R s t = let hs = heads (testLinks J R s t) in nodeLists-length hs (testNodes J s t) (length hs)
 
 not-inf : (x : Float) → Low x → x ≢ inf false
 unfolding le
 not-inf x l e = subst Low e l
 
-module _ (J : Jumps) (R : List Bool) (s t : ℕ) (in-range : AllInRange (prob J s)) (in-range' : AllInRange (prob J t)) (few : length (prob J s) ≤ 31) (few' : length (prob J t) ≤ 31) where
-  abbrev N : Net
-  N = testNetwork J R s t
-
+-- refusal 15 never meets the network of two rows of at most 31 jumps
+module _ (m : ℕ) (R : List Bool) (ps pt : List Jump) (in-range : AllInRange ps) (in-range' : AllInRange pt) (few : length ps ≤ 31) (few' : length pt ≤ 31) where
   abbrev ls : List Link
-  ls = testLinks J R s t
+  ls = linksOf m R ps pt
 
   abbrev src : ℕ
-  src = length (prob J s) + length (prob J t)
+  src = length ps + length pt
 
-  within-test : LinksWithin (testNodes J s t) src ls
-  unfolding testLinks testNodes
-  within-test = links-within (length J) R (prob J s) (prob J t) in-range in-range'
+  within-test : LinksWithin (src + 2) src ls
+  within-test = links-within m R ps pt in-range in-range'
 
-  fewer : length ls ≤ 1088
-  unfolding testLinks
-  fewer = links-length (length J) R (prob J s) (prob J t) few few'
+  nodes-are : nodes (networkBetween m R ps pt) ≡ src + 2
+  nodes-are = nodeLists-length (heads ls) (src + 2) (length (heads ls))
 
-  nodes-are : nodes N ≡ length (prob J s) + length (prob J t) + 2
-  unfolding testNodes
-  nodes-are = test-nodes J R s t
-
-  -- refusal 15 never meets a flow test's network
-  pub test-accepted : Accepted (testNetwork J R s t) (caps (testLinks J R s t)) (length (testLinks J R s t))
-  unfolding testNetwork head left ofBits
-  test-accepted =
+  pub between-accepted : Accepted (networkBetween m R ps pt) (caps (linksOf m R ps pt)) (length (linksOf m R ps pt))
+  unfolding head left ofBits
+  between-accepted =
       let v = nodes-are in
       let hs = heads ls in
       record {
         few = omega arith;
-        small = fewer;
+        small = links-length m R ps pt few few';
         pairs = heads-length ls;
         size = caps-length ls;
-        heads-in = λ e h. rw (test-nodes J R s t) (heads-in (testNodes J s t) src ls within-test e h);
+        heads-in = λ e h. rw nodes-are (heads-in (src + 2) src ls within-test e h);
         source-in = omega arith;
         sink-in = omega arith;
         ends = omega arith;
-        range = λ e h. caps-capacity (testNodes J s t) src ls within-test e h;
-        finite = λ e h p. not-inf (getD (caps ls) e nan) (caps-low (testNodes J s t) src ls within-test e h p);
-        lists = ap (λ (x : ℕ). nodeLists hs x (length hs)) (sym (test-nodes J R s t));
+        range = λ e h. caps-capacity (src + 2) src ls within-test e h;
+        finite = λ e h p. not-inf (getD (caps ls) e nan) (caps-low (src + 2) src ls within-test e h p);
+        lists = ap (λ (x : ℕ). nodeLists hs x (length hs)) (sym nodes-are);
       }
 
-  pub test-bounded : Bounded (testNetwork J R s t) (length (testLinks J R s t)) (testRun J R s t)
-  unfolding testRun
-  test-bounded = flow-run (testNetwork J R s t) (caps (testLinks J R s t)) (length (testLinks J R s t)) test-accepted
+  pub between-bounded : Bounded (networkBetween m R ps pt) (caps (linksOf m R ps pt)) (length (linksOf m R ps pt)) (runBetween m R ps pt)
+  between-bounded = flow-run (networkBetween m R ps pt) (caps (linksOf m R ps pt)) (length (linksOf m R ps pt)) between-accepted
 
-pub cut-of : {N : Net} {E : ℕ} {r : FlowRun} → Bounded N E r → Cut N r
+module _ (J : Jumps) (R : List Bool) (s t : ℕ) (in-range : AllInRange (prob J s)) (in-range' : AllInRange (prob J t)) (few : length (prob J s) ≤ 31) (few' : length (prob J t) ≤ 31) where
+  pub test-accepted : Accepted (testNetwork J R s t) (caps (testLinks J R s t)) (length (testLinks J R s t))
+  unfolding testNetwork testLinks
+  test-accepted = between-accepted (length J) R (prob J s) (prob J t) in-range in-range' few few'
+
+  pub test-bounded : Bounded (testNetwork J R s t) (caps (testLinks J R s t)) (length (testLinks J R s t)) (testRun J R s t)
+  unfolding testRun testNetwork testLinks
+  test-bounded = between-bounded (length J) R (prob J s) (prob J t) in-range in-range' few few'
+
+pub cut-of : {N : Net} {c : List Float} {E : ℕ} {r : FlowRun} → Bounded N c E r → Cut N r
 cut-of b = record { source-in = b .source-in; sink-out = b .sink-out; none-out = b .cut }

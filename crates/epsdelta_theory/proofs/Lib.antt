@@ -4,6 +4,7 @@ pub mod Sweeps
 pub mod Strikes
 pub mod Runs
 pub mod FlowTests
+pub mod LinkRows
 pub mod Rates
 pub mod Targets
 pub mod Rows
@@ -11,3 +12,8 @@ pub mod Unrefused
 pub mod Theorem
 pub mod Figures
 pub mod Samples
+pub mod RowsIn
+pub mod RowReads
+pub mod TasksIn
+pub mod Halves
+pub mod MinEpsilon

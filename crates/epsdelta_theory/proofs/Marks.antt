@@ -31,6 +31,10 @@ from-at Q zero i j h = absurd (not-suc-le-zero h)
 from-at Q (suc k) i zero h = ap (at Q) (omega arith)
 from-at Q (suc k) i (suc j) h = from-at Q k (suc i) j (le-of-suc-le-suc h) ∙ ap (at Q) (omega arith)
 
+pub marks-entry : (Q : Task) (i : ℕ) → i < Q .states * Q .states → getD (marks Q) i false ≡ marked Q (min (i / Q .states) (i % Q .states)) (max (i / Q .states) (i % Q .states))
+unfolding marks
+marks-entry Q i h = from-at Q (Q .states * Q .states) 0 i h ∙ ap (at Q) (omega arith)
+
 pub marks-at : (Q : Task) (s t : ℕ) → s < Q .states → t < Q .states → holds (Q .states) (marks Q) s t ≡ marked Q (min s t) (max s t)
 unfolding marks holds
 marks-at Q s t h k =

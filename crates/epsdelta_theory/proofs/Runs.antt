@@ -1,6 +1,6 @@
 -- What holds of every run of sweeps, whatever its test of a pair, if its rate test holds of a state with itself: the final relation, standing and missing pairs, strikes.
 -- The strikes lead from the marks, which are symmetric, to the final relation (Strikes), and the run ends with a sweep in which every pair passes (Sweeps).
-use mathlib.Core.Path.{_≡_, sym, subst, ap, _∙_}
+use mathlib.Core.Path.{_≡_, refl, sym, subst, ap, _∙_}
 use Prim.Native.Nat.{ℕ, _<_, _+_, _*_, _/_}
 use mathlib.Core.Bool.{Bool, true, false}
 use mathlib.Core.List.{List}
@@ -52,6 +52,11 @@ module _ (Q : Task) where
   -- every strike was made for a reason
   pub run-justified : (k : Strike) → In k ((run Q) .strikes) → Justified Q k
   run-justified k i = trail-justified Q strikes ((finished Q) .kept .justified) k i
+
+  pub run-struck : (k : Strike) → In k ((run Q) .strikes) → (k .low < k .high) × (k .high < Q .states) × Struck Q (run Q) (k .low) (k .high) k
+  run-struck k i =
+      let a : Justified Q k = run-justified k i in
+      (a .apart, a .inside, record { listed = i; low = refl; high = refl; stood = a .stood; exits = a .exits; failed = a .failed; within = trail-within Q strikes relation run-trail k i })
 
   pub run-missing : (s t : ℕ) → s < t → t < Q .states → Q .class s ≡ Q .class t → Q .ratesPass s t ≡ true → holds (Q .states) ((run Q) .relation) s t ≡ false
       → (k : Strike) × Struck Q (run Q) s t k

@@ -18,7 +18,7 @@ use Rattle.bisim_core.specs.Model.{model}
 use Rattle.flow_theory.specs.Claim.{Bounded}
 use Rattle.epsdelta_theory.specs.Jumps.{Jumps, union, noRow, exit, prob}
 use Rattle.epsdelta_theory.specs.Sweeps.{Strike}
-use Rattle.epsdelta_theory.specs.FlowTest.{testLinks, testNetwork, testRun}
+use Rattle.epsdelta_theory.specs.FlowTest.{caps, testLinks, testNetwork, testRun}
 use Rattle.epsdelta_theory.specs.Epsdelta.{ratesClose, Given, given, task, epsdelta}
 use Rattle.epsdelta_theory.specs.Refusal.{epsdeltaRefusal}
 use Rattle.epsdelta_theory.specs.Claim.{failedFrom, failedTo, Cut, states, Sound}
@@ -27,7 +27,7 @@ use Rattle.epsdelta_theory.proofs.Rates.{Summed, self-close}
 use Rattle.epsdelta_theory.proofs.Rows.{RowOf, model-length, union-length, union-rows}
 use Rattle.epsdelta_theory.proofs.FlowTests.{test-nodes, test-bounded, cut-of}
 use Rattle.epsdelta_theory.proofs.Sweeps.{Justified}
-use Rattle.epsdelta_theory.proofs.Runs.{run-trail, run-ended, run-symmetric, run-reflexive, run-standing, run-justified, run-missing}
+use Rattle.epsdelta_theory.proofs.Runs.{run-trail, run-ended, run-symmetric, run-reflexive, run-standing, run-justified, run-struck, run-missing}
 
 -- what the run asks of what it is given: bounded rows, and a rate test that holds of a state with itself
 pub record Ready (G : Given) : Type 0 where
@@ -39,7 +39,7 @@ module _ (G : Given) (K : Ready G) where
   either true u v p q = p
   either false u v p q = q
 
-  bounds : (R : List Bool) (s t : ℕ) → s < states G → t < states G → Bounded (testNetwork (G .jumps) R s t) (length (testLinks (G .jumps) R s t)) (testRun (G .jumps) R s t)
+  bounds : (R : List Bool) (s t : ℕ) → s < states G → t < states G → Bounded (testNetwork (G .jumps) R s t) (caps (testLinks (G .jumps) R s t)) (length (testLinks (G .jumps) R s t)) (testRun (G .jumps) R s t)
   bounds R s t h k = test-bounded (G .jumps) R s t (unfold prob in ((K .rows s h) .in-range)) (unfold prob in ((K .rows t k) .in-range)) (unfold prob in ((K .rows s h) .few)) (unfold prob in ((K .rows t k) .few))
 
   cuts : (k : Strike) → In k ((epsdelta G) .strikes) → Cut (testNetwork (G .jumps) (k .before) (failedFrom k) (failedTo k)) (testRun (G .jumps) (k .before) (failedFrom k) (failedTo k))
@@ -56,9 +56,11 @@ module _ (G : Given) (K : Ready G) where
     reflexive = run-reflexive (task G) (K .self-passes);
     standing = run-standing (task G);
     missing = run-missing (task G);
+    strikes-failed = run-struck (task G);
     cut = cuts;
     nodes-counted = test-nodes (G .jumps);
     bounded = bounds;
+    traced = λ R s t h k. (bounds R s t h k) .traced;
     trail = run-trail (task G);
     ended = run-ended (task G);
   }

@@ -9,10 +9,10 @@ use Rattle.numbers.specs.Real.{eps}
 use Rattle.numbers.specs.Lists.{In}
 use Rattle.flow_theory.specs.Network.{Net, nodes, links, head, tail, left}
 use Rattle.flow_theory.specs.Run.{FlowRun}
-use Rattle.flow_theory.specs.Claim.{inCut, Bounded}
+use Rattle.flow_theory.specs.Claim.{Traced, inCut, Bounded}
 use Rattle.epsdelta_theory.specs.Relation.{holds, clear}
 use Rattle.epsdelta_theory.specs.Sweeps.{Task, marks, Strike, Run, sweep}
-use Rattle.epsdelta_theory.specs.FlowTest.{testLinks, testNodes, testNetwork, testRun}
+use Rattle.epsdelta_theory.specs.FlowTest.{caps, testLinks, testNodes, testNetwork, testRun}
 use Rattle.epsdelta_theory.specs.Epsdelta.{Given, class, task, epsdelta}
 
 -- ---- of a run of sweeps, whatever its tests
@@ -92,14 +92,17 @@ pub record Sound (G : Given) : Type 0 where
   -- a missing pair with equal classes and passed rates was struck on a flow test that failed
   pub missing : (s t : ℕ) → s < t → t < states G → class G s ≡ class G t → (task G) .ratesPass s t ≡ true
       → holds (states G) (final G) s t ≡ false → (k : Strike) × Struck (task G) (epsdelta G) s t k
+  -- every strike listed is of a pair s < t that stood, on a test that failed
+  pub strikes-failed : (k : Strike) → In k ((epsdelta G) .strikes) → (k .low < k .high) × (k .high < states G) × Struck (task G) (epsdelta G) (k .low) (k .high) k
   -- the failed test of every strike left a cut
   pub cut : (k : Strike) → In k ((epsdelta G) .strikes)
       → Cut (testNetwork (G .jumps) (k .before) (failedFrom k) (failedTo k)) (testRun (G .jumps) (k .before) (failedFrom k) (failedTo k))
-  -- every flow test, passed or failed, has V nodes and E added links: at most V - 1 phases, at most E pushes in each, the sink's level higher in each than in the one before; these phases
-  -- and pushes are the steps of its run
+  -- every flow test, passed or failed, has V nodes and E added links: at most V - 1 phases, at most E pushes in each, the sink's level higher in each than in the one before
   pub nodes-counted : (R : List Bool) (s t : ℕ) → nodes (testNetwork (G .jumps) R s t) ≡ testNodes (G .jumps) s t
   pub bounded : (R : List Bool) (s t : ℕ) → s < states G → t < states G
-      → Bounded (testNetwork (G .jumps) R s t) (length (testLinks (G .jumps) R s t)) (testRun (G .jumps) R s t)
+      → Bounded (testNetwork (G .jumps) R s t) (caps (testLinks (G .jumps) R s t)) (length (testLinks (G .jumps) R s t)) (testRun (G .jumps) R s t)
+  -- its phases and pushes are the steps of its run, from its links' capacities on
+  pub traced : (R : List Bool) (s t : ℕ) → s < states G → t < states G → Traced (testNetwork (G .jumps) R s t) (caps (testLinks (G .jumps) R s t)) (testRun (G .jumps) R s t)
   -- the strikes are the run's own trace, and the run ends with a sweep without a strike
   pub trail : Trail (task G) ((epsdelta G) .strikes) (final G)
   pub ended : Ended (task G) (epsdelta G)

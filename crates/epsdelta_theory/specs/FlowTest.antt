@@ -59,6 +59,14 @@ unfoldable pub caps : List Link → List Float
 caps [] = []
 caps (l ∷ ls) = l .cap ∷ nought ∷ caps ls
 
+-- the network of these links: a source, a node per target of s, one per target of t, and a sink; its node lists are those that adding the links in order gives
+abbrev pub networkBetween : ℕ → List Bool → List Jump → List Jump → Net
+networkBetween n R ps pt = let source = length ps + length pt in network (heads (linksOf n R ps pt)) (source + 2) source (suc source)
+
+-- `max_flow` on it
+abbrev pub runBetween : ℕ → List Bool → List Jump → List Jump → FlowRun
+runBetween n R ps pt = maxFlow (networkBetween n R ps pt) (caps (linksOf n R ps pt))
+
 -- the links that the test adds: E counts these
 unfoldable pub testLinks : Jumps → List Bool → ℕ → ℕ → List Link
 unfolding linksOf prob
@@ -69,15 +77,15 @@ unfoldable pub testNodes : Jumps → ℕ → ℕ → ℕ
 unfolding prob
 testNodes J s t = length (prob J s) + length (prob J t) + 2
 
--- the network of the test, its node lists those that adding the links in order gives
+-- the network of the test
 unfoldable pub testNetwork : Jumps → List Bool → ℕ → ℕ → Net
-unfolding testLinks heads testNodes prob nodeLists
-testNetwork J R s t = let source = length (prob J s) + length (prob J t) in network (heads (testLinks J R s t)) (testNodes J s t) source (suc source)
+unfolding linksOf heads prob nodeLists
+testNetwork J R s t = networkBetween (length J) R (prob J s) (prob J t)
 
--- `max_flow` on it
+-- the run on it
 unfoldable pub testRun : Jumps → List Bool → ℕ → ℕ → FlowRun
-unfolding testNetwork caps testLinks maxFlow
-testRun J R s t = maxFlow (testNetwork J R s t) (caps (testLinks J R s t))
+unfolding linksOf heads caps prob nodeLists maxFlow
+testRun J R s t = runBetween (length J) R (prob J s) (prob J t)
 
 -- (1 - ε) - 1e-9
 unfoldable pub needed : Float → Float

@@ -8,10 +8,16 @@ use lib.Ieee.{Float, binary64, add, div}
 use Rattle.numbers.specs.Real.{nought, sum}
 use Rattle.bisim_core.specs.Data.{Edge}
 
--- a jump target, and the rate at which it is jumped to
+-- a jump target, and the rate at which it is jumped to, or that rate divided by the exit rate
 pub record Jump : Type 0 where
   pub target : ℕ
   pub rate : Float
+
+-- jumps from a list of targets and a list of rates
+unfoldable pub jumpsOf : List ℕ → List Float → List Jump
+jumpsOf [] ws = []
+jumpsOf (t ∷ ts) [] = []
+jumpsOf (t ∷ ts) (w ∷ ws) = record { target = t; rate = w } ∷ jumpsOf ts ws
 
 -- ---- the rates of a state: edges in order, equal targets joined by adding, by rising target
 

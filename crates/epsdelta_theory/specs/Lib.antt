@@ -5,3 +5,5 @@ pub mod FlowTest
 pub mod Epsdelta
 pub mod Refusal
 pub mod Claim
+pub mod Bisimilar
+pub mod MinEpsilon
