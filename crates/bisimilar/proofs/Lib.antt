@@ -1,0 +1,4 @@
+pub mod Checking
+pub mod Reading
+pub mod Judging
+pub mod Figures

@@ -1,0 +1,37 @@
+-- What `epsdelta_bisimilar` answers, and what it leaves in the bytes that are lent for the relation.
+use Prim.Native.Nat.{ℕ, zero, suc}
+use mathlib.Core.Bool.{Bool}
+use mathlib.Core.List.{List}
+use lib.ListN.{length, replicate}
+use lib.Ieee.{Float}
+use Rattle.bisim_core.specs.Data.{Columns}
+use Rattle.bisim_core.specs.declared.wlts.Shape.{Shape}
+use Rattle.epsdelta_theory.specs.Refusal.{bisimilarRefusal}
+use Rattle.epsdelta_theory.specs.Bisimilar.{bisimilar}
+use Rattle.epsdelta.specs.declared.relation.Ended.{Ended}
+use Rattle.epsdelta.specs.declared.relation.Ended.the-variants as ended
+use Rattle.bisimilar.specs.Related.{verdict, relatedOutcome}
+use Rattle.bisimilar.specs.declared.related.Verdict.{Verdict}
+use Rattle.bisimilar.specs.declared.related.Verdict.the-variants.{Refused}
+
+-- the answer, and the bytes
+pub record Outcome : Type 0 where
+  pub answer : Verdict
+  pub relation : List ℕ
+
+abbrev pub judged : Verdict → List ℕ → Outcome
+judged a store = record { answer = a; relation = store }
+
+-- the number of the check that failed and the bytes as they were, or yes or no and every byte zero
+abbrev pub judgedBy : ℕ → Bool → List ℕ → Outcome
+judgedBy zero b store = judged (verdict b) (replicate (length store) 0)
+judgedBy (suc r) b store = judged (Refused (suc r)) store
+
+-- how a relation that is made, or refused, is read at s and t and cleared
+abbrev pub concluded : Ended → ℕ → ℕ → ℕ → ℕ → List ℕ → Outcome
+concluded (ended.Refused r) left right s t store = judged (Refused r) store
+concluded ended.Related left right s t store = judged (relatedOutcome left right store s t) (replicate (length store) 0)
+
+-- two models handed in, classes, ε, ρ and the bytes lent for the relation
+abbrev pub bisimilarOutcome : Shape → Columns → Shape → Columns → List ℕ → List ℕ → Float → Float → List ℕ → Outcome
+bisimilarOutcome SL ML SR MR cl cr ε ρ store = judgedBy (bisimilarRefusal SL ML SR MR cl cr ε ρ (length store)) (bisimilar SL ML SR MR cl cr ε ρ) store
