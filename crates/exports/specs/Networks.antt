@@ -9,27 +9,9 @@ use Rattle.flow_theory.specs.Run.{maxFlow}
 use Rattle.flow_theory.specs.Rows.{network}
 use Rattle.flow_check.specs.Refusal.{accepts}
 use Rattle.flow_core.specs.Outcome.{Outcome, settled}
-use Rattle.flow_core.specs.declared.rows.Answer.{Answer}
-use Rattle.flow_core.specs.declared.rows.Answer.the-variants as says
 use Rattle.flow.specs.declared.network.FlowNetwork.{FlowNetwork}
 use Rattle.flow.specs.declared.network.Made.{Made}
 use Rattle.flow.specs.Network.{leaves}
-
--- the number returned, and what the references then hold: flow, phases, pushes
-pub record Told : Type 0 where
-  pub number : ℕ
-  pub flow : Float
-  pub phases : ℕ
-  pub pushes : ℕ
-
--- those four
-abbrev pub told : ℕ → Float → ℕ → ℕ → Told
-told k f p q = record { number = k; flow = f; phases = p; pushes = q }
-
--- 0 and the run's figures; or the refusal's number and what the references held before
-abbrev pub ofFlow : Answer → Float → ℕ → ℕ → Told
-ofFlow (says.Flow f p q) x y z = told 0 f p q
-ofFlow (says.Refused k) x y z = told k x y z
 
 -- a network in rows is accepted: it has 67 starts, of which one more than there are nodes count
 abbrev pub acceptsRows : List ℕ → List Float → List Float → List ℕ → List ℕ → ℕ → ℕ → ℕ → Bool

@@ -1,17 +1,18 @@
 // The library for C and Rust: numbers, slices and references to numbers, and to networks of links. Where a function can refuse, it returns the refusal's
 // number, or 0 with its answer behind the references at its end, which a refusal leaves as they were.
-mod answers; // answers.rt: answers as numbers
 mod networks; // networks.rt: networks of links
+mod relations; // relations.rt: relations of two models
 
 use bisim_build::builder;
 use bisim_core::ids;
 use bisim_core::ids::LabelId;
 use bisim_core::ids::StateId;
-use bisim_core::reader;
 use bisim_core::wlts;
-use bisim_core::wlts::Initial;
-use bisim_core::wlts::Shape;
+use bisim_reader::reader;
 use numbers::Real;
+use replies::answers;
+use replies::shapes::initial_of;
+use replies::shapes::shape_of;
 ghost use mathlib.Core.Path.{_≡_};
 ghost use mathlib.Core.List.{[], _∷_};
 ghost use Rattle.numbers.specs.Real.{isZero, isValid, sum};
@@ -19,7 +20,7 @@ ghost use Rattle.bisim_core.specs.Data.{columns, transitions};
 ghost use Rattle.bisim_core.specs.Ids;
 ghost use Rattle.bisim_core.specs.Model;
 ghost use Rattle.bisim_build.specs.Build;
-ghost use Rattle.exports.specs.Answers.{initial, shape, ofInterned, ofFound, ofResolved, ofCounted, ofStart, ofSuccessors, ofBuilt};
+ghost use Rattle.replies.specs.Answers.{initial, shape, ofInterned, ofFound, ofResolved, ofCounted, ofStart, ofSuccessors, ofBuilt};
 
 #[no_mangle]
 pub extern "C" fn tanqesha_is_valid(x: f64) -> bool
@@ -77,29 +78,6 @@ pub extern "C" fn tanqesha_resolve(labels: &[u32], count: usize, id: u32, value:
 {
     let answer = ids::resolve(labels, count, LabelId(id));
     answers::put_resolved(answer, value)
-}
-
-// No initial state where `present` is 0.
-fn initial_of(present: u32, start: u32) -> Initial
-    ensures { λ r. ⌜ r ≡ initial present start ⌝ }
-{
-    if present == 0 {
-        Initial::Absent
-    } else {
-        Initial::At(StateId(start))
-    }
-}
-
-fn shape_of(states: usize, edges: usize, labels: usize, present: u32, start: u32) -> Shape
-    ensures { λ r. ⌜ r ≡ shape states edges labels (initial present start) ⌝ }
-{
-    let initial = initial_of(present, start);
-    Shape {
-        states,
-        edges,
-        labels,
-        initial,
-    }
 }
 
 #[no_mangle]

@@ -1,17 +1,18 @@
 // Networks of links and their maximum flow: over rows of numbers, and on a network that is lent, laid out as C has it.
-use crate::answers;
 use flow::network;
 use flow::network::FlowNetwork;
 use flow::network::Made;
 use flow_check::check;
 use flow_core::rows;
 use flow_core::rows::Answer;
+use replies::answers;
 ghost use mathlib.Core.Path.{_≡_};
 ghost use lib.ListN.{length};
 ghost use Rattle.flow_core.specs.Outcome.{ends, Claimed};
 ghost use Rattle.flow.specs.Network;
 ghost use Rattle.flow.specs.Network.{ClaimedOn, leaves, made, added};
-ghost use Rattle.exports.specs.Networks.{told, ofFlow, flowRows, networkRefusal, kept};
+ghost use Rattle.replies.specs.Flows.{told, ofFlow};
+ghost use Rattle.exports.specs.Networks.{flowRows, networkRefusal, kept};
 
 // The number of starts in a network's rows.
 const STARTS: usize = 67;

@@ -41,7 +41,7 @@ pub fn expect_two(buf: &mut [u8; 65536], r: Reader, a: Answer) -> Reader {
 pub fn check_one(
     buf: &mut [u8; 65536],
     r: Reader,
-    counts: &mut [u64; 40],
+    counts: &mut [u64; 48],
     entry: usize,
     a: Answer,
 ) -> Reader {
@@ -52,7 +52,7 @@ pub fn check_one(
 pub fn check_two(
     buf: &mut [u8; 65536],
     r: Reader,
-    counts: &mut [u64; 40],
+    counts: &mut [u64; 48],
     entry: usize,
     a: Answer,
 ) -> Reader {
@@ -61,14 +61,18 @@ pub fn check_two(
 }
 
 // A refusal alone.
+pub fn expect_refusal(buf: &mut [u8; 65536], r: Reader, refusal: u32) -> Reader {
+    let s = text::name(buf, r);
+    text::expect(buf, s, refusal as u64)
+}
+
 pub fn check_refusal(
     buf: &mut [u8; 65536],
     r: Reader,
-    counts: &mut [u64; 40],
+    counts: &mut [u64; 48],
     entry: usize,
     refusal: u32,
 ) -> Reader {
-    let s = text::name(buf, r);
-    let t = text::expect(buf, s, refusal as u64);
-    tally::count(counts, entry, t)
+    let s = expect_refusal(buf, r, refusal);
+    tally::count(counts, entry, s)
 }

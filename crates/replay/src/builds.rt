@@ -137,7 +137,7 @@ fn run_columns(buf: &mut [u8; 65536], r: Reader, x: Asked) -> Reader {
     )
 }
 
-pub fn run(buf: &mut [u8; 65536], r: Reader, counts: &mut [u64; 40]) -> Reader {
+pub fn run(buf: &mut [u8; 65536], r: Reader, counts: &mut [u64; 48]) -> Reader {
     let states = text::number_field(buf, r);
     let initial = text::number_field(buf, states.r);
     let given = text::number_field(buf, initial.r);

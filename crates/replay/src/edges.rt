@@ -126,7 +126,7 @@ fn compare(buf: &mut [u8; 65536], r: Reader, l: Listed, x: Asked, made: Made) ->
     text::marked(u, u.fine, u.same && same_else(l, x, made))
 }
 
-pub fn run(buf: &mut [u8; 65536], r: Reader, counts: &mut [u64; 40]) -> Reader {
+pub fn run(buf: &mut [u8; 65536], r: Reader, counts: &mut [u64; 48]) -> Reader {
     let l = nets::read(buf, r);
     let from = text::number_field(buf, l.r);
     let to = text::number_field(buf, from.r);

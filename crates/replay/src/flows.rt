@@ -75,7 +75,7 @@ fn compare(buf: &mut [u8; 65536], r: Reader, net: FlowNetwork, ran: Ran, n: usiz
     text::marked(t, t.fine, t.same && same_else(net, after, n))
 }
 
-pub fn run(buf: &mut [u8; 65536], r: Reader, counts: &mut [u64; 40]) -> Reader {
+pub fn run(buf: &mut [u8; 65536], r: Reader, counts: &mut [u64; 48]) -> Reader {
     let l = nets::read(buf, r);
     let source = text::number_field(buf, l.r);
     let sink = text::number_field(buf, source.r);

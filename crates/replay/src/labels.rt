@@ -17,7 +17,7 @@ struct Asked {
 fn compare_intern(
     buf: &mut [u8; 65536],
     r: Reader,
-    counts: &mut [u64; 40],
+    counts: &mut [u64; 48],
     labels: &[u32],
     a: Answer,
 ) -> Reader {
@@ -29,7 +29,7 @@ fn compare_intern(
 fn check_intern(
     buf: &mut [u8; 65536],
     r: Reader,
-    counts: &mut [u64; 40],
+    counts: &mut [u64; 48],
     labels: &mut [u32],
     x: Asked,
 ) -> Reader {
@@ -37,7 +37,7 @@ fn check_intern(
     compare_intern(buf, r, counts, labels, a)
 }
 
-pub fn run_intern(buf: &mut [u8; 65536], r: Reader, counts: &mut [u64; 40]) -> Reader {
+pub fn run_intern(buf: &mut [u8; 65536], r: Reader, counts: &mut [u64; 48]) -> Reader {
     let mut labels = [0u32; 2112];
     let l = text::list_field(buf, r, &mut labels);
     let count = text::number_field(buf, l.r);
@@ -53,7 +53,7 @@ pub fn run_intern(buf: &mut [u8; 65536], r: Reader, counts: &mut [u64; 40]) -> R
 fn check_label(
     buf: &mut [u8; 65536],
     r: Reader,
-    counts: &mut [u64; 40],
+    counts: &mut [u64; 48],
     labels: &[u32],
     x: Asked,
 ) -> Reader {
@@ -63,7 +63,7 @@ fn check_label(
     answers::check_one(buf, s, counts, entries::RESOLVE, resolve)
 }
 
-pub fn run_label(buf: &mut [u8; 65536], r: Reader, counts: &mut [u64; 40]) -> Reader {
+pub fn run_label(buf: &mut [u8; 65536], r: Reader, counts: &mut [u64; 48]) -> Reader {
     let mut labels = [0u32; 2112];
     let l = text::list_field(buf, r, &mut labels);
     let count = text::number_field(buf, l.r);

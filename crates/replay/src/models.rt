@@ -1,20 +1,21 @@
 // The kind `model`: the check of a built model, and its readers.
 use crate::answers;
+use crate::columns;
 use crate::entries;
 use crate::outcomes;
 use crate::text;
 use crate::text::Reader;
 use bisim_core::ids::LabelId;
 use bisim_core::ids::StateId;
-use bisim_core::reader;
 use bisim_core::wlts;
 use bisim_core::wlts::Shape;
+use bisim_reader::reader;
 
 // The check, and the counts.
 fn check_counts(
     buf: &mut [u8; 65536],
     r: Reader,
-    counts: &mut [u64; 40],
+    counts: &mut [u64; 48],
     shape: Shape,
     label_values: &[u32],
     offsets: &[u32],
@@ -70,7 +71,7 @@ struct Asked {
 fn check_readers(
     buf: &mut [u8; 65536],
     r: Reader,
-    counts: &mut [u64; 40],
+    counts: &mut [u64; 48],
     x: Asked,
     shape: Shape,
     label_values: &[u32],
@@ -125,7 +126,7 @@ fn check_readers(
 fn run_readers(
     buf: &mut [u8; 65536],
     r: Reader,
-    counts: &mut [u64; 40],
+    counts: &mut [u64; 48],
     shape: Shape,
     label_values: &[u32],
     offsets: &[u32],
@@ -166,46 +167,31 @@ fn run_readers(
     )
 }
 
-fn run_columns(buf: &mut [u8; 65536], r: Reader, counts: &mut [u64; 40], shape: Shape) -> Reader {
+pub fn run(buf: &mut [u8; 65536], r: Reader, counts: &mut [u64; 48]) -> Reader {
     let mut l_store = [0u32; 2112];
     let mut o_store = [0u32; 2112];
     let mut el_store = [0u32; 2112];
     let mut et_store = [0u32; 2112];
     let mut ew_store = [0.0f64; 2112];
-    let l = text::list_field(buf, r, &mut l_store);
-    let label_values = text::front(&l_store, l.n);
-    let o = text::list_field(buf, l.r, &mut o_store);
-    let offsets = text::front(&o_store, o.n);
-    let el = text::list_field(buf, o.r, &mut el_store);
-    let edge_labels = text::front(&el_store, el.n);
-    let et = text::list_field(buf, el.r, &mut et_store);
-    let edge_targets = text::front(&et_store, et.n);
-    let ew = text::reals_field(buf, et.r, &mut ew_store);
-    let edge_weights = text::reals_front(&ew_store, ew.n);
+    let x = columns::read_shape(buf, r);
+    let c = columns::read(
+        buf,
+        x.r,
+        &mut l_store,
+        &mut o_store,
+        &mut el_store,
+        &mut et_store,
+        &mut ew_store,
+    );
     run_readers(
         buf,
-        ew.r,
+        c.r,
         counts,
-        shape,
-        label_values,
-        offsets,
-        edge_labels,
-        edge_targets,
-        edge_weights,
+        x.shape,
+        columns::part(&l_store, c.label_values),
+        columns::part(&o_store, c.offsets),
+        columns::part(&el_store, c.edge_labels),
+        columns::part(&et_store, c.edge_targets),
+        columns::reals_part(&ew_store, c.edge_weights),
     )
-}
-
-pub fn run(buf: &mut [u8; 65536], r: Reader, counts: &mut [u64; 40]) -> Reader {
-    let states = text::number_field(buf, r);
-    let edges = text::number_field(buf, states.r);
-    let labels = text::number_field(buf, edges.r);
-    let initial = text::number_field(buf, labels.r);
-    let start = outcomes::to_initial(initial.x);
-    let shape = Shape {
-        states: states.x as usize,
-        edges: edges.x as usize,
-        labels: labels.x as usize,
-        initial: start,
-    };
-    run_columns(buf, initial.r, counts, shape)
 }

@@ -37,7 +37,7 @@ fn compare(buf: &mut [u8; 65536], r: Reader, made: Made) -> Reader {
     text::marked(s, s.fine, s.same && is_blank(net))
 }
 
-pub fn run(buf: &mut [u8; 65536], r: Reader, counts: &mut [u64; 40]) -> Reader {
+pub fn run(buf: &mut [u8; 65536], r: Reader, counts: &mut [u64; 48]) -> Reader {
     let nodes = text::number_field(buf, r);
     let made = network::new(nodes.x as usize);
     let s = compare(buf, nodes.r, made);

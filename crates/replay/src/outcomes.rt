@@ -12,6 +12,8 @@ use bisim_core::wlts::Counted;
 use bisim_core::wlts::Initial;
 use bisim_core::wlts::Start;
 use bisim_core::wlts::Successors;
+use bisimilar::related::Verdict;
+use epsdelta::relation::Ended;
 
 pub fn of_interned(a: Interned) -> Answer {
     match a {
@@ -70,6 +72,22 @@ pub fn of_built(a: Built) -> Answer {
     match a {
         Built::Model(shape) => given(shape.edges as u64, shape.labels as u64),
         Built::Refused(k) => refused(k),
+    }
+}
+
+// The refusal, or 0.
+pub fn of_ended(a: Ended) -> u32 {
+    match a {
+        Ended::Related => 0,
+        Ended::Refused(k) => k,
+    }
+}
+
+pub fn of_verdict(a: Verdict) -> Answer {
+    match a {
+        Verdict::Related => given(1, 0),
+        Verdict::Unrelated => given(0, 0),
+        Verdict::Refused(k) => refused(k),
     }
 }
 

@@ -284,7 +284,7 @@ pub fn real_field(buf: &mut [u8; 65536], r: Reader) -> RealRead {
 }
 
 // As many entries as there is room for.
-fn sized(n: NumberRead, room: usize) -> Listed
+pub fn sized(n: NumberRead, room: usize) -> Listed
     ensures { λ l. ⌜ l .n ≤ room ⌝ }
 {
     let r = n.r;
@@ -331,6 +331,26 @@ pub fn reals_field(buf: &mut [u8; 65536], r: Reader, out: &mut [f64]) -> Listed 
     Listed { n: n, r: s }
 }
 
+fn byte(x: u64) -> u8 {
+    if x < 256 { x as u8 } else { 0 }
+}
+
+// A list of bytes.
+pub fn bytes_field(buf: &mut [u8; 65536], r: Reader, out: &mut [u8]) -> Listed {
+    let count = number_field(buf, r);
+    let l = sized(count, out.len());
+    let n = l.n;
+    let mut s = l.r;
+    let mut i = 0;
+    while i < n {
+        let x = short(buf, s);
+        out[i] = byte(x.x);
+        s = x.r;
+        i += 1;
+    }
+    Listed { n: n, r: s }
+}
+
 // The first n entries; all where there are fewer.
 pub fn front<'a>(xs: &'a [u32], n: usize) -> &'a [u32] {
     if n <= xs.len() {
@@ -346,6 +366,13 @@ pub fn reals_front<'a>(xs: &'a [f64], n: usize) -> &'a [f64] {
     xs
 }
 
+pub fn bytes_front<'a>(xs: &'a [u8], n: usize) -> &'a [u8] {
+    if n <= xs.len() {
+        return &xs[..n];
+    }
+    xs
+}
+
 pub fn front_mut<'a>(xs: &'a mut [u32], n: usize) -> &'a mut [u32] {
     if n <= xs.len() {
         return &mut xs[..n];
@@ -354,6 +381,13 @@ pub fn front_mut<'a>(xs: &'a mut [u32], n: usize) -> &'a mut [u32] {
 }
 
 pub fn reals_front_mut<'a>(xs: &'a mut [f64], n: usize) -> &'a mut [f64] {
+    if n <= xs.len() {
+        return &mut xs[..n];
+    }
+    xs
+}
+
+pub fn bytes_front_mut<'a>(xs: &'a mut [u8], n: usize) -> &'a mut [u8] {
     if n <= xs.len() {
         return &mut xs[..n];
     }
@@ -399,6 +433,17 @@ pub fn expect_reals(buf: &mut [u8; 65536], r: Reader, xs: &[f64]) -> Reader {
     let mut i = 0;
     while i < xs.len() {
         s = expect_real(buf, s, xs[i]);
+        i += 1;
+    }
+    s
+}
+
+pub fn expect_bytes(buf: &mut [u8; 65536], r: Reader, xs: &[u8]) -> Reader {
+    let named = name(buf, r);
+    let mut s = expect(buf, named, xs.len() as u64);
+    let mut i = 0;
+    while i < xs.len() {
+        s = expect(buf, s, long(wide(xs[i])));
         i += 1;
     }
     s

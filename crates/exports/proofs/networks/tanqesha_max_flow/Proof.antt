@@ -40,16 +40,16 @@ use Rattle.flow_core.proofs.rows.Answer as S
 use Rattle.flow_core.proofs.rows.Answer.Laws as S′
 use Rattle.flow.specs.declared.network.FlowNetwork.{FlowNetwork}
 use Rattle.flow.specs.Network.{Outcome, ends, flowThrough, ClaimedOn}
-use Rattle.exports.specs.Networks.{told, ofFlow}
+use Rattle.replies.specs.Flows.{told, ofFlow}
 use Rattle.flow.proofs.network.FlowNetwork as N
 use Rattle.flow.proofs.network.max_flow as step
 use Rattle.flow.proofs.network.max_flow.Symbol as step-def
 use Rattle.flow.proofs.network.max_flow.Symbol.{name as #flow·max-flow}
 use Rattle.flow.proofs.network.max_flow.Met as step-thm
-use Rattle.exports.proofs.answers.put_flow as put
-use Rattle.exports.proofs.answers.put_flow.Symbol as put-def
-use Rattle.exports.proofs.answers.put_flow.Symbol.{name as #put-flow}
-use Rattle.exports.proofs.answers.put_flow.Met as put-thm
+use Rattle.replies.proofs.answers.put_flow as put
+use Rattle.replies.proofs.answers.put_flow.Symbol as put-def
+use Rattle.replies.proofs.answers.put_flow.Symbol.{name as #put-flow}
+use Rattle.replies.proofs.answers.put_flow.Met as put-thm
 use Rattle.exports.proofs.networks.tanqesha_max_flow.Key.{name as #max-flow}
 use Rattle.exports.proofs.networks.tanqesha_max_flow as f
 use Rattle.exports.proofs.networks.tanqesha_max_flow.Statement as stated
@@ -191,4 +191,4 @@ tanqesha-max-flow-spec 𝓤 H 𝓜 𝓖 𝓡 =
     (tables 𝓤 H 𝓜 𝓡 code.env .C) (tables 𝓤 H 𝓜 𝓡 code.env .Λ) #max-flow code.function (code.unfolded 𝓤 H 𝓜 𝓡)
     (max-flow-meets 𝓤 H (𝓖 .A) (givenOf 𝓤 H 𝓜 𝓖) (𝓜 .mem) (𝓡 .run) (tablesOf 𝓤 H 𝓜 (tables 𝓤 H 𝓜 𝓡 code.env))
     (cited 𝓤 H (Step 𝓤 H (𝓖 .A) (𝓜 .mem) (𝓡 .run)) 𝓜 𝓡 code.env #flow·max-flow step-def.routine code.calls-flow·network·max-flow (step-thm.met 𝓤 H 𝓜 𝓖 𝓡))
-    (cited 𝓤 H (Put 𝓤 H (𝓖 .A) (𝓜 .mem) (𝓡 .run)) 𝓜 𝓡 code.env #put-flow put-def.routine code.calls-exports·answers·put-flow (put-thm.met 𝓤 H 𝓜 𝓖 𝓡)))
+    (cited 𝓤 H (Put 𝓤 H (𝓖 .A) (𝓜 .mem) (𝓡 .run)) 𝓜 𝓡 code.env #put-flow put-def.routine code.calls-replies·answers·put-flow (put-thm.met 𝓤 H 𝓜 𝓖 𝓡)))

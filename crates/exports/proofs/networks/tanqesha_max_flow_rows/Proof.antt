@@ -1,7 +1,7 @@
 -- `put_flow` ensures the numbers for the answer, and `flow_rows` the answer and the capacities; every run keeps what is claimed.
 use mathlib.Core.Path.{ap, _∙_}
 use Rattle.flow_core.specs.Outcome.{Outcome}
-use Rattle.exports.specs.Networks.{ofFlow}
+use Rattle.replies.specs.Flows.{ofFlow}
 use Rattle.flow_core.proofs.Theorem.{every-run}
 use borrow.Author.Needs.{needs}
 use Rattle.exports.proofs.networks.tanqesha_max_flow_rows.Statement.{statement}

@@ -1,0 +1,13 @@
+-- The fields as given; the initial state is what `initial_of` ensures.
+use borrow.Author.Needs.{needs}
+use Rattle.replies.proofs.shapes.shape_of.Statement.{statement}
+use Rattle.replies.proofs.shapes.shape_of.Tie as tie
+
+initial-of-requires : tie.Need-initial-of-requires
+initial-of-requires c κs = search needs
+
+returns : tie.Need-returns
+returns c = rw (← c .initial-of .ensures)
+
+pub shape-of-spec : {M : Type 1} → statement M
+shape-of-spec = tie.close (tie.spec initial-of-requires returns)

@@ -1,0 +1,3 @@
+// What the C interface is made of: answers as numbers behind references, and models' counts from numbers.
+pub mod answers; // answers.rt: answers as numbers
+pub mod shapes; // shapes.rt: counts and initial state of a model
