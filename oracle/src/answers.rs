@@ -47,7 +47,7 @@ fn count(n: usize) -> Value {
 }
 
 /// The answer line with one value, run only where nothing is refused.
-fn one(name: &'static str, refusal: u32, value: impl FnOnce() -> Value) -> Field {
+pub fn one(name: &'static str, refusal: u32, value: impl FnOnce() -> Value) -> Field {
     let value = if refusal == 0 {
         value()
     } else {
@@ -183,7 +183,7 @@ pub fn handed_in(a: &BuildArgs) -> Option<ModelArgs> {
 }
 
 /// The Rust's model with these columns; only for models that pass the checks.
-fn from_columns(m: &ModelArgs) -> Model {
+pub fn from_columns(m: &ModelArgs) -> Model {
     let c = &m.columns;
     let edge = |e: usize| Edge {
         label: LabelId(c.edge_labels[e]),

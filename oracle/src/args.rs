@@ -127,6 +127,32 @@ pub struct NodesArgs {
     pub nodes: usize,
 }
 
+/// `epsdelta`, `epsdelta_bisimilar` and `min_epsilon`, which has no ε; `relation` is lent.
+#[derive(Debug, Clone)]
+pub struct RelationArgs {
+    pub left: ModelArgs,
+    pub right: ModelArgs,
+    pub left_classes: Vec<u32>,
+    pub right_classes: Vec<u32>,
+    pub epsilon: f64,
+    pub rho: f64,
+    pub relation: Vec<u8>,
+}
+
+/// `epsdelta` alone, on models for which `min_epsilon` takes long.
+#[derive(Debug, Clone)]
+pub struct RunArgs(pub RelationArgs);
+
+/// `related` of state s of the left model and state t of the right one, by their counts and a lent relation.
+#[derive(Debug, Clone)]
+pub struct RelatedArgs {
+    pub left_states: usize,
+    pub right_states: usize,
+    pub relation: Vec<u8>,
+    pub s: u32,
+    pub t: u32,
+}
+
 impl Columns {
     /// Lent stores of these lengths, filled with values that no result has at that place.
     pub fn filled(labels: usize, offsets: usize, edges: usize) -> Self {
@@ -281,18 +307,56 @@ impl Input for BuildArgs {
     }
 }
 
+/// The offset without the edges `from..to`.
+fn moved(offset: u32, from: usize, to: usize) -> u32 {
+    let before = (offset as usize).clamp(from, to) - from;
+    offset - before as u32
+}
+
+impl ModelArgs {
+    /// Edges that are listed.
+    fn listed(&self) -> usize {
+        let c = &self.columns;
+        let columns = [&c.edge_labels, &c.edge_targets].map(Vec::len);
+        let listed = columns.into_iter().fold(c.edge_weights.len(), usize::min);
+        listed.min(self.edges)
+    }
+
+    /// Without the edges `from..to`.
+    fn without(&self, from: usize, to: usize) -> Self {
+        let c = &self.columns;
+        let offsets = c.offsets.iter().map(|&offset| moved(offset, from, to));
+        Self {
+            edges: self.edges - (to - from),
+            columns: Columns {
+                label_values: c.label_values.clone(),
+                offsets: offsets.collect(),
+                edge_labels: cut(&c.edge_labels, from, to),
+                edge_targets: cut(&c.edge_targets, from, to),
+                edge_weights: cut(&c.edge_weights, from, to),
+            },
+            ..*self
+        }
+    }
+
+    /// The nine lines.
+    fn fields(&self) -> Vec<Field> {
+        let mut fields = vec![
+            number("states", self.states as u64),
+            number("edges", self.edges as u64),
+            number("labels", self.labels as u64),
+            initial(self.initial),
+        ];
+        fields.extend(self.columns.fields());
+        fields
+    }
+}
+
 impl Input for ReadArgs {
     const KIND: &'static str = "model";
 
     fn fields(&self) -> Vec<Field> {
-        let model = &self.model;
-        let mut fields = vec![
-            number("states", model.states as u64),
-            number("edges", model.edges as u64),
-            number("labels", model.labels as u64),
-            initial(model.initial),
-        ];
-        fields.extend(model.columns.fields());
+        let mut fields = self.model.fields();
         fields.push(number("s", self.s.into()));
         fields.push(number("id", self.id.into()));
         fields.push(number("value", self.value.into()));
@@ -343,6 +407,22 @@ impl NetworkArgs {
     }
 }
 
+/// The parts of an input with a network: its added links.
+macro_rules! without_links {
+    () => {
+        fn parts(&self) -> usize {
+            self.network.pairs()
+        }
+
+        fn without(&self, from: usize, to: usize) -> Self {
+            Self {
+                network: self.network.without(from, to),
+                ..*self
+            }
+        }
+    };
+}
+
 impl FlowArgs {
     /// The same over rows of the links in use and no others; none where not all of them are listed.
     pub fn rows(&self) -> Option<RowsArgs> {
@@ -366,33 +446,31 @@ impl Input for FlowArgs {
         fields
     }
 
-    fn parts(&self) -> usize {
-        self.network.pairs()
-    }
+    without_links!();
+}
 
-    fn without(&self, from: usize, to: usize) -> Self {
-        Self {
-            network: self.network.without(from, to),
-            ..*self
+/// An input of one part, with another kind of case.
+macro_rules! as_kind {
+    ($args:ident, $kind:literal) => {
+        impl Input for $args {
+            const KIND: &'static str = $kind;
+
+            fn fields(&self) -> Vec<Field> {
+                self.0.fields()
+            }
+
+            fn parts(&self) -> usize {
+                self.0.parts()
+            }
+
+            fn without(&self, from: usize, to: usize) -> Self {
+                Self(self.0.without(from, to))
+            }
         }
-    }
+    };
 }
 
-impl Input for RowsArgs {
-    const KIND: &'static str = "rows";
-
-    fn fields(&self) -> Vec<Field> {
-        self.0.fields()
-    }
-
-    fn parts(&self) -> usize {
-        self.0.parts()
-    }
-
-    fn without(&self, from: usize, to: usize) -> Self {
-        Self(self.0.without(from, to))
-    }
-}
+as_kind!(RowsArgs, "rows");
 
 impl Input for EdgeArgs {
     const KIND: &'static str = "edge";
@@ -406,16 +484,7 @@ impl Input for EdgeArgs {
         fields
     }
 
-    fn parts(&self) -> usize {
-        self.network.pairs()
-    }
-
-    fn without(&self, from: usize, to: usize) -> Self {
-        Self {
-            network: self.network.without(from, to),
-            ..*self
-        }
-    }
+    without_links!();
 }
 
 impl Input for NodesArgs {
@@ -423,5 +492,73 @@ impl Input for NodesArgs {
 
     fn fields(&self) -> Vec<Field> {
         vec![number("nodes", self.nodes as u64)]
+    }
+}
+
+/// How many bytes of a relation its lines list: all, or of over 600 those up to the last that is not zero.
+pub fn listed(relation: &[u8]) -> usize {
+    match relation.len() {
+        ..=600 => relation.len(),
+        _ => relation.iter().rposition(|&b| b != 0).map_or(0, |i| i + 1),
+    }
+}
+
+/// The bytes, as an answer line.
+pub fn bytes(relation: &[u8]) -> Field {
+    Field {
+        name: "relation",
+        value: Value::Bytes(relation.to_vec()),
+    }
+}
+
+/// How many bytes are lent, and what they hold; those not listed are 0.
+fn lent(relation: &[u8]) -> [Field; 2] {
+    let room = number("room", relation.len() as u64);
+    [room, bytes(&relation[..listed(relation)])]
+}
+
+impl Input for RelationArgs {
+    const KIND: &'static str = "relation";
+
+    fn fields(&self) -> Vec<Field> {
+        let mut fields = [self.left.fields(), self.right.fields()].concat();
+        fields.push(numbers("left_classes", &self.left_classes));
+        fields.push(numbers("right_classes", &self.right_classes));
+        fields.push(real("epsilon", self.epsilon));
+        fields.push(real("rho", self.rho));
+        fields.extend(lent(&self.relation));
+        fields
+    }
+
+    /// The edges of both models.
+    fn parts(&self) -> usize {
+        self.left.listed() + self.right.listed()
+    }
+
+    fn without(&self, from: usize, to: usize) -> Self {
+        let left = self.left.listed();
+        let right = |edge: usize| edge.saturating_sub(left);
+        Self {
+            left: self.left.without(from.min(left), to.min(left)),
+            right: self.right.without(right(from), right(to)),
+            ..self.clone()
+        }
+    }
+}
+
+as_kind!(RunArgs, "run");
+
+impl Input for RelatedArgs {
+    const KIND: &'static str = "related";
+
+    fn fields(&self) -> Vec<Field> {
+        let mut fields = vec![
+            number("left_states", self.left_states as u64),
+            number("right_states", self.right_states as u64),
+        ];
+        fields.extend(lent(&self.relation));
+        fields.push(number("s", self.s.into()));
+        fields.push(number("t", self.t.into()));
+        fields
     }
 }

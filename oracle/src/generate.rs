@@ -6,10 +6,15 @@ pub mod build;
 pub mod card;
 pub mod faults;
 pub mod labels;
+pub mod lines;
 pub mod metric;
+pub mod misfits;
 pub mod model;
 pub mod network;
+pub mod related;
+pub mod relation;
 pub mod remainders;
+pub mod steps;
 
 /// 2^-40, the least weight that is not zero.
 pub const LEAST_WEIGHT: f64 = 1.0 / (1u64 << 40) as f64;

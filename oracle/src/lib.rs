@@ -11,6 +11,7 @@ pub mod network;
 pub mod ours;
 pub mod pairs;
 pub mod refusals;
+pub mod relation;
 pub mod rows;
 pub mod sample;
 pub mod text;

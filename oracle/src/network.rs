@@ -134,12 +134,13 @@ pub fn after_run(a: &FlowArgs) -> Option<NetworkArgs> {
 }
 
 /// The answers, and of the lists those that are named, as long as said.
-fn trimmed(fields: Vec<Field>, lengths: &[(&str, usize)]) -> Vec<Field> {
+pub fn trimmed(fields: Vec<Field>, lengths: &[(&str, usize)]) -> Vec<Field> {
     let trim = |mut field: Field| {
         let length = lengths.iter().find(|l| l.0 == field.name).map(|l| l.1);
         match (&mut field.value, length) {
             (Value::Answer(..), _) => {}
             (Value::Numbers(list), Some(length)) => list.truncate(length),
+            (Value::Bytes(list), Some(length)) => list.truncate(length),
             (Value::Reals(list), Some(length)) => list.truncate(length),
             _ => return None,
         }

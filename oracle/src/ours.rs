@@ -2,6 +2,7 @@
 //! Each function returns a refusal's number, or 0 with its answer behind the references.
 
 pub mod network;
+pub mod relation;
 
 use crate::answers::{Oracle, answer};
 use crate::args::{BuildArgs, InternArgs, LabelArgs, ModelArgs, ReadArgs, RealArgs, numbers};
@@ -9,6 +10,8 @@ use crate::text::{Field, Value};
 
 /// What the references hold before a call: a refusal leaves it there.
 const BEFORE: u32 = 0xabcd;
+/// What a reference to a float holds before a call.
+const BEFORE_REAL: f64 = -7.5;
 
 unsafe extern "C" {
     fn tanqesha_is_valid(x: f64) -> bool;
@@ -65,55 +68,68 @@ unsafe extern "C" {
     ) -> u32;
 }
 
-/// Declares a reader of a built model and a wrapper of it; arguments of its own come last, then references.
-macro_rules! reader {
-    ($symbol:ident, $wrapper:ident, ($($own:ident: $kind:ty),*)) => {
+/// Declares an entry on built models and a wrapper of it, `unsafe` where said; arguments of its own come last.
+macro_rules! on_models {
+    ([$($qualifier:tt)?] $symbol:ident, $wrapper:ident, ($($m:ident)*), ($($own:ident: $kind:ty),*)) => {
         unsafe extern "C" {
+            // of each model: states, edges, labels, mark and number of the initial state, the columns
             fn $symbol(
-                states: usize,
-                edges: usize,
-                labels: usize,
-                present: u32,
-                initial: u32,
-                label_values: *const u32,
-                label_values_length: usize,
-                offsets: *const u32,
-                offsets_length: usize,
-                edge_labels: *const u32,
-                edge_labels_length: usize,
-                edge_targets: *const u32,
-                edge_targets_length: usize,
-                edge_weights: *const f64,
-                edge_weights_length: usize,
+                $(
+                    $m: usize,
+                    _: usize,
+                    _: usize,
+                    _: u32,
+                    _: u32,
+                    _: *const u32,
+                    _: usize,
+                    _: *const u32,
+                    _: usize,
+                    _: *const u32,
+                    _: usize,
+                    _: *const u32,
+                    _: usize,
+                    _: *const f64,
+                    _: usize,
+                )*
                 $($own: $kind),*
             ) -> u32;
         }
 
-        fn $wrapper(m: &ModelArgs, $($own: $kind),*) -> u32 {
-            let c = &m.columns;
-            let (present, initial) = present(m.initial);
-            // SAFETY: each pointer comes with the length of its own slice, and the library only reads them.
+        #[allow(clippy::too_many_arguments)]
+        $($qualifier)? fn $wrapper($($m: &ModelArgs,)* $($own: $kind),*) -> u32 {
+            // SAFETY: each pointer comes with the length of its own slice, and the library only reads the models.
             unsafe {
                 $symbol(
-                    m.states,
-                    m.edges,
-                    m.labels,
-                    present,
-                    initial,
-                    c.label_values.as_ptr(),
-                    c.label_values.len(),
-                    c.offsets.as_ptr(),
-                    c.offsets.len(),
-                    c.edge_labels.as_ptr(),
-                    c.edge_labels.len(),
-                    c.edge_targets.as_ptr(),
-                    c.edge_targets.len(),
-                    c.edge_weights.as_ptr(),
-                    c.edge_weights.len(),
+                    $(
+                        $m.states,
+                        $m.edges,
+                        $m.labels,
+                        present($m.initial).0,
+                        present($m.initial).1,
+                        $m.columns.label_values.as_ptr(),
+                        $m.columns.label_values.len(),
+                        $m.columns.offsets.as_ptr(),
+                        $m.columns.offsets.len(),
+                        $m.columns.edge_labels.as_ptr(),
+                        $m.columns.edge_labels.len(),
+                        $m.columns.edge_targets.as_ptr(),
+                        $m.columns.edge_targets.len(),
+                        $m.columns.edge_weights.as_ptr(),
+                        $m.columns.edge_weights.len(),
+                    )*
                     $($own),*
                 )
             }
         }
+    };
+}
+
+use on_models;
+
+/// Declares a reader of a built model and a wrapper of it.
+macro_rules! reader {
+    ($symbol:ident, $wrapper:ident, $own:tt) => {
+        on_models!([] $symbol, $wrapper, (model), $own);
     };
 }
 

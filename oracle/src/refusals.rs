@@ -6,6 +6,7 @@
 
 use crate::args::{
     BuildArgs, EdgeArgs as AddArgs, FlowArgs, InternArgs, LabelArgs, ModelArgs, NetworkArgs,
+    RelatedArgs, RelationArgs,
 };
 use std::collections::{BTreeMap, BTreeSet};
 
@@ -23,6 +24,12 @@ pub const MAX_WEIGHT: f64 = (1_u64 << 40) as f64;
 pub const MAX_JOINED_WEIGHT: f64 = (1_u64 << 52) as f64;
 /// 6: a state's distinct targets other than itself.
 pub const MAX_TARGETS: usize = 31;
+/// 9: the least ρ.
+pub const MIN_RHO: f64 = 1.0;
+/// 9: the greatest ρ, 2^20.
+pub const MAX_RHO: f64 = (1_u64 << 20) as f64;
+/// 10: the states of both models together.
+pub const MAX_STATES_TOGETHER: usize = 2_000;
 /// 15: a network's nodes.
 pub const MAX_NODES: usize = 66;
 /// 15: a network's added links.
@@ -148,6 +155,81 @@ pub fn add_edge_refusal(a: &AddArgs) -> u32 {
             || capacity_wrong(a.capacity)
             || cost_wrong(a.cost),
     )
+}
+
+/// `epsdelta`: 3, 4, 5, 6, 7, 9, 10.
+pub fn epsdelta_refusal(a: &RelationArgs) -> u32 {
+    let models = models_refusal(a);
+    if models != 0 {
+        models
+    } else if either_classes_short(a) || relation_short(&a.relation, states_together(a)) {
+        7
+    } else if epsilon_wrong(a.epsilon) || rho_wrong(a.rho) {
+        9
+    } else if over_together(states_together(a)) {
+        10
+    } else {
+        0
+    }
+}
+
+/// `related`: "3 for each count given, 4 for the two state numbers against them, 7 for the store, 10 for the sum of the
+/// counts" (P25 to P27).
+pub fn related_refusal(a: &RelatedArgs) -> u32 {
+    let together = a.left_states.saturating_add(a.right_states);
+    if over_states(a.left_states) || over_states(a.right_states) {
+        3
+    } else if outside(a.s, a.left_states) || outside(a.t, a.right_states) {
+        4
+    } else if relation_short(&a.relation, together) {
+        7
+    } else if over_together(together) {
+        10
+    } else {
+        0
+    }
+}
+
+/// `epsdelta_bisimilar`: 3, 4, 5, 6, 7, 8, 9, 10. "Initial states first" puts 8 before 9 and 10 (P29).
+pub fn epsdelta_bisimilar_refusal(a: &RelationArgs) -> u32 {
+    let models = models_refusal(a);
+    if models != 0 {
+        models
+    } else if either_classes_short(a) || relation_short(&a.relation, states_together(a)) {
+        7
+    } else if either_initial_absent(a) {
+        8
+    } else if epsilon_wrong(a.epsilon) || rho_wrong(a.rho) {
+        9
+    } else if over_together(states_together(a)) {
+        10
+    } else {
+        0
+    }
+}
+
+/// `min_epsilon`: 3, 4, 5, 6, 7, 8, 9 ("ρ alone", P31), 10.
+pub fn min_epsilon_refusal(a: &RelationArgs) -> u32 {
+    let models = models_refusal(a);
+    if models != 0 {
+        models
+    } else if either_classes_short(a) || relation_short(&a.relation, states_together(a)) {
+        7
+    } else if either_initial_absent(a) {
+        8
+    } else if rho_wrong(a.rho) {
+        9
+    } else if over_together(states_together(a)) {
+        10
+    } else {
+        0
+    }
+}
+
+/// Two built models handed in, each "checked afresh": 3, 4, 5, 6, and 3 of both before 4 of either, and so on.
+fn models_refusal(a: &RelationArgs) -> u32 {
+    let both = [model_refusal(&a.left), model_refusal(&a.right)];
+    both.into_iter().filter(|&n| n != 0).min().unwrap_or(0)
 }
 
 // 3. "A model has over 2,000 states, 4,096 transitions or 256 distinct labels."
@@ -299,6 +381,47 @@ fn stores_short(a: &BuildArgs) -> bool {
 /// `intern`'s "list full": no place after those in use.
 fn list_full(labels: &[u32], count: usize) -> bool {
     labels.len() <= count
+}
+
+/// "A class ... per state", in the list of each model.
+fn either_classes_short(a: &RelationArgs) -> bool {
+    a.left_classes.len() < a.left.states || a.right_classes.len() < a.right.states
+}
+
+/// "⌈T²/8⌉ bytes for a relation over T states".
+fn relation_short(relation: &[u8], states: usize) -> bool {
+    relation.len() < states.saturating_mul(states).div_ceil(8)
+}
+
+// 8. "An initial state is absent (`epsdelta_bisimilar`, `min_epsilon`, ...)."
+
+/// "An initial state is absent", of either model (P28).
+fn either_initial_absent(a: &RelationArgs) -> bool {
+    a.left.initial.is_none() || a.right.initial.is_none()
+}
+
+// 9. "ε is NaN, infinite or negative, or ρ is NaN, below 1 or above 2^20."
+
+/// "ε is NaN, infinite or negative"; -0 is accepted (M2).
+fn epsilon_wrong(epsilon: f64) -> bool {
+    epsilon.is_nan() || epsilon.is_infinite() || epsilon < 0.0
+}
+
+/// "ρ is NaN, below 1 or above 2^20".
+fn rho_wrong(rho: f64) -> bool {
+    rho.is_nan() || rho < MIN_RHO || rho > MAX_RHO
+}
+
+// 10. "In a call that makes or reads a relation, both models together have over 2,000 states."
+
+/// "Both models together have over 2,000 states".
+fn over_together(states: usize) -> bool {
+    states > MAX_STATES_TOGETHER
+}
+
+/// The states of both models together, over which the relation is.
+fn states_together(a: &RelationArgs) -> usize {
+    a.left.states.saturating_add(a.right.states)
 }
 
 // 15. Networks.
@@ -788,6 +911,391 @@ mod tests {
         assert_eq!(two(&built(1, 0, &[])), (0, 4));
     }
 
+    // Relations.
+
+    /// Two models with initial states, classes, a relation as long as they need, and tolerances that pass.
+    fn both(mut left: ModelArgs, mut right: ModelArgs) -> RelationArgs {
+        left.initial = Some(0);
+        right.initial = Some(0);
+        let states = left.states + right.states;
+        RelationArgs {
+            left_classes: vec![0; left.states],
+            right_classes: vec![0; right.states],
+            left,
+            right,
+            epsilon: 0.25,
+            rho: 2.0,
+            relation: vec![0; (states * states).div_ceil(8)],
+        }
+    }
+
+    /// The same, of models without edges.
+    fn bare(left: usize, right: usize) -> RelationArgs {
+        both(built(left, 0, &[]), built(right, 0, &[]))
+    }
+
+    /// The refusals of `epsdelta`, `epsdelta_bisimilar` and `min_epsilon`.
+    fn three(a: &RelationArgs) -> [u32; 3] {
+        [
+            epsdelta_refusal(a),
+            epsdelta_bisimilar_refusal(a),
+            min_epsilon_refusal(a),
+        ]
+    }
+
+    /// Those of two sound models, of 3 states and of 2, after a change.
+    fn after(change: impl Fn(&mut RelationArgs)) -> [u32; 3] {
+        let mut a = both(small(), built(2, 1, &[(0, 0, 1, 1.0)]));
+        change(&mut a);
+        three(&a)
+    }
+
+    fn related(left_states: usize, right_states: usize, bytes: usize, s: u32, t: u32) -> u32 {
+        related_refusal(&RelatedArgs {
+            left_states,
+            right_states,
+            relation: vec![0; bytes],
+            s,
+            t,
+        })
+    }
+
+    /// A model that gives this number, or none.
+    fn faulty(number: u32) -> ModelArgs {
+        let edges: Vec<Transition> = (1..33).map(|i| (0, 0, i, 1.0)).collect();
+        let mut m = built(33, 1, &edges);
+        match number {
+            3 => m.labels = 257,
+            4 => m.columns.edge_labels[31] = 1,
+            5 => m.columns.edge_weights[31] = -1.0,
+            6 => (),
+            _ => m = small(),
+        }
+        assert_eq!(model_refusal(&m), number);
+        m
+    }
+
+    #[test]
+    fn least_number_of_both_models() {
+        for left in [0, 3, 4, 5, 6] {
+            for right in [0, 3, 4, 5, 6] {
+                let a = both(faulty(left), faulty(right));
+                let least = match (left, right) {
+                    (0, n) | (n, 0) => n,
+                    _ => left.min(right),
+                };
+                assert_eq!(three(&a), [least; 3], "{left} and {right}");
+            }
+        }
+    }
+
+    #[test]
+    fn each_model_is_checked_afresh() {
+        assert_eq!(after(|_| ()), [0; 3]);
+        assert_eq!(after(|a| a.left.states = 2_001), [3; 3]);
+        assert_eq!(after(|a| a.right.states = 2_001), [3; 3]);
+        assert_eq!(after(|a| a.left.edges = 4_097), [3; 3]);
+        assert_eq!(after(|a| a.right.labels = 257), [3; 3]);
+        assert_eq!(after(|a| a.left.columns.offsets.truncate(3)), [4; 3]);
+        assert_eq!(after(|a| a.right.columns.label_values.clear()), [4; 3]);
+        assert_eq!(after(|a| a.right.columns.edge_targets[0] = 2), [4; 3]);
+        assert_eq!(after(|a| a.right.columns.edge_weights[0] = 0.0), [4; 3]);
+        assert_eq!(after(|a| a.right.columns.edge_weights[0] = TWO_52), [0; 3]);
+        assert_eq!(
+            after(|a| a.right.columns.edge_weights[0] = TWO_52.next_up()),
+            [5; 3]
+        );
+        // Transitions and labels are counted in each model by itself.
+        let edges: Vec<Transition> = (0..4_096).map(|i| (i / 5, 0, i / 5 + i % 5, 1.0)).collect();
+        let most = built(1_000, 256, &edges);
+        assert_eq!(three(&both(most.clone(), most)), [0; 3]);
+    }
+
+    #[test]
+    fn classes() {
+        assert_eq!(after(|a| a.left_classes.truncate(2)), [7; 3]);
+        assert_eq!(after(|a| a.right_classes.truncate(1)), [7; 3]);
+        assert_eq!(after(|a| a.left_classes.clear()), [7; 3]);
+        // A class of one list is none of the other.
+        assert_eq!(
+            after(|a| (a.left_classes, a.right_classes) = (vec![0; 4], vec![0])),
+            [7; 3]
+        );
+        assert_eq!(
+            after(|a| (a.left_classes, a.right_classes) = (vec![0; 2], vec![0; 3])),
+            [7; 3]
+        );
+        // Any number is a class, and lists may be longer.
+        assert_eq!(after(|a| a.left_classes = vec![u32::MAX; 9]), [0; 3]);
+        assert_eq!(after(|a| a.right_classes = (0..9).collect()), [0; 3]);
+    }
+
+    #[test]
+    fn bytes_of_a_relation() {
+        for (left, right, bytes) in [
+            (1, 1, 1),
+            (1, 2, 2),
+            (2, 2, 2),
+            (2, 3, 4),
+            (3, 2, 4),
+            (3, 3, 5),
+            (1, 7, 8),
+            (5, 4, 11),
+            (999, 1_000, 499_501),
+            (1_000, 1_000, 500_000),
+            (1, 1_999, 500_000),
+        ] {
+            let mut a = bare(left, right);
+            a.relation = vec![255; bytes];
+            assert_eq!(three(&a), [0; 3], "{left} and {right}");
+            assert_eq!(related(left, right, bytes, 0, 0), 0, "{left} and {right}");
+            a.relation.push(255);
+            assert_eq!(three(&a), [0; 3], "{left} and {right}");
+            assert_eq!(related(left, right, bytes + 1, 0, 0), 0);
+            a.relation.truncate(bytes - 1);
+            assert_eq!(three(&a), [7; 3], "{left} and {right}");
+            assert_eq!(related(left, right, bytes - 1, 0, 0), 7);
+        }
+    }
+
+    #[test]
+    fn states_together_at_2000() {
+        for (left, right, bytes, expected) in [
+            (1_000, 1_000, 500_000, 0),
+            (2_000, 0, 500_000, 0),
+            (0, 2_000, 500_000, 0),
+            (2_000, 0, 499_999, 7),
+            // 2,001 together: 7 stands first.
+            (1_000, 1_001, 500_000, 7),
+            (1_000, 1_001, 500_500, 7),
+            (1_000, 1_001, 500_501, 10),
+            (1_001, 1_000, 500_501, 10),
+            (1, 2_000, 500_501, 10),
+            (2_000, 1, 500_501, 10),
+            (2_000, 2_000, 1_999_999, 7),
+            (2_000, 2_000, 2_000_000, 10),
+            // 2,001 of one model alone.
+            (2_001, 0, 500_501, 3),
+            (0, 2_001, 500_501, 3),
+            (2_001, 0, 0, 3),
+        ] {
+            let mut a = bare(left, right);
+            a.relation = vec![0; bytes];
+            assert_eq!(epsdelta_without_initial(&a), expected, "{left} and {right}");
+            if left > 0 && right > 0 {
+                assert_eq!(three(&a), [expected; 3], "{left} and {right}");
+                let last = (left as u32 - 1, right as u32 - 1);
+                assert_eq!(related(left, right, bytes, last.0, last.1), expected);
+            }
+        }
+    }
+
+    /// `epsdelta` of the same models without initial states, which it does not need.
+    fn epsdelta_without_initial(a: &RelationArgs) -> u32 {
+        let mut a = a.clone();
+        (a.left.initial, a.right.initial) = (None, None);
+        epsdelta_refusal(&a)
+    }
+
+    #[test]
+    fn initial_states() {
+        assert_eq!(after(|a| a.left.initial = None), [0, 8, 8]);
+        assert_eq!(after(|a| a.right.initial = None), [0, 8, 8]);
+        assert_eq!(
+            after(|a| (a.left.initial, a.right.initial) = (None, None)),
+            [0, 8, 8]
+        );
+        // By each model's own count, 3 and 2.
+        assert_eq!(after(|a| a.left.initial = Some(2)), [0; 3]);
+        assert_eq!(after(|a| a.left.initial = Some(3)), [4; 3]);
+        assert_eq!(after(|a| a.right.initial = Some(1)), [0; 3]);
+        assert_eq!(after(|a| a.right.initial = Some(2)), [4; 3]);
+        assert_eq!(after(|a| a.right.initial = Some(u32::MAX)), [4; 3]);
+        assert_eq!(
+            after(|a| (a.left.initial, a.right.initial) = (None, Some(2))),
+            [4; 3]
+        );
+    }
+
+    #[test]
+    fn epsilons() {
+        for (epsilon, expected) in [
+            (0.0, 0),
+            (-0.0, 0),
+            (f64::from_bits(1), 0),
+            (-f64::from_bits(1), 9),
+            (0.25, 0),
+            (1.0, 0),
+            (1.0_f64.next_up(), 0),
+            (f64::MAX, 0),
+            (-0.25, 9),
+            (-1.0, 9),
+            (-f64::MAX, 9),
+            (INFINITY, 9),
+            (-INFINITY, 9),
+            (f64::NAN, 9),
+            (-f64::NAN, 9),
+        ] {
+            // `min_epsilon` has no ε.
+            let numbers = [expected, expected, 0];
+            assert_eq!(after(|a| a.epsilon = epsilon), numbers, "{epsilon:e}");
+        }
+    }
+
+    #[test]
+    fn rhos() {
+        let two_20 = 1_048_576.0_f64;
+        assert_eq!(MAX_RHO, two_20);
+        for (rho, expected) in [
+            (1.0, 0),
+            (1.0_f64.next_down(), 9),
+            (1.0_f64.next_up(), 0),
+            (1.5, 0),
+            (two_20.next_down(), 0),
+            (two_20, 0),
+            (two_20.next_up(), 9),
+            (0.0, 9),
+            (-0.0, 9),
+            (-1.0, 9),
+            (-2.0, 9),
+            (f64::MAX, 9),
+            (INFINITY, 9),
+            (-INFINITY, 9),
+            (f64::NAN, 9),
+            (-f64::NAN, 9),
+        ] {
+            assert_eq!(after(|a| a.rho = rho), [expected; 3], "{rho:e}");
+        }
+    }
+
+    #[test]
+    fn models_of_no_states() {
+        let numbers = |left: usize, right: usize| {
+            let mut a = bare(left, right);
+            let named = three(&a);
+            (a.left.initial, a.right.initial) = (None, None);
+            (named, three(&a))
+        };
+        // An initial state that is named is not below 0.
+        assert_eq!(numbers(0, 0), ([4; 3], [0, 8, 8]));
+        assert_eq!(numbers(0, 1), ([4; 3], [0, 8, 8]));
+        assert_eq!(numbers(1, 0), ([4; 3], [0, 8, 8]));
+        assert_eq!(related(0, 0, 0, 0, 0), 4);
+        assert_eq!(related(0, 1, 1, 0, 0), 4);
+        assert_eq!(related(1, 0, 1, 0, 0), 4);
+        // No bytes are needed for no states, one for one.
+        let mut a = bare(0, 1);
+        a.left.initial = None;
+        a.relation.clear();
+        assert_eq!(epsdelta_refusal(&a), 7);
+    }
+
+    #[test]
+    fn order_of_the_checks_of_a_relation() {
+        // All faults at once, taken away one by one.
+        let edges: Vec<Transition> = (1..33).map(|i| (0, 0, i, 1.0)).collect();
+        let mut a = bare(1_500, 1_500);
+        a.left = built(1_500, 1, &edges);
+        a.right = built(1_500, 1, &edges);
+        a.left.initial = None;
+        a.right.initial = Some(1_500);
+        a.left.columns.edge_weights[0] = f64::NAN;
+        a.left.labels = 257;
+        a.right_classes.pop();
+        a.relation.pop();
+        a.epsilon = f64::NAN;
+        a.rho = 0.5;
+        assert_eq!(three(&a), [3; 3]);
+        a.left.labels = 1;
+        assert_eq!(three(&a), [4; 3]);
+        a.right.initial = Some(1_499);
+        assert_eq!(three(&a), [5; 3]);
+        a.left.columns.edge_weights[0] = 1.0;
+        assert_eq!(three(&a), [6; 3]);
+        a.left = built(1_500, 1, &edges[1..]);
+        assert_eq!(three(&a), [6; 3]);
+        a.right = built(1_500, 1, &edges[1..]);
+        assert_eq!(three(&a), [7; 3]);
+        a.right_classes.push(0);
+        assert_eq!(three(&a), [7; 3]);
+        a.relation.push(0);
+        assert_eq!(three(&a), [9, 8, 8]);
+        a.left.initial = Some(0);
+        assert_eq!(three(&a), [9, 8, 8]);
+        a.right.initial = Some(0);
+        assert_eq!(three(&a), [9; 3]);
+        a.rho = 1.0;
+        assert_eq!(three(&a), [9, 9, 10]);
+        a.epsilon = 0.0;
+        assert_eq!(three(&a), [10; 3]);
+        a.rho = 0.5;
+        assert_eq!(three(&a), [9; 3]);
+    }
+
+    #[test]
+    fn state_numbers_of_related() {
+        // Each below its own model's count, 3 and 2: 4 bytes.
+        for (s, t, expected) in [
+            (0, 0, 0),
+            (2, 1, 0),
+            (3, 1, 4),
+            (2, 2, 4),
+            (1, 2, 4),
+            (0, 3, 4),
+            (0, 4, 4),
+            (u32::MAX, 0, 4),
+            (0, u32::MAX, 4),
+        ] {
+            assert_eq!(related(3, 2, 4, s, t), expected, "{s} and {t}");
+        }
+    }
+
+    #[test]
+    fn contents_of_a_relation_are_not_checked() {
+        // Not symmetric, self-pairs missing, spare bits set.
+        for byte in 0..=255 {
+            let a = RelatedArgs {
+                left_states: 1,
+                right_states: 1,
+                relation: vec![byte, !byte],
+                s: 0,
+                t: 0,
+            };
+            assert_eq!(related_refusal(&a), 0);
+        }
+    }
+
+    #[test]
+    fn order_of_the_checks_of_related() {
+        assert_eq!(related(2_001, 2_000, 0, 2_001, 2_000), 3);
+        assert_eq!(related(2_000, 2_001, 0, 2_000, 2_001), 3);
+        assert_eq!(related(2_000, 2_000, 0, 2_000, 1_999), 4);
+        assert_eq!(related(2_000, 2_000, 0, 1_999, 2_000), 4);
+        assert_eq!(related(2_000, 2_000, 0, 1_999, 1_999), 7);
+        assert_eq!(related(2_000, 2_000, 2_000_000, 1_999, 2_000), 4);
+        assert_eq!(related(2_000, 2_000, 2_000_000, 1_999, 1_999), 10);
+        assert_eq!(related(1_000, 1_000, 500_000, 999, 999), 0);
+    }
+
+    #[test]
+    fn huge_counts() {
+        for huge in [usize::MAX, usize::MAX - 1, usize::MAX / 2 + 1, 1 << 32] {
+            assert_eq!(after(|a| a.left.states = huge), [3; 3]);
+            assert_eq!(after(|a| a.right.states = huge), [3; 3]);
+            assert_eq!(
+                after(|a| (a.left.states, a.right.states) = (huge, huge)),
+                [3; 3]
+            );
+            assert_eq!(after(|a| a.left.edges = huge), [3; 3]);
+            assert_eq!(after(|a| a.right.labels = huge), [3; 3]);
+            assert_eq!(related(huge, 1, 9, 0, 0), 3);
+            assert_eq!(related(1, huge, 9, 0, 0), 3);
+            assert_eq!(related(huge, huge, 9, u32::MAX, u32::MAX), 3);
+            assert!(relation_short(&[0; 9], huge));
+            assert!(over_together(huge));
+        }
+    }
+
     // Networks.
 
     fn network(nodes: usize, links: &[(u32, u32, f64, f64)]) -> NetworkArgs {
@@ -1130,6 +1638,38 @@ mod tests {
         }
         assert_eq!(of(&seen, "build"), [0, 3, 4, 5, 7]);
         assert_eq!(of(&seen, "model"), [0, 3, 4, 5]);
+    }
+
+    #[test]
+    fn nothing_panics_on_relations() {
+        let mut d = Dice(1);
+        let mut seen = Seen::new();
+        for _ in 0..50_000 {
+            let mut a = both(small(), built(2, 1, &[(0, 0, 1, 1.0)]));
+            match d.below(10) {
+                0 => a.left = damaged(&mut d),
+                1 => a.right = damaged(&mut d),
+                2 => (a.left.initial, a.right.initial) = (None, d.numbers(2).first().copied()),
+                3 => a.left_classes = d.numbers(6),
+                4 => a.right_classes = d.numbers(6),
+                5 => a.relation.truncate(d.count()),
+                6 => a.epsilon = f64::from_bits(d.below(1 << 31) << 33),
+                7 => a.rho = f64::from_bits(d.below(1 << 31) << 33),
+                8 => (a.left.states, a.right.states) = (d.count(), d.count()),
+                _ => (),
+            }
+            let [one, two, three] = three(&a);
+            seen.insert(("epsdelta", one));
+            seen.insert(("bisimilar", two));
+            seen.insert(("min", three));
+            let (left, right, s) = (d.count(), d.count(), d.below(5) as u32);
+            let bytes = d.below(20) as usize;
+            seen.insert(("related", related(left, right, bytes, s, d.below(5) as u32)));
+        }
+        assert_eq!(of(&seen, "epsdelta"), [0, 3, 4, 5, 7, 9]);
+        assert_eq!(of(&seen, "bisimilar"), [0, 3, 4, 5, 7, 8, 9]);
+        assert_eq!(of(&seen, "min"), [0, 3, 4, 5, 7, 8, 9]);
+        assert_eq!(of(&seen, "related"), [0, 3, 4, 7]);
     }
 
     #[test]

@@ -20,6 +20,10 @@ pub const ROWS: &[(&str, &[u32])] = &[
     ("new", &[15]),
     ("add_edge", &[15]),
     ("max_flow", &[15]),
+    ("epsdelta", &[3, 4, 5, 6, 7, 9, 10]),
+    ("related", &[3, 4, 7, 10]),
+    ("epsdelta_bisimilar", &[3, 4, 5, 6, 7, 8, 9, 10]),
+    ("min_epsilon", &[3, 4, 5, 6, 7, 8, 9, 10]),
 ];
 
 /// The parts of `max_flow` that the library has beside it: the run over rows, and its check alone.

@@ -1,7 +1,8 @@
 //! The fixed list of cases that is replayed without Rust: figures of document 01, some of the short inputs, random ones.
-//! The networks, its second part, are in `flow`.
+//! The networks, its second part, are in `flow`, the relations, its third, in `relation`.
 
 pub mod flow;
+pub mod relation;
 
 use crate::answers::{Oracle, handed_in};
 use crate::args::{BuildArgs, Columns, InternArgs, LabelArgs, ModelArgs, ReadArgs, RealArgs};
@@ -283,12 +284,26 @@ mod tests {
     use crate::text::read_cases;
 
     #[test]
+    fn the_lists_survive_reading_and_writing() {
+        let flows = (flow::text(), &["nodes", "edge", "flow"][..]);
+        let relations = (relation::text(), &["relation", "related"][..]);
+        for (text, kinds) in [flows, relations] {
+            let cases = read_cases(&text).unwrap();
+            assert_eq!(cases.iter().map(write_case).collect::<String>(), text);
+            for kind in kinds {
+                assert!(cases.iter().filter(|case| case.kind == *kind).count() >= 200);
+            }
+        }
+    }
+
+    #[test]
     fn the_lists_cover_every_refusal_and_stay_short() {
-        let (models, flows) = (text(), flow::text());
+        let (models, flows, relations) = (text(), flow::text(), relation::text());
         assert!(models.len() < 320_000, "{} bytes", models.len());
         assert!(flows.len() < 640_000, "{} bytes", flows.len());
+        assert!(relations.len() < 480_000, "{} bytes", relations.len());
         let mut counts: BTreeMap<(&str, u32), usize> = BTreeMap::new();
-        for case in read_cases(&(models + &flows)).unwrap() {
+        for case in read_cases(&(models + &flows + &relations)).unwrap() {
             for field in case.fields {
                 if let Value::Answer(refusal, _) = field.value {
                     *counts.entry((field.name, refusal)).or_default() += 1;

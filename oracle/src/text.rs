@@ -14,6 +14,8 @@ pub enum Value {
     /// Written as the 16 hex digits of its bits.
     Real(f64),
     Numbers(Vec<u64>),
+    /// Written as numbers.
+    Bytes(Vec<u8>),
     Reals(Vec<f64>),
     /// Refusal number (0: none), then as many values on every outcome.
     Answer(u32, Vec<Value>),
@@ -43,124 +45,138 @@ pub enum Form {
     /// A float, or absent.
     MaybeReal,
     Numbers,
+    Bytes,
     Reals,
     Answer(&'static [Form]),
 }
 
-use Form::{Answer, Maybe, MaybeReal, Number, Numbers, Real, Reals};
+use Form::{Answer, Bytes, Maybe, MaybeReal, Number, Numbers, Real, Reals};
 
-type Shape = &'static [(&'static str, Form)];
+type Lines = &'static [(&'static str, Form)];
 
-const REAL: Shape = &[
+/// The lines of a case, in parts that several kinds may have.
+type Shape = &'static [Lines];
+
+const REAL: Shape = &[&[
     ("x", Real),
     ("xs", Reals),
     ("is_valid", Answer(&[Number])),
     ("is_zero", Answer(&[Number])),
     ("sum", Answer(&[Real])),
-];
+]];
 
-const INTERN: Shape = &[
+const INTERN: Shape = &[&[
     ("labels", Numbers),
     ("count", Number),
     ("value", Number),
     ("intern", Answer(&[Number, Number])),
     ("labels", Numbers),
-];
+]];
 
-const LABEL: Shape = &[
+const LABEL: Shape = &[&[
     ("labels", Numbers),
     ("count", Number),
     ("value", Number),
     ("id", Number),
     ("get", Answer(&[Maybe])),
     ("resolve", Answer(&[Number])),
+]];
+
+/// The columns of a built model.
+const COLUMNS: Lines = &[
+    ("label_values", Numbers),
+    ("offsets", Numbers),
+    ("edge_labels", Numbers),
+    ("edge_targets", Numbers),
+    ("edge_weights", Reals),
 ];
 
 const BUILD: Shape = &[
-    ("states", Number),
-    ("initial", Maybe),
-    ("given", Number),
-    ("sources", Numbers),
-    ("labels", Numbers),
-    ("targets", Numbers),
-    ("weights", Reals),
-    ("label_values", Numbers),
-    ("offsets", Numbers),
-    ("edge_labels", Numbers),
-    ("edge_targets", Numbers),
-    ("edge_weights", Reals),
-    ("build", Answer(&[Number, Number])),
-    ("label_values", Numbers),
-    ("offsets", Numbers),
-    ("edge_labels", Numbers),
-    ("edge_targets", Numbers),
-    ("edge_weights", Reals),
+    &[
+        ("states", Number),
+        ("initial", Maybe),
+        ("given", Number),
+        ("sources", Numbers),
+        ("labels", Numbers),
+        ("targets", Numbers),
+        ("weights", Reals),
+    ],
+    COLUMNS,
+    &[("build", Answer(&[Number, Number]))],
+    COLUMNS,
 ];
 
-const MODEL: Shape = &[
+/// The counts of a built model and its initial state.
+const COUNTS: Lines = &[
     ("states", Number),
     ("edges", Number),
     ("labels", Number),
     ("initial", Maybe),
-    ("label_values", Numbers),
-    ("offsets", Numbers),
-    ("edge_labels", Numbers),
-    ("edge_targets", Numbers),
-    ("edge_weights", Reals),
-    ("s", Number),
-    ("id", Number),
-    ("value", Number),
-    ("model_refusal", Answer(&[])),
-    ("num_states", Answer(&[Number])),
-    ("num_transitions", Answer(&[Number])),
-    ("num_labels", Answer(&[Number])),
-    ("initial", Answer(&[Maybe])),
-    ("successors", Answer(&[Number, Number])),
-    ("label", Answer(&[Number])),
-    ("label_id", Answer(&[Maybe])),
+];
+
+const MODEL: Shape = &[
+    COUNTS,
+    COLUMNS,
+    &[
+        ("s", Number),
+        ("id", Number),
+        ("value", Number),
+        ("model_refusal", Answer(&[])),
+        ("num_states", Answer(&[Number])),
+        ("num_transitions", Answer(&[Number])),
+        ("num_labels", Answer(&[Number])),
+        ("initial", Answer(&[Maybe])),
+        ("successors", Answer(&[Number, Number])),
+        ("label", Answer(&[Number])),
+        ("label_id", Answer(&[Maybe])),
+    ],
+];
+
+const NETWORK: Lines = &[
+    ("nodes", Number),
+    ("count", Number),
+    ("heads", Numbers),
+    ("caps", Reals),
+    ("costs", Reals),
+    ("starts", Numbers),
+    ("list", Numbers),
 ];
 
 /// A network, and what `max_flow` gives: flow, phases, pushes; then the capacities left.
 const FLOW: Shape = &[
-    ("nodes", Number),
-    ("count", Number),
-    ("heads", Numbers),
-    ("caps", Reals),
-    ("costs", Reals),
-    ("starts", Numbers),
-    ("list", Numbers),
-    ("source", Number),
-    ("sink", Number),
-    ("max_flow", Answer(&[Real, Number, Number])),
-    ("caps", Reals),
+    NETWORK,
+    &[
+        ("source", Number),
+        ("sink", Number),
+        ("max_flow", Answer(&[Real, Number, Number])),
+        ("caps", Reals),
+    ],
 ];
 
 /// A network, and how many links it has with one more; then the network.
 const EDGE: Shape = &[
-    ("nodes", Number),
-    ("count", Number),
-    ("heads", Numbers),
-    ("caps", Reals),
-    ("costs", Reals),
-    ("starts", Numbers),
-    ("list", Numbers),
-    ("from", Number),
-    ("to", Number),
-    ("capacity", Real),
-    ("cost", Real),
-    ("add_edge", Answer(&[Number])),
-    ("heads", Numbers),
-    ("caps", Reals),
-    ("costs", Reals),
-    ("starts", Numbers),
-    ("list", Numbers),
+    NETWORK,
+    &[
+        ("from", Number),
+        ("to", Number),
+        ("capacity", Real),
+        ("cost", Real),
+        ("add_edge", Answer(&[Number])),
+    ],
+    &[
+        ("heads", Numbers),
+        ("caps", Reals),
+        ("costs", Reals),
+        ("starts", Numbers),
+        ("list", Numbers),
+    ],
 ];
 
 /// How many nodes the new network has.
-const NODES: Shape = &[("nodes", Number), ("new", Answer(&[Number]))];
+const NODES: Shape = &[&[("nodes", Number), ("new", Answer(&[Number]))]];
 
 /// Masses and costs by row, and what `transport` gives: total, cells; then the plan.
-const TRANSPORT: Shape = &[
+const TRANSPORT: Shape = &[&[
     ("a", Reals),
     ("b", Reals),
     ("costs", Reals),
@@ -168,34 +184,44 @@ const TRANSPORT: Shape = &[
     ("plan_rows", Numbers),
     ("plan_columns", Numbers),
     ("plan_masses", Reals),
+]];
+
+/// The left and the right model, classes and tolerances, the bytes lent and what the first of them hold; each answer
+/// with these bytes afterwards.
+const RELATION: Shape = &[
+    COUNTS,
+    COLUMNS,
+    COUNTS,
+    COLUMNS,
+    &[
+        ("left_classes", Numbers),
+        ("right_classes", Numbers),
+        ("epsilon", Real),
+        ("rho", Real),
+        ("room", Number),
+        ("relation", Bytes),
+        ("epsdelta", Answer(&[])),
+        ("relation", Bytes),
+        ("epsdelta_bisimilar", Answer(&[Number])),
+        ("relation", Bytes),
+        ("min_epsilon", Answer(&[MaybeReal])),
+        ("relation", Bytes),
+    ],
 ];
 
-/// Two models (given as for `build`, stores aside), classes and tolerances; the relation's bytes.
-const RELATION: Shape = &[
+/// A relation's bytes, and whether it holds of a left and a right state.
+const RELATED: Shape = &[&[
     ("left_states", Number),
-    ("left_initial", Maybe),
-    ("left_sources", Numbers),
-    ("left_labels", Numbers),
-    ("left_targets", Numbers),
-    ("left_weights", Reals),
-    ("left_classes", Numbers),
     ("right_states", Number),
-    ("right_initial", Maybe),
-    ("right_sources", Numbers),
-    ("right_labels", Numbers),
-    ("right_targets", Numbers),
-    ("right_weights", Reals),
-    ("right_classes", Numbers),
-    ("epsilon", Real),
-    ("rho", Real),
-    ("epsdelta", Answer(&[])),
-    ("relation", Numbers),
-    ("epsdelta_bisimilar", Answer(&[Number])),
-    ("min_epsilon", Answer(&[MaybeReal])),
-];
+    ("room", Number),
+    ("relation", Bytes),
+    ("s", Number),
+    ("t", Number),
+    ("related", Answer(&[Number])),
+]];
 
 /// Two chains and options; what `distance` gives: value, bound, γ, pairs, rounds; then the contributions.
-const DISTANCE: Shape = &[
+const DISTANCE: Shape = &[&[
     ("left_initial", Number),
     ("left_offsets", Numbers),
     ("left_targets", Numbers),
@@ -216,9 +242,9 @@ const DISTANCE: Shape = &[
     ("gaps", Reals),
     ("occupancies", Reals),
     ("contributions", Reals),
-];
+]];
 
-const CARD: Shape = &[("card", Numbers), ("report", Numbers)];
+const CARD: Shape = &[&[("card", Numbers), ("report", Numbers)]];
 
 /// All kinds with their lines.
 pub const SHAPES: &[(&str, Shape)] = &[
@@ -232,13 +258,15 @@ pub const SHAPES: &[(&str, Shape)] = &[
     ("nodes", NODES),
     ("transport", TRANSPORT),
     ("relation", RELATION),
+    ("related", RELATED),
     ("distance", DISTANCE),
     ("card", CARD),
 ];
 
 /// The kind's own name and its lines.
-pub fn shape(kind: &str) -> Option<(&'static str, Shape)> {
-    SHAPES.iter().find(|s| s.0 == kind).copied()
+pub fn shape(kind: &str) -> Option<(&'static str, Vec<(&'static str, Form)>)> {
+    let (kind, parts) = SHAPES.iter().find(|s| s.0 == kind)?;
+    Some((kind, parts.concat()))
 }
 
 /// The bits as written: every NaN is the one NaN.
@@ -269,15 +297,19 @@ pub fn same(a: &Value, b: &Value) -> bool {
     }
 }
 
+/// The length, and the numbers.
+fn write_list(out: &mut String, list: &[impl std::fmt::Display]) -> std::fmt::Result {
+    let head = write!(out, " {}", list.len());
+    list.iter().fold(head, |ok, n| ok.and(write!(out, " {n}")))
+}
+
 fn write_value(out: &mut String, value: &Value) {
     let done = match value {
         Value::Number(n) => write!(out, " {n}"),
         Value::Absent => write!(out, " -"),
         Value::Real(x) => write!(out, " {:016x}", bits(*x)),
-        Value::Numbers(list) => {
-            let head = write!(out, " {}", list.len());
-            list.iter().fold(head, |ok, n| ok.and(write!(out, " {n}")))
-        }
+        Value::Numbers(list) => write_list(out, list),
+        Value::Bytes(list) => write_list(out, list),
         Value::Reals(list) => {
             let head = write!(out, " {}", list.len());
             list.iter()
@@ -311,6 +343,20 @@ fn number(words: &mut Words) -> Result<u64, String> {
     word.parse().map_err(|_| format!("no number: {word}"))
 }
 
+fn byte(words: &mut Words) -> Result<u8, String> {
+    let n = number(words)?;
+    n.try_into().map_err(|_| format!("no byte: {n}"))
+}
+
+/// A length, and so many values.
+fn list<T>(
+    words: &mut Words,
+    value: fn(&mut Words) -> Result<T, String>,
+) -> Result<Vec<T>, String> {
+    let count = number(words)?;
+    (0..count).map(|_| value(words)).collect()
+}
+
 fn real(words: &mut Words) -> Result<f64, String> {
     let word = words.next().ok_or("value missing")?;
     match u64::from_str_radix(word, 16) {
@@ -333,18 +379,9 @@ fn read_value(words: &mut Words, form: Form) -> Result<Value, String> {
         Maybe | MaybeReal if absent(words) => Value::Absent,
         Number | Maybe => Value::Number(number(words)?),
         Real | MaybeReal => Value::Real(real(words)?),
-        Numbers => {
-            let count = number(words)?;
-            Value::Numbers(
-                (0..count)
-                    .map(|_| number(words))
-                    .collect::<Result<_, _>>()?,
-            )
-        }
-        Reals => {
-            let count = number(words)?;
-            Value::Reals((0..count).map(|_| real(words)).collect::<Result<_, _>>()?)
-        }
+        Numbers => Value::Numbers(list(words, number)?),
+        Bytes => Value::Bytes(list(words, byte)?),
+        Reals => Value::Reals(list(words, real)?),
         Answer(forms) => {
             let refusal = number(words)? as u32;
             let values = forms.iter().map(|&f| read_value(words, f));
@@ -375,7 +412,7 @@ pub fn read_cases(text: &str) -> Result<Vec<Case>, String> {
             .ok_or(format!("case expected: {head}"))?;
         let (kind, shape) = shape(kind).ok_or(format!("no such kind: {kind}"))?;
         let mut fields = Vec::new();
-        for &(name, form) in shape {
+        for (name, form) in shape {
             let line = lines.next().ok_or("line missing")?;
             fields.push(read_field(line, name, form)?);
         }
@@ -398,6 +435,7 @@ mod tests {
             Number | Maybe => Value::Number(salt * 1_000_003),
             Real | MaybeReal => Value::Real(salt as f64 / 7.0),
             Numbers => Value::Numbers((0..salt % 4).collect()),
+            Bytes => Value::Bytes((0..salt as u8 % 5).collect()),
             Reals => Value::Reals((0..salt % 3).map(|i| -(i as f64) / 3.0).collect()),
             Answer(forms) => {
                 let values = forms.iter().map(|&f| example(f, salt + 1)).collect();
@@ -411,8 +449,8 @@ mod tests {
         let mut cases = Vec::new();
         for salt in 0..12 {
             for &(kind, shape) in SHAPES {
-                let lines = shape.iter().zip(salt..);
-                let fields = lines.map(|(&(name, form), i)| Field {
+                let lines = shape.concat().into_iter().zip(salt..);
+                let fields = lines.map(|((name, form), i)| Field {
                     name,
                     value: example(form, i),
                 });

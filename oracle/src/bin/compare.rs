@@ -6,8 +6,8 @@
 use std::collections::BTreeMap;
 use std::process::ExitCode;
 
-use oracle::args::FlowArgs;
-use oracle::generate::{Rng, build, labels, model, network, remainders};
+use oracle::args::{FlowArgs, RunArgs};
+use oracle::generate::{Rng, build, labels, model, network, related, relation, remainders};
 use oracle::ours::Ours;
 use oracle::pairs::{alike, first_difference, paired};
 use oracle::rows::{PARTS, ROWS, floors};
@@ -133,6 +133,12 @@ fn samples(tally: &mut Tally) {
     sample::flow::nodes().iter().for_each(|a| tally.check(a));
     sample::flow::edges().iter().for_each(|a| tally.check(a));
     sample::flow::flows().iter().for_each(|a| flow(tally, a));
+    sample::relation::relations()
+        .iter()
+        .for_each(|a| tally.check(a));
+    sample::relation::askings()
+        .iter()
+        .for_each(|a| tally.check(a));
 }
 
 fn reals_and_labels(tally: &mut Tally, rng: &mut Rng, scale: usize) {
@@ -194,6 +200,12 @@ fn networks(tally: &mut Tally, rng: &mut Rng, scale: usize) {
     network::flows(rng, scale, &mut |a| flow(tally, &a));
 }
 
+fn relations(tally: &mut Tally, rng: &mut Rng, scale: usize) {
+    relation::relations(rng, scale, &mut |a| tally.check(&a));
+    relation::runs(rng, scale, &mut |a| tally.check(&RunArgs(a)));
+    related::askings(rng, scale, &mut |a| tally.check(&a));
+}
+
 /// Seed and scale.
 fn options() -> Option<(u64, usize)> {
     let (mut seed, mut scale) = (1, 1);
@@ -221,6 +233,7 @@ fn main() -> ExitCode {
     builds(&mut tally, &mut rng, scale);
     models(&mut tally, &mut rng, scale);
     networks(&mut tally, &mut rng, scale);
+    relations(&mut tally, &mut rng, scale);
     let entries = ROWS.iter().chain(PARTS);
     let low = entries.filter(|row| tally.report(row.0, row.1)).count();
     let compared: u64 = tally.entries.values().map(|e| e.compared).sum();

@@ -86,9 +86,13 @@ impl Jumps {
 #[derive(Debug, Clone)]
 pub struct EpsDeltaRelation {
     /// States of the left system come first, then the right system's.
-    // CHANGED: `pub(crate)`, so that all pairs can be compared.
-    pub(crate) related: Vec<Vec<bool>>,
-    left_states: usize,
+    // CHANGED: `pub`, so that all pairs can be compared.
+    pub related: Vec<Vec<bool>>,
+    // CHANGED: `pub(crate)`, so that a relation handed in is put together from its bits.
+    pub(crate) left_states: usize,
+    // CHANGED: added, how many sweeps were made and pairs struck.
+    pub sweeps: usize,
+    pub strikes: usize,
 }
 
 impl EpsDeltaRelation {
@@ -154,8 +158,10 @@ where
             related[t][s] = ok;
         }
     }
+    let (mut sweeps, mut strikes) = (0, 0); // CHANGED: counted.
     // Remove pairs failing the flow test until none does.
     loop {
+        sweeps += 1; // CHANGED: counted.
         let mut removed = false;
         for s in 0..total {
             for t in s + 1..total {
@@ -168,6 +174,7 @@ where
                     related[s][t] = false;
                     related[t][s] = false;
                     removed = true;
+                    strikes += 1; // CHANGED: counted.
                 }
             }
         }
@@ -178,6 +185,8 @@ where
     Ok(EpsDeltaRelation {
         related,
         left_states: n,
+        sweeps,
+        strikes,
     })
 }
 

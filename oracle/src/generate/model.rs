@@ -6,7 +6,7 @@ use crate::answers::handed_in;
 use crate::args::{BuildArgs, Columns, ModelArgs, ReadArgs};
 
 /// Weights that a built model may not have.
-const BAD: &[f64] = &[
+pub const BAD: &[f64] = &[
     LEAST_WEIGHT.next_down(),
     GREATEST_JOINED.next_up(),
     5e-324,

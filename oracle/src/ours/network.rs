@@ -1,13 +1,10 @@
 //! The library's networks: a struct that is lent by pointer, and rows of its links.
 
-use super::{BEFORE, Ours, left};
+use super::{BEFORE, BEFORE_REAL, Ours, left};
 use crate::answers::answer;
 use crate::args::{EdgeArgs, FlowArgs, NetworkArgs, NodesArgs, RowsArgs, reals};
 use crate::network::{LINKS, STARTS};
 use crate::text::{Field, Value};
-
-/// What the reference for a flow holds before a call.
-const BEFORE_FLOW: f64 = -7.5;
 
 /// A link in memory.
 #[repr(C)]
@@ -46,40 +43,64 @@ unsafe extern "C" {
         phases: &mut usize,
         pushes: &mut usize,
     ) -> u32;
-    fn tanqesha_max_flow_rows(
-        heads: *const u32,
-        heads_length: usize,
-        caps: *mut f64,
-        caps_length: usize,
-        costs: *const f64,
-        costs_length: usize,
-        starts: *const u32,
-        starts_length: usize,
-        list: *const u32,
-        list_length: usize,
-        nodes: usize,
-        source: usize,
-        sink: usize,
-        flow: &mut f64,
-        phases: &mut usize,
-        pushes: &mut usize,
-    ) -> u32;
-    fn tanqesha_network_refusal(
-        heads: *const u32,
-        heads_length: usize,
-        caps: *const f64,
-        caps_length: usize,
-        costs: *const f64,
-        costs_length: usize,
-        starts: *const u32,
-        starts_length: usize,
-        list: *const u32,
-        list_length: usize,
-        nodes: usize,
-        source: usize,
-        sink: usize,
-    ) -> u32;
 }
+
+/// Declares an entry over rows of links and a wrapper of it; references come last.
+macro_rules! over_rows {
+    ($symbol:ident, $wrapper:ident, ($($lend:tt)*), $caps:ty, $pointer:ident, ($($own:ident: $kind:ty),*)) => {
+        unsafe extern "C" {
+            fn $symbol(
+                heads: *const u32,
+                heads_length: usize,
+                caps: $caps,
+                caps_length: usize,
+                costs: *const f64,
+                costs_length: usize,
+                starts: *const u32,
+                starts_length: usize,
+                list: *const u32,
+                list_length: usize,
+                nodes: usize,
+                source: usize,
+                sink: usize,
+                $($own: $kind),*
+            ) -> u32;
+        }
+
+        pub fn $wrapper(a: $($lend)* FlowArgs, $($own: $kind),*) -> u32 {
+            let n = $($lend)* a.network;
+            // SAFETY: each pointer comes with the length of its own slice, lent for the call.
+            unsafe {
+                $symbol(
+                    n.heads.as_ptr(),
+                    n.heads.len(),
+                    n.caps.$pointer(),
+                    n.caps.len(),
+                    n.costs.as_ptr(),
+                    n.costs.len(),
+                    n.starts.as_ptr(),
+                    n.starts.len(),
+                    n.list.as_ptr(),
+                    n.list.len(),
+                    n.nodes,
+                    a.source,
+                    a.sink,
+                    $($own),*
+                )
+            }
+        }
+    };
+}
+
+over_rows!(
+    tanqesha_max_flow_rows,
+    run_over_rows,
+    (&mut),
+    *mut f64,
+    as_mut_ptr,
+    (flow: &mut f64, phases: &mut usize, pushes: &mut usize)
+);
+over_rows!(tanqesha_network_refusal, network_refusal, (&), *const f64, as_ptr, ());
 
 /// What a flow run leaves behind its references.
 #[derive(Debug)]
@@ -92,7 +113,7 @@ pub struct Flowed {
 impl Flowed {
     pub fn before() -> Self {
         Self {
-            flow: BEFORE_FLOW,
+            flow: BEFORE_REAL,
             phases: BEFORE as usize,
             pushes: BEFORE as usize,
         }
@@ -102,7 +123,7 @@ impl Flowed {
     fn answer(&self, name: &'static str, refusal: u32) -> Field {
         let flow = match refusal {
             0 => self.flow,
-            _ => self.flow - BEFORE_FLOW,
+            _ => self.flow - BEFORE_REAL,
         };
         let counts = [self.phases, self.pushes].map(|n| left(refusal, n as u64));
         let values = [vec![Value::Real(flow)], counts.to_vec()].concat();
@@ -166,51 +187,7 @@ impl FlowNetwork {
 
 /// `max_flow` over the rows of `a`, whose capacities it alters.
 pub fn max_flow_rows(a: &mut FlowArgs, out: &mut Flowed) -> u32 {
-    let n = &mut a.network;
-    // SAFETY: each pointer comes with the length of its own slice, lent for the call.
-    unsafe {
-        tanqesha_max_flow_rows(
-            n.heads.as_ptr(),
-            n.heads.len(),
-            n.caps.as_mut_ptr(),
-            n.caps.len(),
-            n.costs.as_ptr(),
-            n.costs.len(),
-            n.starts.as_ptr(),
-            n.starts.len(),
-            n.list.as_ptr(),
-            n.list.len(),
-            n.nodes,
-            a.source,
-            a.sink,
-            &mut out.flow,
-            &mut out.phases,
-            &mut out.pushes,
-        )
-    }
-}
-
-/// The check of the rows alone.
-pub fn network_refusal(a: &FlowArgs) -> u32 {
-    let n = &a.network;
-    // SAFETY: each pointer comes with the length of its own slice.
-    unsafe {
-        tanqesha_network_refusal(
-            n.heads.as_ptr(),
-            n.heads.len(),
-            n.caps.as_ptr(),
-            n.caps.len(),
-            n.costs.as_ptr(),
-            n.costs.len(),
-            n.starts.as_ptr(),
-            n.starts.len(),
-            n.list.as_ptr(),
-            n.list.len(),
-            n.nodes,
-            a.source,
-            a.sink,
-        )
-    }
+    run_over_rows(a, &mut out.flow, &mut out.phases, &mut out.pushes)
 }
 
 /// The rows as they are passed: all starts, and the lists as long as they are listed, or all of them.

@@ -175,19 +175,3 @@ fn texts<A: Oracle>(inputs: Vec<A>) -> String {
 pub fn text() -> String {
     [texts(nodes()), texts(edges()), texts(flows())].concat()
 }
-
-#[cfg(test)]
-mod tests {
-    use super::*;
-    use crate::text::{read_cases, write_case};
-
-    #[test]
-    fn the_list_survives_reading_and_writing() {
-        let text = text();
-        let cases = read_cases(&text).unwrap();
-        assert_eq!(cases.iter().map(write_case).collect::<String>(), text);
-        for kind in ["nodes", "edge", "flow"] {
-            assert!(cases.iter().filter(|case| case.kind == kind).count() >= 200);
-        }
-    }
-}

@@ -2,9 +2,10 @@
 //!
 //! Prints `NAME rust_ns A ours_ns B ratio A/B`, medians over the samples. The Rust side is a new builder, each
 //! transition added, `build` and the release of the model. Our side is `build` into stores that are allocated once and
-//! not cleared between calls. The readers are left out. The flow is in `flow`.
+//! not cleared between calls. The readers are left out. The flow is in `flow`, whole runs of `epsdelta` in `relation`.
 
 mod flow;
+mod relation;
 
 use std::hint::black_box;
 use std::time::Instant;
@@ -115,5 +116,8 @@ fn main() {
     }
     for (name, test) in flow::cases().iter().filter(|case| chosen(case.0)) {
         flow::measure(name, test);
+    }
+    for (name, case) in relation::cases().iter().filter(|case| chosen(&case.0)) {
+        relation::measure(name, case);
     }
 }
