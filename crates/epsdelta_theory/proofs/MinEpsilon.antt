@@ -81,18 +81,30 @@ module _ (holds : Float → Bool) where
   unfolding halving
   all-halved = halved 64 14 nought one (lit≤ tt) apart-first
 
-  -- how the search ends
-  pub search-none : holds one ≡ false → search holds ≡ record { least = none; tried = one ∷ [] }
+  -- the search by what the test gives at 1 and at 0
+  abbrev decided : Bool → Bool → Search
+  decided a b =
+      elim a [
+        | true ↦ elim b [
+          | true ↦ record { least = at nought; tried = one ∷ nought ∷ [] }
+          | false ↦ record { least = at ((halving holds) .hi); tried = one ∷ nought ∷ (halving holds) .tried }
+        ]
+        | false ↦ record { least = none; tried = one ∷ [] }
+      ]
+
+  search-is : search holds ≡ decided (holds one) (holds nought)
   unfolding search
-  search-none e = rw (e, search)
+  search-is = refl
+
+  -- how it ends
+  pub search-none : holds one ≡ false → search holds ≡ record { least = none; tried = one ∷ [] }
+  search-none e = search-is ∙ ap (λ (a : Bool). decided a (holds nought)) e
 
   search-nought : holds one ≡ true → holds nought ≡ true → search holds ≡ record { least = at nought; tried = one ∷ nought ∷ [] }
-  unfolding search
-  search-nought e f = rw (e, f, search)
+  search-nought e f = search-is ∙ ap (λ (a : Bool). decided a (holds nought)) e ∙ ap (decided true) f
 
   search-between : holds one ≡ true → holds nought ≡ false → search holds ≡ record { least = at ((halving holds) .hi); tried = one ∷ nought ∷ (halving holds) .tried }
-  unfolding search
-  search-between e f = rw (e, f, search)
+  search-between e f = search-is ∙ ap (λ (a : Bool). decided a (holds nought)) e ∙ ap (decided true) f
 
   -- what is found where the test holds at 1
   abbrev pub belowOne : Float
