@@ -1,4 +1,12 @@
-//! With the feature `ours`, links `libexports.a` from the folder that `TANQESHA_LIB` names.
+//! With the feature `ours`, links our static libraries from the folder that `TANQESHA_LIB` names.
+
+/// Their names.
+const LIBRARIES: [&str; 4] = [
+    "exports",
+    "exports_flow",
+    "exports_relation",
+    "exports_card",
+];
 
 fn main() {
     println!("cargo:rerun-if-changed=build.rs");
@@ -7,8 +15,10 @@ fn main() {
         return;
     }
     let folder =
-        std::env::var("TANQESHA_LIB").expect("TANQESHA_LIB names the folder of libexports.a");
-    println!("cargo:rerun-if-changed={folder}/libexports.a");
+        std::env::var("TANQESHA_LIB").expect("TANQESHA_LIB names the folder of the libraries");
     println!("cargo:rustc-link-search=native={folder}");
-    println!("cargo:rustc-link-lib=static=exports");
+    for name in LIBRARIES {
+        println!("cargo:rerun-if-changed={folder}/lib{name}.a");
+        println!("cargo:rustc-link-lib=static={name}");
+    }
 }

@@ -153,6 +153,13 @@ pub struct RelatedArgs {
     pub t: u32,
 }
 
+/// `report` of the bytes of a card; `out` is lent, and holds the same byte everywhere.
+#[derive(Debug, Clone)]
+pub struct CardArgs {
+    pub card: Vec<u8>,
+    pub out: Vec<u8>,
+}
+
 impl Columns {
     /// Lent stores of these lengths, filled with values that no result has at that place.
     pub fn filled(labels: usize, offsets: usize, edges: usize) -> Self {
@@ -560,5 +567,42 @@ impl Input for RelatedArgs {
         fields.push(number("s", self.s.into()));
         fields.push(number("t", self.t.into()));
         fields
+    }
+}
+
+/// The bytes of the lent store, as an answer line.
+pub fn lent_out(out: &[u8]) -> Field {
+    Field {
+        name: "out",
+        value: Value::Hex(out.to_vec()),
+    }
+}
+
+impl Input for CardArgs {
+    const KIND: &'static str = "card";
+
+    /// The store is said by its length and by what it holds everywhere.
+    fn fields(&self) -> Vec<Field> {
+        let card = Value::Hex(self.card.clone());
+        let fill = self.out.first().copied().unwrap_or(0);
+        vec![
+            Field {
+                name: "card",
+                value: card,
+            },
+            number("room", self.out.len() as u64),
+            number("fill", fill.into()),
+        ]
+    }
+
+    /// The bytes of the card.
+    fn parts(&self) -> usize {
+        self.card.len()
+    }
+
+    fn without(&self, from: usize, to: usize) -> Self {
+        let card = cut(&self.card, from, to);
+        let out = self.out.clone();
+        Self { card, out }
     }
 }

@@ -5,6 +5,7 @@ pub mod answers;
 pub mod args;
 pub mod bisim_core;
 pub mod bisim_metric;
+pub mod card;
 pub mod generate;
 pub mod network;
 #[cfg(feature = "ours")]

@@ -140,7 +140,7 @@ pub fn trimmed(fields: Vec<Field>, lengths: &[(&str, usize)]) -> Vec<Field> {
         match (&mut field.value, length) {
             (Value::Answer(..), _) => {}
             (Value::Numbers(list), Some(length)) => list.truncate(length),
-            (Value::Bytes(list), Some(length)) => list.truncate(length),
+            (Value::Bytes(list) | Value::Hex(list), Some(length)) => list.truncate(length),
             (Value::Reals(list), Some(length)) => list.truncate(length),
             _ => return None,
         }

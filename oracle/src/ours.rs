@@ -1,6 +1,7 @@
-//! The static library that is compared, by its C interface: a slice is a pointer and a length, a reference a pointer.
+//! The static libraries that are compared, by their C interface: a slice is a pointer and a length, a reference a pointer.
 //! Each function returns a refusal's number, or 0 with its answer behind the references.
 
+pub mod card;
 pub mod network;
 pub mod relation;
 

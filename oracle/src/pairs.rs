@@ -33,7 +33,9 @@ pub fn first_difference(a: &[Field], b: &[Field]) -> String {
     };
     let place = match (&a.value, &b.value) {
         (Value::Numbers(x), Value::Numbers(y)) => x.iter().zip(y).position(|(x, y)| x != y),
-        (Value::Bytes(x), Value::Bytes(y)) => x.iter().zip(y).position(|(x, y)| x != y),
+        (Value::Bytes(x), Value::Bytes(y)) | (Value::Hex(x), Value::Hex(y)) => {
+            x.iter().zip(y).position(|(x, y)| x != y)
+        }
         (Value::Reals(x), Value::Reals(y)) => x.iter().zip(y).position(|(&x, &y)| !same_real(x, y)),
         _ => None,
     };

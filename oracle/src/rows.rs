@@ -24,10 +24,20 @@ pub const ROWS: &[(&str, &[u32])] = &[
     ("related", &[3, 4, 7, 10]),
     ("epsdelta_bisimilar", &[3, 4, 5, 6, 7, 8, 9, 10]),
     ("min_epsilon", &[3, 4, 5, 6, 7, 8, 9, 10]),
+    ("report", &[7]),
 ];
 
 /// The parts of `max_flow` that the library has beside it: the run over rows, and its check alone.
 pub const PARTS: &[(&str, &[u32])] = &[("max_flow_rows", &[15]), ("network_refusal", &[15])];
+
+/// The refusal numbers that an entry prints where it is not refused itself; each, and a text without one, is counted as
+/// the numbers of its row are.
+pub fn printed_numbers(name: &str) -> &'static [u32] {
+    match name {
+        "report" => &[1, 2, 4, 9],
+        _ => &[],
+    }
+}
 
 /// Least number of comparisons of an entry, and least number for each refusal number of its row and for none.
 pub fn floors(name: &str) -> (u64, u64) {

@@ -1,6 +1,8 @@
 //! The fixed list of cases that is replayed without Rust: figures of document 01, some of the short inputs, random ones.
-//! The networks, its second part, are in `flow`, the relations, its third, in `relation`.
+//! The networks, its second part, are in `flow`, the relations, its third, in `relation`, the cards, its fourth, in
+//! `card`.
 
+pub mod card;
 pub mod flow;
 pub mod relation;
 
@@ -287,7 +289,8 @@ mod tests {
     fn the_lists_survive_reading_and_writing() {
         let flows = (flow::text(), &["nodes", "edge", "flow"][..]);
         let relations = (relation::text(), &["relation", "related"][..]);
-        for (text, kinds) in [flows, relations] {
+        let cards = (card::text(), &["card"][..]);
+        for (text, kinds) in [flows, relations, cards] {
             let cases = read_cases(&text).unwrap();
             assert_eq!(cases.iter().map(write_case).collect::<String>(), text);
             for kind in kinds {
@@ -298,12 +301,14 @@ mod tests {
 
     #[test]
     fn the_lists_cover_every_refusal_and_stay_short() {
-        let (models, flows, relations) = (text(), flow::text(), relation::text());
+        let (models, flows, relations, cards) =
+            (text(), flow::text(), relation::text(), card::text());
         assert!(models.len() < 320_000, "{} bytes", models.len());
         assert!(flows.len() < 640_000, "{} bytes", flows.len());
         assert!(relations.len() < 480_000, "{} bytes", relations.len());
+        assert!(cards.len() < 320_000, "{} bytes", cards.len());
         let mut counts: BTreeMap<(&str, u32), usize> = BTreeMap::new();
-        for case in read_cases(&(models + &flows + &relations)).unwrap() {
+        for case in read_cases(&(models + &flows + &relations + &cards)).unwrap() {
             for field in case.fields {
                 if let Value::Answer(refusal, _) = field.value {
                     *counts.entry((field.name, refusal)).or_default() += 1;
@@ -316,5 +321,19 @@ mod tests {
             assert!(total >= 200, "{name}: {total}");
             assert!(row.iter().all(|r| count(r) >= 5), "{name}: {counts:?}");
         }
+    }
+    /// As many of each number that a report prints, and many without one; some short stores.
+    #[test]
+    fn the_cards_cover_every_printed_number() {
+        let mut counts: BTreeMap<Option<u32>, usize> = BTreeMap::new();
+        for case in read_cases(&card::text()).unwrap() {
+            let printed = crate::card::printed(&case.fields[3..]);
+            *counts.entry(printed).or_default() += 1;
+        }
+        let count = |number: Option<u32>| counts.get(&number).copied().unwrap_or(0);
+        let row = crate::rows::printed_numbers("report");
+        assert!(row.iter().all(|&r| count(Some(r)) >= 5), "{counts:?}");
+        assert!(count(Some(0)) >= 40 && count(None) >= 5, "{counts:?}");
+        assert_eq!(counts.len(), row.len() + 2, "{counts:?}");
     }
 }

@@ -16,6 +16,8 @@ pub enum Value {
     Numbers(Vec<u64>),
     /// Written as numbers.
     Bytes(Vec<u8>),
+    /// Written as the count and one word, two hex digits for each byte; no word where there are none.
+    Hex(Vec<u8>),
     Reals(Vec<f64>),
     /// Refusal number (0: none), then as many values on every outcome.
     Answer(u32, Vec<Value>),
@@ -46,11 +48,12 @@ pub enum Form {
     MaybeReal,
     Numbers,
     Bytes,
+    Hex,
     Reals,
     Answer(&'static [Form]),
 }
 
-use Form::{Answer, Bytes, Maybe, MaybeReal, Number, Numbers, Real, Reals};
+use Form::{Answer, Bytes, Hex, Maybe, MaybeReal, Number, Numbers, Real, Reals};
 
 type Lines = &'static [(&'static str, Form)];
 
@@ -244,7 +247,14 @@ const DISTANCE: Shape = &[&[
     ("contributions", Reals),
 ]];
 
-const CARD: Shape = &[&[("card", Numbers), ("report", Numbers)]];
+/// A card, the bytes lent and the byte that all of them hold; the length of the text, and the text.
+const CARD: Shape = &[&[
+    ("card", Hex),
+    ("room", Number),
+    ("fill", Number),
+    ("report", Answer(&[Number])),
+    ("out", Hex),
+]];
 
 /// All kinds with their lines.
 pub const SHAPES: &[(&str, Shape)] = &[
@@ -303,6 +313,14 @@ fn write_list(out: &mut String, list: &[impl std::fmt::Display]) -> std::fmt::Re
     list.iter().fold(head, |ok, n| ok.and(write!(out, " {n}")))
 }
 
+/// The length, and the digits.
+fn write_hex(out: &mut String, list: &[u8]) -> std::fmt::Result {
+    let blank = if list.is_empty() { "" } else { " " };
+    let head = write!(out, " {}{blank}", list.len());
+    list.iter()
+        .fold(head, |ok, b| ok.and(write!(out, "{b:02x}")))
+}
+
 fn write_value(out: &mut String, value: &Value) {
     let done = match value {
         Value::Number(n) => write!(out, " {n}"),
@@ -310,6 +328,7 @@ fn write_value(out: &mut String, value: &Value) {
         Value::Real(x) => write!(out, " {:016x}", bits(*x)),
         Value::Numbers(list) => write_list(out, list),
         Value::Bytes(list) => write_list(out, list),
+        Value::Hex(list) => write_hex(out, list),
         Value::Reals(list) => {
             let head = write!(out, " {}", list.len());
             list.iter()
@@ -365,6 +384,23 @@ fn real(words: &mut Words) -> Result<f64, String> {
     }
 }
 
+/// A length, and so many bytes.
+fn hex(words: &mut Words) -> Result<Vec<u8>, String> {
+    let count = number(words)? as usize;
+    let word = if count == 0 {
+        ""
+    } else {
+        words.next().ok_or("value missing")?
+    };
+    let digits = word.bytes().all(|b| b.is_ascii_hexdigit());
+    if word.len() != 2 * count || !digits {
+        return Err(format!("not {count} bytes: {word}"));
+    }
+    let pair = |i: usize| u8::from_str_radix(&word[2 * i..2 * i + 2], 16);
+    let bytes = (0..count).map(|i| pair(i).map_err(|_| format!("no byte in {word}")));
+    bytes.collect()
+}
+
 /// True where the next word is `-`, which is then taken.
 fn absent(words: &mut Words) -> bool {
     let here = words.clone().next() == Some("-");
@@ -381,6 +417,7 @@ fn read_value(words: &mut Words, form: Form) -> Result<Value, String> {
         Real | MaybeReal => Value::Real(real(words)?),
         Numbers => Value::Numbers(list(words, number)?),
         Bytes => Value::Bytes(list(words, byte)?),
+        Hex => Value::Hex(hex(words)?),
         Reals => Value::Reals(list(words, real)?),
         Answer(forms) => {
             let refusal = number(words)? as u32;
@@ -436,6 +473,7 @@ mod tests {
             Real | MaybeReal => Value::Real(salt as f64 / 7.0),
             Numbers => Value::Numbers((0..salt % 4).collect()),
             Bytes => Value::Bytes((0..salt as u8 % 5).collect()),
+            Hex => Value::Hex((0..salt as u8 % 5).map(|b| b * 60).collect()),
             Reals => Value::Reals((0..salt % 3).map(|i| -(i as f64) / 3.0).collect()),
             Answer(forms) => {
                 let values = forms.iter().map(|&f| example(f, salt + 1)).collect();
@@ -477,15 +515,24 @@ mod tests {
 
     #[test]
     fn faults_are_found() {
-        for text in [
-            "case other\n\n",
-            "case card\ncard 1 2\nreport 0\n",
-            "case card\ncard 2 2\nreport 0\n\n",
-            "case card\ncard 1 2 3\nreport 0\n\n",
-            "case card\nreport 0\ncard 0\n\n",
-            "case card\ncard 1 -\nreport 0\n\n",
+        let good = "case intern\nlabels 1 2\ncount 1\nvalue 3\nintern 7 0 0\nlabels 1 2\n\n";
+        assert_eq!(read_cases(good).unwrap().len(), 1);
+        for (from, to) in [
+            ("case intern", "case other"),
+            ("labels 1 2\n\n", "labels 1 2\n"),
+            ("labels 1 2\ncount", "labels 2 2\ncount"),
+            ("labels 1 2\ncount", "labels 1 2 3\ncount"),
+            ("labels 1 2\ncount", "labels 1 -\ncount"),
+            ("count 1\nvalue 3", "value 3\ncount 1"),
+            ("intern 7 0 0", "intern 7 0"),
         ] {
-            assert!(read_cases(text).is_err(), "{text}");
+            let text = good.replace(from, to);
+            assert!(text != good && read_cases(&text).is_err(), "{text}");
+        }
+        let card = "case card\ncard 1 ff\nroom 0\nfill 0\nreport 7 0\nout 0\n\n";
+        assert_eq!(read_cases(card).unwrap().len(), 1);
+        for word in ["f", "fff", "fg", "+f"] {
+            assert!(read_cases(&card.replace("ff", word)).is_err(), "{word}");
         }
     }
 

@@ -10,7 +10,7 @@ use Rattle.numbers.proofs.Bools.{or-f}
 use Rattle.numbers.proofs.Refuses.{check-none, check-skip, none}
 use Rattle.epsdelta_theory.specs.Relation.{relationBytes}
 use Rattle.epsdelta_theory.proofs.Pairs.{entry-in}
-use Rattle.epsdelta.proofs.Marking.{square-most}
+use Rattle.epsdelta_sweeps.proofs.Marking.{square-most}
 use Rattle.bisimilar.specs.Related.{relatedRefusal, verdict, settled}
 use Rattle.bisimilar.specs.declared.related.Verdict.{Verdict}
 use Rattle.bisimilar.specs.declared.related.Verdict.the-variants.{Refused}

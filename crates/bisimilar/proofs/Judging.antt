@@ -25,7 +25,7 @@ use Rattle.epsdelta.specs.Outcome as made
 use Rattle.epsdelta.specs.declared.relation.Ended.{Ended}
 use Rattle.epsdelta.specs.declared.relation.Ended.the-variants as ended
 use Rattle.bisimilar.specs.Related.{verdict, relatedOutcome}
-use Rattle.bisimilar.specs.Outcome.{Outcome, judged, judgedBy, concluded, bisimilarOutcome}
+use Rattle.bisimilar.specs.Outcome.{Outcome, judged, judgedBy, bisimilarOutcome}
 use Rattle.bisimilar.specs.declared.related.Verdict.{Verdict}
 use Rattle.bisimilar.specs.declared.related.Verdict.the-variants.{Refused}
 use Rattle.bisimilar.proofs.Reading.{related-answer}
@@ -34,13 +34,26 @@ use Rattle.bisimilar.proofs.Reading.{related-answer}
 over-length : (new old : List ℕ) → length new ≤ length old → length (over new old) ≡ length old
 over-length new old h = let a = length-append new (drop (length new) old) in let b = length-drop (length new) old in omega arith
 
-module _ (x : Ended) (left right s t : ℕ) (store : List ℕ) where
-  pub refused-stands : {n : ℕ} → x ≡ ended.Refused n → judged (Refused n) store ≡ concluded x left right s t store
-  refused-stands e = ap (λ (y : Ended). concluded y left right s t store) (sym e)
+-- how a relation that is made, or refused, is read at s and t and cleared
+abbrev concluded : Ended → ℕ → ℕ → ℕ → ℕ → List ℕ → Outcome
+concluded (ended.Refused r) left right s t store = judged (Refused r) store
+concluded ended.Related left right s t store = judged (relatedOutcome left right store s t) (replicate (length store) 0)
 
-  pub read-and-cleared : {v : Verdict} {out : List ℕ} → x ≡ ended.Related → v ≡ relatedOutcome left right store s t → out ≡ replicate (length store) 0 → judged v out ≡ concluded x left right s t store
+-- the same by cases
+abbrev Concluded : Ended → ℕ → ℕ → ℕ → ℕ → List ℕ → Outcome → Type 0
+Concluded x left right s t store o = ((n : ℕ) → x ≡ ended.Refused n → o ≡ judged (Refused n) store) × (x ≡ ended.Related → o ≡ judged (relatedOutcome left right store s t) (replicate (length store) 0))
+
+concluded-is : (x : Ended) (left right s t : ℕ) (store : List ℕ) (o : Outcome) → Concluded x left right s t store o → o ≡ concluded x left right s t store
+concluded-is (ended.Refused r) left right s t store o (f, g) = f r refl
+concluded-is ended.Related left right s t store o (f, g) = g refl
+
+module _ (x : Ended) (left right s t : ℕ) (store : List ℕ) where
+  pub refused-stands : {n : ℕ} → x ≡ ended.Refused n → Concluded x left right s t store (judged (Refused n) store)
+  refused-stands {n} e = ((λ k f. let h : n ≡ k = cc in ap (λ (m : ℕ). judged (Refused m) store) h), λ f. let z : _≡_ {A = ℕ} 0 1 = cc in absurd (omega arith))
+
+  pub read-and-cleared : {v : Verdict} {out : List ℕ} → x ≡ ended.Related → v ≡ relatedOutcome left right store s t → out ≡ replicate (length store) 0 → Concluded x left right s t store (judged v out)
   read-and-cleared {v} {out} e f g =
-      ap (λ (y : Verdict). judged y out) f ∙ ap (λ (l : List ℕ). judged (relatedOutcome left right store s t) l) g ∙ ap (λ (y : Ended). concluded y left right s t store) (sym e)
+      ((λ k h. let z : _≡_ {A = ℕ} 0 1 = cc in absurd (omega arith)), λ h. ap (λ (y : Verdict). judged y out) f ∙ ap (λ (l : List ℕ). judged (relatedOutcome left right store s t) l) g)
 
 module _ (SL : Shape) (ML : Columns) (SR : Shape) (MR : Columns) (cl cr : List ℕ) (ε ρ : Float) where
   abbrev R : List Bool
@@ -79,9 +92,10 @@ module _ (SL : Shape) (ML : Columns) (SR : Shape) (MR : Columns) (cl cr : List �
 
     -- the relation made or refused, then read and cleared
     pub ended-by : {b : Bool} {s t : ℕ} {x : Ended} {bytes : List ℕ} {v : Verdict} {out : List ℕ} → b ≡ (absent (SL .initial) || absent (SR .initial)) → s ≡ start (SL .initial) → t ≡ start (SR .initial)
-        → made.ends x bytes ≡ made.outcomeUnless b SL ML SR MR cl cr ε ρ store → judged v out ≡ concluded x (SL .states) (SR .states) s t bytes → judged v out ≡ bisimilarOutcome SL ML SR MR cl cr ε ρ store
+        → made.ends x bytes ≡ made.outcomeUnless b SL ML SR MR cl cr ε ρ store → Concluded x (SL .states) (SR .states) s t bytes (judged v out) → judged v out ≡ bisimilarOutcome SL ML SR MR cl cr ε ρ store
     unfolding bisimilarRefusal
-    ended-by {b} {s} {t} {x} {bytes} p q w e f =
-        f ∙ ap (λ (m : ℕ). concluded x (SL .states) (SR .states) m t bytes) q ∙ ap (λ (m : ℕ). concluded x (SL .states) (SR .states) (start (SL .initial)) m bytes) w
+    ended-by {b} {s} {t} {x} {bytes} {v} {out} p q w e f =
+        concluded-is x (SL .states) (SR .states) s t bytes (judged v out) f
+        ∙ ap (λ (m : ℕ). concluded x (SL .states) (SR .states) m t bytes) q ∙ ap (λ (m : ℕ). concluded x (SL .states) (SR .states) (start (SL .initial)) m bytes) w
         ∙ ap (λ (o : made.Outcome). concluded (o .answer) (SL .states) (SR .states) (start (SL .initial)) (start (SR .initial)) (o .relation)) (e ∙ ap (λ (c : Bool). made.outcomeUnless c SL ML SR MR cl cr ε ρ store) p)
         ∙ settle (bisimilarRefusal SL ML SR MR cl cr ε ρ (length store)) refl

@@ -8,9 +8,7 @@ use Rattle.bisim_core.specs.Data.{Columns}
 use Rattle.bisim_core.specs.declared.wlts.Shape.{Shape}
 use Rattle.epsdelta_theory.specs.Refusal.{bisimilarRefusal}
 use Rattle.epsdelta_theory.specs.Bisimilar.{bisimilar}
-use Rattle.epsdelta.specs.declared.relation.Ended.{Ended}
-use Rattle.epsdelta.specs.declared.relation.Ended.the-variants as ended
-use Rattle.bisimilar.specs.Related.{verdict, relatedOutcome}
+use Rattle.bisimilar.specs.Related.{verdict}
 use Rattle.bisimilar.specs.declared.related.Verdict.{Verdict}
 use Rattle.bisimilar.specs.declared.related.Verdict.the-variants.{Refused}
 
@@ -26,11 +24,6 @@ judged a store = record { answer = a; relation = store }
 abbrev pub judgedBy : ℕ → Bool → List ℕ → Outcome
 judgedBy zero b store = judged (verdict b) (replicate (length store) 0)
 judgedBy (suc r) b store = judged (Refused (suc r)) store
-
--- how a relation that is made, or refused, is read at s and t and cleared
-abbrev pub concluded : Ended → ℕ → ℕ → ℕ → ℕ → List ℕ → Outcome
-concluded (ended.Refused r) left right s t store = judged (Refused r) store
-concluded ended.Related left right s t store = judged (relatedOutcome left right store s t) (replicate (length store) 0)
 
 -- two models handed in, classes, ε, ρ and the bytes lent for the relation
 abbrev pub bisimilarOutcome : Shape → Columns → Shape → Columns → List ℕ → List ℕ → Float → Float → List ℕ → Outcome

@@ -5,14 +5,18 @@ use bisim_core::ids::StateId;
 use bisim_core::wlts::Initial;
 use bisim_core::wlts::Shape;
 use epsdelta::relation::Ended;
+use epsdelta::relation::Settings;
 use epsdelta::relation::epsdelta_unless;
 ghost use mathlib.Core.Path.{_≡_};
 ghost use mathlib.Core.Bool.{_||_};
+ghost use Prim.Native.Nat.{ℕ};
 ghost use lib.ListN.{length, replicate};
 ghost use Rattle.bisim_core.specs.Data.{columns};
 ghost use Rattle.epsdelta_theory.specs.Refusal;
 ghost use Rattle.epsdelta_theory.specs.Bisimilar;
-ghost use Rattle.bisimilar.specs.Outcome.{judged, concluded, bisimilarOutcome};
+ghost use Rattle.epsdelta.specs.declared.relation.Ended.the-variants.{Related, Refused};
+ghost use Rattle.bisimilar.specs.Related.{relatedOutcome};
+ghost use Rattle.bisimilar.specs.Outcome.{judged, bisimilarOutcome};
 
 // Whether a model has no initial state.
 fn absent(initial: Initial) -> bool
@@ -61,7 +65,8 @@ fn conclude(
     t: StateId,
     relation: &mut [u8],
 ) -> Verdict
-    ensures { λ r. ⌜ judged r (now (relation .exit)) ≡ concluded ended «left_states» «right_states» (s .0) (t .0) (now (relation .entry)) ⌝ }
+    ensures { λ r. ⌜ ((n : ℕ) → ended ≡ Refused n → judged r (now (relation .exit)) ≡ judged (Verdict.Refused n) (now (relation .entry)))
+        × (ended ≡ Related → judged r (now (relation .exit)) ≡ judged (relatedOutcome «left_states» «right_states» (now (relation .entry)) (s .0) (t .0)) (replicate (length (now (relation .entry))) 0)) ⌝ }
 {
     match ended {
         Ended::Refused(r) => Verdict::Refused(r),
@@ -97,8 +102,13 @@ pub fn epsdelta_bisimilar(
 {
     let first = left.initial;
     let second = right.initial;
+    let settings = Settings {
+        absent: one_absent(first, second),
+        epsilon: epsilon,
+        rho: rho,
+    };
     let ended = epsdelta_unless(
-        one_absent(first, second),
+        settings,
         left,
         left_values,
         left_offsets,
@@ -113,8 +123,6 @@ pub fn epsdelta_bisimilar(
         right_weights,
         left_classes,
         right_classes,
-        epsilon,
-        rho,
         relation,
     );
     conclude(

@@ -1,20 +1,15 @@
 -- What `epsdelta` answers, and what it leaves in the bytes of the relation.
-use Prim.Native.Nat.{ℕ, zero, suc, _+_}
-use mathlib.Core.Bool.{Bool, _||_}
+use Prim.Native.Nat.{ℕ, zero, suc}
+use mathlib.Core.Bool.{Bool}
 use mathlib.Core.List.{List}
-use lib.Dec.{ltb}
 use lib.ListN.{length}
 use lib.Ieee.{Float}
 use Rattle.numbers.specs.Bits.{packed}
 use Rattle.numbers.specs.Lists.{over}
-use Rattle.numbers.specs.Refuse.{check}
 use Rattle.bisim_core.specs.Data.{Columns}
 use Rattle.bisim_core.specs.declared.wlts.Shape.{Shape}
-use Rattle.epsdelta_theory.specs.Relation.{relationBytes}
 use Rattle.epsdelta_theory.specs.Refusal.{tolerancesOutside, relationRefusal, epsdeltaRefusal}
 use Rattle.epsdelta_theory.specs.Epsdelta.{given, epsdelta}
-use Rattle.epsdelta_jumps.specs.declared.jumps.Joined.{Joined}
-use Rattle.epsdelta_jumps.specs.declared.jumps.Joined.the-variants as joins
 use Rattle.epsdelta.specs.declared.relation.Ended.{Ended}
 use Rattle.epsdelta.specs.declared.relation.Ended.the-variants.{Related, Refused}
 
@@ -30,16 +25,6 @@ ends a store = record { answer = a; relation = store }
 abbrev pub settled : ℕ → List ℕ → List Bool → Outcome
 settled zero store R = ends Related (over (packed R) store)
 settled (suc r) store R = ends (Refused (suc r)) store
-
--- what is refused of the two models; 0 if nothing
-abbrev pub refusalOf : Joined → ℕ
-refusalOf joins.Rows = 0
-refusalOf (joins.Refused r) = r
-refusalOf joins.Short = 0
-
--- checks 7 to 10, for whether 8 fails, l states with so many classes, r states with so many, ε, ρ and so many bytes
-abbrev pub laterRefusal : Bool → ℕ → ℕ → ℕ → ℕ → Float → Float → ℕ → ℕ
-laterRefusal fails8 l r cl cr ε ρ bytes = check 7 (ltb cl l || (ltb cr r || ltb bytes (relationBytes (l + r)))) (check 8 fails8 (check 9 (tolerancesOutside ε ρ) (check 10 (ltb 2000 (l + r)) 0)))
 
 -- whether 8 fails, two models handed in, classes, ε, ρ and the bytes lent for the relation
 abbrev pub outcomeUnless : Bool → Shape → Columns → Shape → Columns → List ℕ → List ℕ → Float → Float → List ℕ → Outcome

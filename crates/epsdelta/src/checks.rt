@@ -3,12 +3,8 @@ use numbers::GREATEST_FACTOR;
 use numbers::ONE;
 use numbers::Real;
 ghost use mathlib.Core.Path.{_≡_};
-ghost use Prim.Native.Nat.{_≤_, _+_};
-ghost use mathlib.Core.Bool.{_||_};
-ghost use lib.Dec.{ltb};
-ghost use Rattle.epsdelta_theory.specs.Relation.{relationBytes};
-ghost use Rattle.epsdelta_theory.specs.Refusal.{tolerancesOutside};
-ghost use Rattle.epsdelta.specs.Outcome.{laterRefusal};
+ghost use Prim.Native.Nat.{_≤_};
+ghost use Rattle.epsdelta_theory.specs.Refusal.{short, tolerancesOutside, laterRefusal};
 
 // 7: too few classes of a model, or too few bytes for the relation.
 fn lacking(
@@ -19,7 +15,7 @@ fn lacking(
     bytes: usize,
 ) -> bool
     requires { ⌜ (left ≤ 2000) × (right ≤ 2000) ⌝ }
-    ensures { λ r. ⌜ r ≡ (ltb «left_classes» left || (ltb «right_classes» right || ltb bytes (relationBytes (left + right)))) ⌝ }
+    ensures { λ r. ⌜ r ≡ short left right «left_classes» «right_classes» bytes ⌝ }
 {
     let states = left + right;
     left_classes < left || (right_classes < right || bytes < (states * states + 7) / 8)
@@ -50,7 +46,7 @@ pub(crate) fn later(
     bytes: usize,
 ) -> u32
     requires { ⌜ (left ≤ 2000) × (right ≤ 2000) ⌝ }
-    ensures { λ r. ⌜ r ≡ laterRefusal absent left right «left_classes» «right_classes» epsilon rho bytes ⌝ }
+    ensures { λ r. ⌜ r ≡ laterRefusal absent (tolerancesOutside epsilon rho) left right «left_classes» «right_classes» bytes ⌝ }
 {
     if lacking(left, right, left_classes, right_classes, bytes) {
         return 7;

@@ -1,5 +1,3 @@
-// The relation of two models: marks, and sweeps until one without a strike.
+// The relation of two models, or the number of the check that refuses them.
 mod checks; // checks.rt: checks 7 to 10
-mod marks; // marks.rt: the marks of a relation
-pub mod relation; // relation.rt: marks, then sweeps
-mod sweeps; // sweeps.rt: turns, sweeps and the run
+pub mod relation; // relation.rt: epsdelta

@@ -1,28 +1,26 @@
-// The relation of the states that lists hold: marks, then sweeps.
+// The relation of two models: their checks, their rows side by side, and the relation over these.
 use crate::checks::later;
-use crate::marks::marks;
-use crate::sweeps::run;
 use bisim_core::wlts::Shape;
 use epsdelta_jumps::jumps::Joined;
 use epsdelta_jumps::jumps::union;
-use numbers::ONE;
-use numbers::SLACK;
+use epsdelta_sweeps::relate::relate;
 ghost use mathlib.Core.Path.{_≡_};
-ghost use Prim.Native.Nat.{_≤_, _+_};
-ghost use mathlib.Core.Bool.{false, _||_};
+ghost use Prim.Native.Nat.{ℕ, _≤_, _<_, _+_};
+ghost use mathlib.Core.Bool.{Bool, true, _||_};
+ghost use mathlib.Core.List.{_++_};
 ghost use lib.Dec.{ltb};
-ghost use lib.ListN.{length};
+ghost use lib.ListN.{length, take};
 ghost use lib.Seq.{paste};
-ghost use Rattle.numbers.specs.Bits.{packed};
-ghost use Rattle.epsdelta_theory.specs.Relation.{relationBytes};
-ghost use Rattle.epsdelta_theory.specs.FlowTest;
+ghost use Rattle.numbers.specs.Lists.{every};
+ghost use Rattle.numbers.proofs.Refuses.{first};
 ghost use Rattle.bisim_core.specs.Data.{columns};
-ghost use Rattle.epsdelta_theory.specs.Refusal.{epsdeltaRefusal};
+ghost use Rattle.epsdelta_theory.specs.Jumps.{Jumps};
+ghost use Rattle.epsdelta_theory.specs.Refusal.{tolerancesOutside, laterRefusal, epsdeltaRefusal};
 ghost use Rattle.epsdelta_theory.specs.Claim.{Sound};
-ghost use Rattle.epsdelta_theory.specs.Epsdelta.{Given, given, epsdelta};
-ghost use Rattle.epsdelta_theory.proofs.TasksIn.{RowsFit, GivenIn};
-ghost use Rattle.epsdelta_jumps.specs.Union.{short};
-ghost use Rattle.epsdelta.specs.Outcome.{ends, settled, laterRefusal, refusalOf, outcomeUnless, outcome};
+ghost use Rattle.epsdelta_theory.specs.Epsdelta.{given, givenRows, epsdelta};
+ghost use Rattle.epsdelta_jumps.specs.Union;
+ghost use Rattle.epsdelta_sweeps.specs.Rows.{rowsIn, rowStands};
+ghost use Rattle.epsdelta.specs.Outcome.{ends, settled, outcomeUnless, outcome};
 
 // The relation is in the bytes, or the number of the first check that fails.
 pub enum Ended {
@@ -30,11 +28,11 @@ pub enum Ended {
     Refused(u32),
 }
 
-// What a flow has to come to: (1 - ε) - 1e-9.
-fn needed(epsilon: f64) -> f64
-    ensures { λ r. ⌜ r ≡ FlowTest.needed epsilon ⌝ }
-{
-    ONE - epsilon - SLACK
+// What a run is asked: ε and ρ, and whether an initial state that is asked for is absent (check 8).
+pub struct Settings {
+    pub absent: bool,
+    pub epsilon: f64,
+    pub rho: f64,
 }
 
 // Copies the first n classes to place `at` and on.
@@ -49,47 +47,14 @@ fn put_classes(from: &[u32], n: usize, classes: &mut [u32], at: usize)
     }
 }
 
-// The relation of `left` states and `right` ones after them; `classes` is work space.
-fn relate(
-    left: usize,
-    right: usize,
-    left_classes: &[u32],
-    right_classes: &[u32],
-    epsilon: f64,
-    rho: f64,
-    exits: &[f64],
-    starts: &[u32],
-    targets: &[u32],
-    probs: &[f64],
-    classes: &mut [u32],
-    relation: &mut [u8],
-)
-    requires { ⌜ RowsFit (left + right) (now starts) (now targets) (now probs) × (left + right ≤ length (now exits)) × (left + right ≤ length (now classes)) × (left ≤ length (now «left_classes»)) × (right ≤ length (now «right_classes»)) × (length (now relation) ≡ relationBytes (left + right)) ⌝ }
-    ensures { λ r. ⌜ ((G : Given) → GivenIn G left right (now («left_classes» .entry)) (now («right_classes» .entry)) (now (exits .entry)) (now (starts .entry)) (now (targets .entry)) (now (probs .entry)) epsilon rho → now (relation .exit) ≡ packed ((epsdelta G) .relation)) ⌝ }
-{
-    put_classes(left_classes, left, classes, 0);
-    put_classes(right_classes, right, classes, left);
-    marks(classes, exits, rho, left + right, relation);
-    run(
-        exits,
-        starts,
-        targets,
-        probs,
-        left + right,
-        needed(epsilon),
-        relation,
-    );
-}
-
-// What is left once both models pass their checks: the relation, or what checks 7 to 10 say; `classes` is work space.
+// What is left once the checks of both models have said `refusal`: this, or what checks 7 to 10 say, or the relation; `classes` is work space.
 fn finish(
-    absent: bool,
+    refusal: u32,
+    settings: Settings,
     left: usize,
     right: usize,
     left_classes: &[u32],
     right_classes: &[u32],
-    epsilon: f64,
-    rho: f64,
     exits: &[f64],
     starts: &[u32],
     targets: &[u32],
@@ -97,43 +62,44 @@ fn finish(
     classes: &mut [u32],
     relation: &mut [u8],
 ) -> Ended
-    requires { ⌜ (left ≤ 2000) × (right ≤ 2000) × ((left + right ≤ 2000) → RowsFit (left + right) (now starts) (now targets) (now probs) × (left + right ≤ length (now exits)) × (left + right ≤ length (now classes))) ⌝ }
-    ensures { λ r. ⌜ ((G : Given) → ((left + right ≤ 2000) → GivenIn G left right (now («left_classes» .entry)) (now («right_classes» .entry)) (now (exits .entry)) (now (starts .entry)) (now (targets .entry)) (now (probs .entry)) epsilon rho) → ends r (now (relation .exit)) ≡ settled (laterRefusal absent left right (length (now («left_classes» .entry))) (length (now («right_classes» .entry))) epsilon rho (length (now (relation .entry)))) (now (relation .entry)) ((epsdelta G) .relation)) ⌝ }
+    requires { ⌜ (refusal ≡ 0 → (left ≤ 2000) × (right ≤ 2000) × ((left + right ≤ 2000) → (every (rowStands (now starts) (now targets) (now probs)) (left + right) ≡ true) × (left + right ≤ length (now exits)) × (left + right < length (now starts)) × (left + right ≤ length (now classes)))) ⌝ }
+    ensures { λ r. ⌜ ((J : Jumps) → (refusal ≡ 0 → left + right ≤ 2000 → rowsIn (left + right) (now (exits .entry)) (now (starts .entry)) (now (targets .entry)) (now (probs .entry)) ≡ J) → ends r (now (relation .exit)) ≡ settled (first refusal (laterRefusal (settings .absent) (tolerancesOutside (settings .epsilon) (settings .rho)) left right (length (now («left_classes» .entry))) (length (now («right_classes» .entry))) (length (now (relation .entry))))) (now (relation .entry)) ((epsdelta (givenRows J (take left (now («left_classes» .entry)) ++ take right (now («right_classes» .entry))) (settings .epsilon) (settings .rho))) .relation)) ⌝ }
 {
-    let refusal = later(
-        absent,
+    if refusal != 0 {
+        return Ended::Refused(refusal);
+    }
+    let last = later(
+        settings.absent,
         left,
         right,
         left_classes.len(),
         right_classes.len(),
-        epsilon,
-        rho,
+        settings.epsilon,
+        settings.rho,
         relation.len(),
     );
-    if refusal != 0 {
-        return Ended::Refused(refusal);
+    if last != 0 {
+        return Ended::Refused(last);
     }
-    let bytes = ((left + right) * (left + right) + 7) / 8;
+    put_classes(left_classes, left, classes, 0);
+    put_classes(right_classes, right, classes, left);
     relate(
-        left,
-        right,
-        left_classes,
-        right_classes,
-        epsilon,
-        rho,
+        left + right,
+        classes,
         exits,
         starts,
         targets,
         probs,
-        classes,
-        &mut relation[..bytes],
+        settings.epsilon,
+        settings.rho,
+        relation,
     );
     Ended::Related
 }
 
 // What `union` refused; 0 if nothing.
 fn refused(joined: Joined) -> u32
-    ensures { λ r. ⌜ r ≡ refusalOf joined ⌝ }
+    ensures { λ r. ⌜ ((n : ℕ) (b : Bool) → joined ≡ Union.settled n b → r ≡ n) ⌝ }
 {
     match joined {
         Joined::Rows => 0,
@@ -144,7 +110,7 @@ fn refused(joined: Joined) -> u32
 
 // The relation of two models, unless a check fails; the last five lists are work space.
 fn epsdelta_in(
-    absent: bool,
+    settings: Settings,
     left: Shape,
     left_values: &[u32],
     left_offsets: &[u32],
@@ -159,8 +125,6 @@ fn epsdelta_in(
     right_weights: &[f64],
     left_classes: &[u32],
     right_classes: &[u32],
-    epsilon: f64,
-    rho: f64,
     relation: &mut [u8],
     exits: &mut [f64],
     starts: &mut [u32],
@@ -168,10 +132,10 @@ fn epsdelta_in(
     probs: &mut [f64],
     classes: &mut [u32],
 ) -> Ended
-    requires { ⌜ ((left .states + right .states ≤ 2000) → (left .edges ≤ 4096) → (right .edges ≤ 4096) → (short left right (length (now exits)) (length (now starts)) (length (now targets)) (length (now probs)) ≡ false) × (left .states + right .states ≤ length (now classes))) ⌝ }
-    ensures { λ r. ⌜ ends r (now (relation .exit)) ≡ outcomeUnless absent left (columns (now («left_values» .entry)) (now («left_offsets» .entry)) (now («left_labels» .entry)) (now («left_targets» .entry)) (now («left_weights» .entry))) right (columns (now («right_values» .entry)) (now («right_offsets» .entry)) (now («right_labels» .entry)) (now («right_targets» .entry)) (now («right_weights» .entry))) (now («left_classes» .entry)) (now («right_classes» .entry)) epsilon rho (now (relation .entry)) ⌝ }
+    requires { ⌜ (left .states + right .states ≤ 2000 → left .edges ≤ 4096 → right .edges ≤ 4096 → (left .states + right .states ≤ length (now exits)) × (left .states + right .states < length (now starts)) × (left .edges + right .edges ≤ length (now targets)) × (left .edges + right .edges ≤ length (now probs)) × (left .states + right .states ≤ length (now classes))) ⌝ }
+    ensures { λ r. ⌜ ends r (now (relation .exit)) ≡ outcomeUnless (settings .absent) left (columns (now («left_values» .entry)) (now («left_offsets» .entry)) (now («left_labels» .entry)) (now («left_targets» .entry)) (now («left_weights» .entry))) right (columns (now («right_values» .entry)) (now («right_offsets» .entry)) (now («right_labels» .entry)) (now («right_targets» .entry)) (now («right_weights» .entry))) (now («left_classes» .entry)) (now («right_classes» .entry)) (settings .epsilon) (settings .rho) (now (relation .entry)) ⌝ }
 {
-    let refusal = refused(union(
+    let joined = union(
         left,
         left_values,
         left_offsets,
@@ -188,18 +152,14 @@ fn epsdelta_in(
         starts,
         targets,
         probs,
-    ));
-    if refusal != 0 {
-        return Ended::Refused(refusal);
-    }
+    );
     finish(
-        absent,
+        refused(joined),
+        settings,
         left.states,
         right.states,
         left_classes,
         right_classes,
-        epsilon,
-        rho,
         exits,
         starts,
         targets,
@@ -211,7 +171,7 @@ fn epsdelta_in(
 
 // In work space for two models that are small.
 fn epsdelta_small(
-    absent: bool,
+    settings: Settings,
     left: Shape,
     left_values: &[u32],
     left_offsets: &[u32],
@@ -226,12 +186,10 @@ fn epsdelta_small(
     right_weights: &[f64],
     left_classes: &[u32],
     right_classes: &[u32],
-    epsilon: f64,
-    rho: f64,
     relation: &mut [u8],
 ) -> Ended
     requires { ⌜ (left .states ≤ 32) × (left .edges ≤ 200) × (right .states ≤ 32) × (right .edges ≤ 200) ⌝ }
-    ensures { λ r. ⌜ ends r (now (relation .exit)) ≡ outcomeUnless absent left (columns (now («left_values» .entry)) (now («left_offsets» .entry)) (now («left_labels» .entry)) (now («left_targets» .entry)) (now («left_weights» .entry))) right (columns (now («right_values» .entry)) (now («right_offsets» .entry)) (now («right_labels» .entry)) (now («right_targets» .entry)) (now («right_weights» .entry))) (now («left_classes» .entry)) (now («right_classes» .entry)) epsilon rho (now (relation .entry)) ⌝ }
+    ensures { λ r. ⌜ ends r (now (relation .exit)) ≡ outcomeUnless (settings .absent) left (columns (now («left_values» .entry)) (now («left_offsets» .entry)) (now («left_labels» .entry)) (now («left_targets» .entry)) (now («left_weights» .entry))) right (columns (now («right_values» .entry)) (now («right_offsets» .entry)) (now («right_labels» .entry)) (now («right_targets» .entry)) (now («right_weights» .entry))) (now («left_classes» .entry)) (now («right_classes» .entry)) (settings .epsilon) (settings .rho) (now (relation .entry)) ⌝ }
 {
     let mut exits = [0.0; 64];
     let mut starts = [0u32; 65];
@@ -239,7 +197,7 @@ fn epsdelta_small(
     let mut probs = [0.0; 400];
     let mut classes = [0u32; 64];
     epsdelta_in(
-        absent,
+        settings,
         left,
         left_values,
         left_offsets,
@@ -254,8 +212,6 @@ fn epsdelta_small(
         right_weights,
         left_classes,
         right_classes,
-        epsilon,
-        rho,
         relation,
         &mut exits,
         &mut starts,
@@ -267,7 +223,7 @@ fn epsdelta_small(
 
 // In work space for any two models.
 fn epsdelta_large(
-    absent: bool,
+    settings: Settings,
     left: Shape,
     left_values: &[u32],
     left_offsets: &[u32],
@@ -282,11 +238,9 @@ fn epsdelta_large(
     right_weights: &[f64],
     left_classes: &[u32],
     right_classes: &[u32],
-    epsilon: f64,
-    rho: f64,
     relation: &mut [u8],
 ) -> Ended
-    ensures { λ r. ⌜ ends r (now (relation .exit)) ≡ outcomeUnless absent left (columns (now («left_values» .entry)) (now («left_offsets» .entry)) (now («left_labels» .entry)) (now («left_targets» .entry)) (now («left_weights» .entry))) right (columns (now («right_values» .entry)) (now («right_offsets» .entry)) (now («right_labels» .entry)) (now («right_targets» .entry)) (now («right_weights» .entry))) (now («left_classes» .entry)) (now («right_classes» .entry)) epsilon rho (now (relation .entry)) ⌝ }
+    ensures { λ r. ⌜ ends r (now (relation .exit)) ≡ outcomeUnless (settings .absent) left (columns (now («left_values» .entry)) (now («left_offsets» .entry)) (now («left_labels» .entry)) (now («left_targets» .entry)) (now («left_weights» .entry))) right (columns (now («right_values» .entry)) (now («right_offsets» .entry)) (now («right_labels» .entry)) (now («right_targets» .entry)) (now («right_weights» .entry))) (now («left_classes» .entry)) (now («right_classes» .entry)) (settings .epsilon) (settings .rho) (now (relation .entry)) ⌝ }
 {
     let mut exits = [0.0; 2000];
     let mut starts = [0u32; 2001];
@@ -294,7 +248,7 @@ fn epsdelta_large(
     let mut probs = [0.0; 8192];
     let mut classes = [0u32; 2000];
     epsdelta_in(
-        absent,
+        settings,
         left,
         left_values,
         left_offsets,
@@ -309,8 +263,6 @@ fn epsdelta_large(
         right_weights,
         left_classes,
         right_classes,
-        epsilon,
-        rho,
         relation,
         &mut exits,
         &mut starts,
@@ -327,9 +279,9 @@ fn larger(left: Shape, right: Shape) -> bool
     32 < left.states || (200 < left.edges || (32 < right.states || 200 < right.edges))
 }
 
-// The relation of two models, unless a check fails, where `absent` says that 8 does: the entries that ask for initial states refuse before anything is written.
+// The relation of two models, unless a check fails. The entries that ask for initial states say by `settings` that check 8 fails, so that they refuse before anything is written.
 pub fn epsdelta_unless(
-    absent: bool,
+    settings: Settings,
     left: Shape,
     left_values: &[u32],
     left_offsets: &[u32],
@@ -344,15 +296,13 @@ pub fn epsdelta_unless(
     right_weights: &[f64],
     left_classes: &[u32],
     right_classes: &[u32],
-    epsilon: f64,
-    rho: f64,
     relation: &mut [u8],
 ) -> Ended
-    ensures { λ r. ⌜ ends r (now (relation .exit)) ≡ outcomeUnless absent left (columns (now («left_values» .entry)) (now («left_offsets» .entry)) (now («left_labels» .entry)) (now («left_targets» .entry)) (now («left_weights» .entry))) right (columns (now («right_values» .entry)) (now («right_offsets» .entry)) (now («right_labels» .entry)) (now («right_targets» .entry)) (now («right_weights» .entry))) (now («left_classes» .entry)) (now («right_classes» .entry)) epsilon rho (now (relation .entry)) ⌝ }
+    ensures { λ r. ⌜ ends r (now (relation .exit)) ≡ outcomeUnless (settings .absent) left (columns (now («left_values» .entry)) (now («left_offsets» .entry)) (now («left_labels» .entry)) (now («left_targets» .entry)) (now («left_weights» .entry))) right (columns (now («right_values» .entry)) (now («right_offsets» .entry)) (now («right_labels» .entry)) (now («right_targets» .entry)) (now («right_weights» .entry))) (now («left_classes» .entry)) (now («right_classes» .entry)) (settings .epsilon) (settings .rho) (now (relation .entry)) ⌝ }
 {
     if larger(left, right) {
         return epsdelta_large(
-            absent,
+            settings,
             left,
             left_values,
             left_offsets,
@@ -367,13 +317,11 @@ pub fn epsdelta_unless(
             right_weights,
             left_classes,
             right_classes,
-            epsilon,
-            rho,
             relation,
         );
     }
     epsdelta_small(
-        absent,
+        settings,
         left,
         left_values,
         left_offsets,
@@ -388,8 +336,6 @@ pub fn epsdelta_unless(
         right_weights,
         left_classes,
         right_classes,
-        epsilon,
-        rho,
         relation,
     )
 }
@@ -417,8 +363,13 @@ pub fn epsdelta(
     ensures { λ r. ⌜ ends r (now (relation .exit)) ≡ outcome left (columns (now («left_values» .entry)) (now («left_offsets» .entry)) (now («left_labels» .entry)) (now («left_targets» .entry)) (now («left_weights» .entry))) right (columns (now («right_values» .entry)) (now («right_offsets» .entry)) (now («right_labels» .entry)) (now («right_targets» .entry)) (now («right_weights» .entry))) (now («left_classes» .entry)) (now («right_classes» .entry)) epsilon rho (now (relation .entry)) ⌝ }
     ensures { λ r. ⌜ (epsdeltaRefusal left (columns (now («left_values» .entry)) (now («left_offsets» .entry)) (now («left_labels» .entry)) (now («left_targets» .entry)) (now («left_weights» .entry))) right (columns (now («right_values» .entry)) (now («right_offsets» .entry)) (now («right_labels» .entry)) (now («right_targets» .entry)) (now («right_weights» .entry))) (now («left_classes» .entry)) (now («right_classes» .entry)) epsilon rho (length (now (relation .entry))) ≡ 0 → Sound (given left (columns (now («left_values» .entry)) (now («left_offsets» .entry)) (now («left_labels» .entry)) (now («left_targets» .entry)) (now («left_weights» .entry))) right (columns (now («right_values» .entry)) (now («right_offsets» .entry)) (now («right_labels» .entry)) (now («right_targets» .entry)) (now («right_weights» .entry))) (now («left_classes» .entry)) (now («right_classes» .entry)) epsilon rho)) ⌝ }
 {
+    let settings = Settings {
+        absent: false,
+        epsilon: epsilon,
+        rho: rho,
+    };
     epsdelta_unless(
-        false,
+        settings,
         left,
         left_values,
         left_offsets,
@@ -433,8 +384,6 @@ pub fn epsdelta(
         right_weights,
         left_classes,
         right_classes,
-        epsilon,
-        rho,
         relation,
     )
 }

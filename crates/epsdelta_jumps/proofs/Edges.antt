@@ -8,7 +8,7 @@ use native.Mathlib.Numerals.{add-one}
 use lib.Dec.{eqb}
 use lib.Ieee.{Float, binary64, div, nan}
 use lib.ListN.{length, getD, take, drop, set, length-map, List·getD-map}
-use lib.Seq.{getD-take, getD-drop, length-take-le, getD-append-add}
+use lib.Seq.{getD-take, getD-drop, drop-drop, length-take-le, getD-append-add}
 use borrow.Author.Tests.{eq-eqb, ne-eqb}
 use Rattle.numbers.specs.Lists.{span}
 use Rattle.numbers.proofs.Over.{over, over-next, over-done}
@@ -79,11 +79,19 @@ pub record Adding (ET : List ℕ) (EW : List Float) (a b s off : ℕ) (T₀ : Li
   pub few : m ≤ i - a
   pub t-size : length T ≡ length T₀
   pub p-size : length P ≡ length P₀
+  pub t-past : drop m T ≡ drop m T₀
+  pub p-past : drop m P ≡ drop m P₀
   pub same : (D O L : List ℕ) → Rest (columns D O L ET EW) s off i b (jumpsOf (take m T) (take m P)) ≡ Rest (columns D O L ET EW) s off a b []
+
+-- what is kept from a place on is kept from a later one on
+past-further : {A : Type 0} (m n : ℕ) (l l' : List A) → m ≤ n → drop m l ≡ drop m l' → drop n l ≡ drop n l'
+past-further {A} m n l l' h e =
+    let z : m + (n - m) ≡ n = omega arith in
+    ap (λ (k : ℕ). drop k l) (sym z) ∙ sym (drop-drop (n - m) m l) ∙ ap (drop (n - m)) e ∙ drop-drop (n - m) m l' ∙ ap (λ (k : ℕ). drop k l') z
 
 pub adding : (ET : List ℕ) (EW : List Float) (a b s off : ℕ) (T₀ : List ℕ) (P₀ : List Float) → a ≤ b → Adding ET EW a b s off T₀ P₀ T₀ P₀ 0 a
 unfolding jumpsOf
-adding ET EW a b s off T₀ P₀ h = record { from = omega arith; to = h; few = omega arith; t-size = refl; p-size = refl; same = λ D O L. refl }
+adding ET EW a b s off T₀ P₀ h = record { from = omega arith; to = h; few = omega arith; t-size = refl; p-size = refl; t-past = refl; p-past = refl; same = λ D O L. refl }
 
 module _ {ET : List ℕ} {EW : List Float} {a b s off : ℕ} {T₀ : List ℕ} {P₀ : List Float} {T : List ℕ} {P : List Float} {m i : ℕ} (I : Adding ET EW a b s off T₀ P₀ T P m i) (h : i < b) where
   pub turn-skip : getD ET i 0 ≡ s → (T' : List ℕ) (P' : List Float) (m' : ℕ) → T' ≡ T → P' ≡ P → m' ≡ m → Adding ET EW a b s off T₀ P₀ T' P' m' (i + 1)
@@ -93,18 +101,22 @@ module _ {ET : List ℕ} {EW : List Float} {a b s off : ℕ} {T₀ : List ℕ} {
     few = let x = I .few in let y = I .from in omega arith;
     t-size = I .t-size;
     p-size = I .p-size;
+    t-past = I .t-past;
+    p-past = I .p-past;
     same = λ D O L. rest-skip (columns D O L ET EW) s off i b (jumpsOf (take m T) (take m P)) h e ∙ I .same D O L;
   })
 
   pub turn-add : (t : ℕ) → t ≡ getD ET i 0 → (t ≡ s → ⊥) → (T₁ : List ℕ) (P₁ : List Float) (m₁ : ℕ) → length T₁ ≡ length T → length P₁ ≡ length P
-      → (m₁ ≤ m + 1) × (jumpsOf (take m₁ T₁) (take m₁ P₁) ≡ addRate (off + t) (getD EW i nan) (jumpsOf (take m T) (take m P)))
+      → (m ≤ m₁) × (m₁ ≤ m + 1) × (drop m₁ T₁ ≡ drop m₁ T) × (drop m₁ P₁ ≡ drop m₁ P) × (jumpsOf (take m₁ T₁) (take m₁ P₁) ≡ addRate (off + t) (getD EW i nan) (jumpsOf (take m T) (take m P)))
       → (T' : List ℕ) (P' : List Float) (m' : ℕ) → T' ≡ T₁ → P' ≡ P₁ → m' ≡ m₁ → Adding ET EW a b s off T₀ P₀ T' P' m' (i + 1)
-  turn-add t g e T₁ P₁ m₁ u p (n, q) T' P' m' x y z = rw (x, y, z) (record {
+  turn-add t g e T₁ P₁ m₁ u p (l, n, v, w, q) T' P' m' x y z = rw (x, y, z) (record {
     from = let x = I .from in omega arith;
     to = omega arith;
     few = let x = I .few in let y = I .from in omega arith;
     t-size = u ∙ I .t-size;
     p-size = p ∙ I .p-size;
+    t-past = v ∙ past-further m m₁ T T₀ l (I .t-past);
+    p-past = w ∙ past-further m m₁ P P₀ l (I .p-past);
     same = λ D O L. rest-add (columns D O L ET EW) s off i b (jumpsOf (take m T) (take m P)) h (λ z. e (g ∙ z)) (jumpsOf (take m₁ T₁) (take m₁ P₁))
         (q ∙ ap (λ (x : ℕ). addRate (off + x) (getD EW i nan) (jumpsOf (take m T) (take m P))) g) ∙ I .same D O L;
   })

@@ -5,11 +5,12 @@ use mathlib.Core.List.{List, [], _∷_, _++_, map, append-nil}
 use native.Mathlib.Omega.{arith}
 use lib.Ieee.{Float, binary64, div}
 use lib.ListN.{length, take, drop, set, length-append, length-drop, drop-of-length-le}
-use lib.Seq.{slice, take-all, length-take-le, take-at, drop-at, take-append-add}
+use lib.Seq.{slice, take-all, length-take-le, take-at, drop-at, drop-drop, take-append-add}
 use Rattle.numbers.specs.Real.{sum}
 use Rattle.bisim_core.specs.Data.{Edge}
 use Rattle.epsdelta_theory.specs.Jumps.{Jump, jumpsOf, addEdges, rates, divided, row}
 use Rattle.epsdelta_theory.proofs.RowsIn.{Filled}
+use Rattle.epsdelta_theory.proofs.RowReads.{jumps-rates}
 use Rattle.epsdelta_jumps.proofs.Edges.{quotients, quotients-length}
 
 -- ---- a part lent, and put back
@@ -49,6 +50,12 @@ module _ {A : Type 0} where
       pub part-back : part a (back a l y) ≡ y
       part-back = ap (take (length (back a l y) - a)) drop-back ∙ take-all (length (back a l y) - a) y (let p = part-length a l in let q = back-length in omega arith)
 
+    -- what is kept in the part is kept in the list
+    pub past-back : (m : ℕ) → drop m y ≡ drop m (part a l) → drop (a + m) (back a l y) ≡ drop (a + m) l
+    past-back m e =
+        let o = length-drop a l in
+        sym (drop-drop m a (back a l y)) ∙ ap (drop m) drop-back ∙ e ∙ ap (drop m) (take-all (length l - a) (drop a l) (omega arith)) ∙ drop-drop m a l
+
     pub slice-back : (m : ℕ) → slice a (a + m) (back a l y) ≡ take m y
     slice-back m =
         let t = length-take-le a l h in
@@ -58,13 +65,6 @@ module _ {A : Type 0} where
         ∙ drop-at (take a l) (take m y) a t
 
 -- ---- the sum of the rates, and their quotients
-
-rates-of : (T : List ℕ) (P : List Float) → length T ≡ length P → rates (jumpsOf T P) ≡ P
-unfolding jumpsOf
-rates-of [] [] e = refl
-rates-of [] (p ∷ P) e = absurd (omega arith)
-rates-of (t ∷ T) [] e = absurd (omega arith)
-rates-of (t ∷ T) (p ∷ P) e = ap (λ (l : List Float). p ∷ l) (rates-of T P (omega arith))
 
 divided-of : (x : Float) (T : List ℕ) (P : List Float) → jumpsOf T (map (λ (p : Float). div binary64 p x) P) ≡ map (divided x) (jumpsOf T P)
 unfolding jumpsOf
@@ -77,7 +77,7 @@ divided-of x (t ∷ T) (p ∷ P) = ap (λ (l : List Jump). record { target = t; 
 module _ (off : ℕ) (es : List Edge) (m : ℕ) (T : List ℕ) (P P' : List Float) (h : m ≤ length T) (k : m ≤ length P) (e : jumpsOf (take m T) (take m P) ≡ addEdges off es []) where
   exit-is : sum (take m P) ≡ (row off es) .exit
   unfolding row
-  exit-is = ap sum (sym (rates-of (take m T) (take m P) (length-take-le m T h ∙ sym (length-take-le m P k)))) ∙ ap (λ (js : List Jump). sum (rates js)) e
+  exit-is = ap sum (sym (jumps-rates (take m T) (take m P) (length-take-le m T h ∙ sym (length-take-le m P k)))) ∙ ap (λ (js : List Jump). sum (rates js)) e
 
   prob-is : P' ≡ quotients (sum (take m P)) m P ++ drop (length (quotients (sum (take m P)) m P)) P → jumpsOf (take m T) (take m P') ≡ (row off es) .prob
   unfolding row
@@ -91,11 +91,11 @@ module _ (off : ℕ) (es : List Edge) (m : ℕ) (T : List ℕ) (P P' : List Floa
       ∙ ap (λ (y : Float). map (divided y) (addEdges off es [])) exit-is
 
 pub filled : (off : ℕ) (es : List Edge) (k at m : ℕ) (E : List Float) (T : List ℕ) (P : List Float) (T₁ : List ℕ) (P₁ P₂ : List Float) (x : Float)
-    → at + m ≤ length T → at + m ≤ length P → length T₁ ≡ length (part at T) → length P₁ ≡ length (part at P) → jumpsOf (take m T₁) (take m P₁) ≡ addEdges off es []
+    → at + m ≤ length T → at + m ≤ length P → length T₁ ≡ length (part at T) → length P₁ ≡ length (part at P) → drop m T₁ ≡ drop m (part at T) → drop m P₁ ≡ drop m (part at P) → jumpsOf (take m T₁) (take m P₁) ≡ addEdges off es []
     → (x ≡ sum (take m (part at (back at P P₁))))
     × (P₂ ≡ quotients (sum (take m (part at (back at P P₁)))) m (part at (back at P P₁)) ++ drop (length (quotients (sum (take m (part at (back at P P₁)))) m (part at (back at P P₁)))) (part at (back at P P₁)))
     → Filled (row off es) k at (at + m) E T P (set E k x) (back at T T₁) (back at (back at P P₁) P₂)
-filled off es k at m E T P T₁ P₁ P₂ x h i t p e (f, g) =
+filled off es k at m E T P T₁ P₁ P₂ x h i t p u v e (f, g) =
     let a : at ≤ length T = omega arith in
     let b : at ≤ length P = omega arith in
     let Q = back at P P₁ in
@@ -105,11 +105,17 @@ filled off es k at m E T P T₁ P₁ P₂ x h i t p e (f, g) =
     let w = part-back at P P₁ b p in
     let d : m ≤ length T₁ = omega arith in
     let c : m ≤ length P₁ = omega arith in
+    let q = quotients (sum (take m P₁)) m P₁ in
+    let P₂-is : P₂ ≡ q ++ drop (length q) P₁ = g ∙ ap (λ (l : List Float). quotients (sum (take m l)) m l ++ drop (length (quotients (sum (take m l)) m l)) l) w in
+    let n' = quotients-length (sum (take m P₁)) m P₁ c in
+    let kept : drop m P₂ ≡ drop m P₁ = ap (drop m) P₂-is ∙ drop-at q (drop (length q) P₁) m n' ∙ ap (λ (j : ℕ). drop j P₁) n' in
     record {
       from = omega arith;
       exit = ap (set E k) (f ∙ ap (λ (l : List Float). sum (take m l)) w ∙ exit-is off es m T₁ P₁ P₂ d c e);
       targets-kept = take-back at T T₁ a;
       probs-kept = take-back at Q P₂ (omega arith) ∙ take-back at P P₁ b;
       prob = ap (λ (l : List ℕ). jumpsOf l (slice at (at + m) (back at Q P₂))) (slice-back at T T₁ a m) ∙ ap (jumpsOf (take m T₁)) (slice-back at Q P₂ (omega arith) m)
-          ∙ prob-is off es m T₁ P₁ P₂ d c e (g ∙ ap (λ (l : List Float). quotients (sum (take m l)) m l ++ drop (length (quotients (sum (take m l)) m l)) l) w);
+          ∙ prob-is off es m T₁ P₁ P₂ d c e P₂-is;
+      targets-past = past-back at T T₁ a m u;
+      probs-past = past-back at Q P₂ (omega arith) m (kept ∙ ap (drop m) (sym w)) ∙ past-back at P P₁ b m v;
     }

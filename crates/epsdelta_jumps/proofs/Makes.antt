@@ -1,73 +1,19 @@
--- One row more in the lists (`holds-next`), and the loop over the states of a model that makes them one after the other (`Making`).
+-- The loop over the states of a model that makes their rows one after the other (`Making`).
 use mathlib.Core.Path.{_≡_, refl, sym, ap, subst, subst⁻¹, _∙_}
-use mathlib.Core.Logic.{_⊎_, inl, inr, _≢_}
 use Prim.Native.Nat.{ℕ, _+_, _-_, _≤_, _<_}
-use mathlib.Core.List.{List, map}
+use mathlib.Core.List.{List, [], _∷_, map}
 use native.Mathlib.Omega.{arith}
-use lib.Ieee.{Float, nan}
-use lib.ListN.{length, getD, take, drop, set, length-set}
-use lib.Seq.{slice, take-take, getD-set-same, getD-set-other}
+use lib.Ieee.{Float}
+use lib.ListN.{length, getD, set, length-set}
+use lib.Seq.{getD-set-same}
 use Rattle.numbers.specs.Lists.{span}
-use Rattle.numbers.proofs.Bools.{eq-or-ne}
 use Rattle.bisim_core.specs.Data.{columns}
 use Rattle.bisim_core.specs.Model as models
 use Rattle.bisim_core.specs.Model.{edgeAt}
-use Rattle.epsdelta_theory.specs.Jumps.{Row, Jumps, jumpsOf, noRow, row}
+use Rattle.epsdelta_theory.specs.Jumps.{Row, Jumps, noRow, row, allJumps, startsFrom}
 use Rattle.epsdelta_theory.proofs.RowReads.{starts-up}
-use Rattle.epsdelta_theory.proofs.RowsIn.{Readable, HoldsTo, Filled}
-
--- a part before a place that is kept
-slice-kept : {A : Type 0} (a b n : ℕ) (l l' : List A) → b ≤ n → take n l' ≡ take n l → slice a b l' ≡ slice a b l
-slice-kept {A} a b n l l' h e = ap (drop a) (sym (take-take b n l' h) ∙ ap (take b) e ∙ take-take b n l h)
-
-module _ (J : Jumps) (n r : ℕ) (E : List Float) (S T : List ℕ) (P E' : List Float) (T' : List ℕ) (P' : List Float) (H : HoldsTo J n E S T P) (F : Filled (getD J n noRow) n (getD S n 0) r E T P E' T' P') (he : n < length E) (hs : n + 1 < length S) where
-  old : (s : ℕ) → s < n + 1 → getD (set S (n + 1) r) s 0 ≡ getD S s 0
-  old s h = getD-set-other S (n + 1) s r 0 (λ e. absurd (omega arith))
-
-  new : getD (set S (n + 1) r) (n + 1) 0 ≡ r
-  new = getD-set-same S (n + 1) r 0 hs
-
-  rise-next : (s : ℕ) → s < n + 1 → getD (set S (n + 1) r) s 0 ≤ getD (set S (n + 1) r) (s + 1) 0
-  rise-next s h = pick (eq-or-ne s n)
-    where
-      pick : (s ≡ n) ⊎ (s ≢ n) → getD (set S (n + 1) r) s 0 ≤ getD (set S (n + 1) r) (s + 1) 0
-      pick (inl e) = subst⁻¹ (λ (x : ℕ). getD (set S (n + 1) r) x 0 ≤ getD (set S (n + 1) r) (x + 1) 0) e (let a = old n (omega arith) in let b = new in let c = F .from in omega arith)
-      pick (inr e) = let a = old s h in let b = old (s + 1) (omega arith) in let c = H .rise s (omega arith) in omega arith
-
-  exit-next : (s : ℕ) → s < n + 1 → getD E' s nan ≡ (getD J s noRow) .exit
-  exit-next s h = ap (λ (l : List Float). getD l s nan) (F .exit) ∙ pick (eq-or-ne s n)
-    where
-      pick : (s ≡ n) ⊎ (s ≢ n) → getD (set E n ((getD J n noRow) .exit)) s nan ≡ (getD J s noRow) .exit
-      pick (inl e) = subst⁻¹ (λ (x : ℕ). getD (set E n ((getD J n noRow) .exit)) x nan ≡ (getD J x noRow) .exit) e (getD-set-same E n ((getD J n noRow) .exit) nan he)
-      pick (inr e) = getD-set-other E n s ((getD J n noRow) .exit) nan e ∙ H .exit s (omega arith)
-
-  abbrev Here : ℕ → ℕ → ℕ → Type 0
-  Here a b s = jumpsOf (slice a b T') (slice a b P') ≡ (getD J s noRow) .prob
-
-  prob-next : (s : ℕ) → s < n + 1 → Here (getD (set S (n + 1) r) s 0) (getD (set S (n + 1) r) (s + 1) 0) s
-  prob-next s h = pick (eq-or-ne s n)
-    where
-      pick : (s ≡ n) ⊎ (s ≢ n) → Here (getD (set S (n + 1) r) s 0) (getD (set S (n + 1) r) (s + 1) 0) s
-      pick (inl e) = subst⁻¹ (λ (x : ℕ). Here (getD (set S (n + 1) r) x 0) (getD (set S (n + 1) r) (x + 1) 0) x) e
-          (subst⁻¹ (λ (x : ℕ). Here x (getD (set S (n + 1) r) (n + 1) 0) n) (old n (omega arith)) (subst⁻¹ (λ (x : ℕ). Here (getD S n 0) x n) new (F .prob)))
-      pick (inr e) =
-          let a = getD S s 0 in
-          let b = getD S (s + 1) 0 in
-          let u : b ≤ getD S n 0 = starts-up S n (H .rise) (s + 1) n (omega arith) (omega arith) in
-          subst⁻¹ (λ (x : ℕ). Here x (getD (set S (n + 1) r) (s + 1) 0) s) (old s h) (subst⁻¹ (λ (x : ℕ). Here a x s) (old (s + 1) (omega arith))
-          (ap (λ (l : List ℕ). jumpsOf l (slice a b P')) (slice-kept a b (getD S n 0) T T' u (F .targets-kept)) ∙ ap (jumpsOf (slice a b T)) (slice-kept a b (getD S n 0) P P' u (F .probs-kept)) ∙ H .prob s (omega arith)))
-
-  pub holds-next : length E' ≡ length E → r ≤ length T' → r ≤ length P' → HoldsTo J (n + 1) E' (set S (n + 1) r) T' P'
-  holds-next e t p = record {
-    exits-long = omega arith;
-    starts-long = let z = length-set S (n + 1) r in omega arith;
-    first = old 0 (omega arith) ∙ H .first;
-    rise = rise-next;
-    targets-long = let z = new in omega arith;
-    probs-long = let z = new in omega arith;
-    exit = exit-next;
-    prob = prob-next;
-  }
+use Rattle.epsdelta_theory.proofs.RowsIn.{Readable, LaidTo, Filled}
+use Rattle.epsdelta_theory.proofs.Layings.{laid-next}
 
 -- ---- the loop
 
@@ -84,7 +30,8 @@ pub record Making (n : ℕ) (O ET : List ℕ) (EW : List Float) (off at : ℕ) (
   pub t-size : length T ≡ length T₀
   pub p-size : length P ≡ length P₀
   pub last : getD S (off + s) 0 ≡ end
-  pub held : (D L : List ℕ) (J : Jumps) → RowsOf n off O ET EW J D L → HoldsTo J off E₀ S₀ T₀ P₀ → HoldsTo J (off + s) E S T P
+  pub held : (D L : List ℕ) (J : Jumps) (E₁ : List Float) (S₁ T₁ : List ℕ) (P₁ : List Float) → off + n ≤ length J → RowsOf n off O ET EW J D L → off + n ≤ length E₁ → off + n < length S₁
+      → LaidTo J off E₁ S₁ T₁ P₁ E₀ S₀ T₀ P₀ → LaidTo J (off + s) E₁ S₁ T₁ P₁ E S T P
 
 pub making : (n : ℕ) (O ET : List ℕ) (EW : List Float) (off at : ℕ) (E₀ : List Float) (S₀ T₀ : List ℕ) (P₀ : List Float) → getD S₀ off 0 ≡ at → Making n O ET EW off at E₀ S₀ T₀ P₀ E₀ S₀ T₀ P₀ at 0
 making n O ET EW off at E₀ S₀ T₀ P₀ e =
@@ -97,7 +44,7 @@ making n O ET EW off at E₀ S₀ T₀ P₀ e =
       t-size = refl;
       p-size = refl;
       last = ap (λ (x : ℕ). getD S₀ x 0) (sym z) ∙ e;
-      held = λ D L J R H. subst (λ (x : ℕ). HoldsTo J x E₀ S₀ T₀ P₀) z H;
+      held = λ D L J E₁ S₁ T₁ P₁ j R e₁ s₁ H. subst (λ (x : ℕ). LaidTo J x E₁ S₁ T₁ P₁ E₀ S₀ T₀ P₀) z H;
     }
 
 -- the lists are as long as is asked
@@ -135,7 +82,6 @@ module _ {n : ℕ} {O ET : List ℕ} {EW : List Float} {off at : ℕ} {E₀ : Li
       let k : off + s + 1 ≡ off + (s + 1) = omega arith in
       let sz = I .s-size in
       let hs : off + s + 1 < length S = let g = G .1 in omega arith in
-      let he : off + s < length E = let g = G .0 in let z = I .e-size in omega arith in
       record {
         low = omega arith;
         room = omega arith;
@@ -144,12 +90,12 @@ module _ {n : ℕ} {O ET : List ℕ} {EW : List Float} {off at : ℕ} {E₀ : Li
         t-size = t ∙ I .t-size;
         p-size = w ∙ I .p-size;
         last = ap (λ (x : ℕ). getD (set S (off + s + 1) r) x 0) (sym k) ∙ getD-set-same S (off + s + 1) r 0 hs;
-        held = λ D L J Z H.
+        held = λ D L J E₁ S₁ T₁ P₁ j Z e₁ s₁ H.
             let es-is = ap (λ (x : ℕ). row off (map (edgeAt (columns D O L ET EW) s) (span x (b - x)))) p ∙ ap (λ (x : ℕ). row off (map (edgeAt (columns D O L ET EW) s) (span (getD O s 0) (x - getD O s 0)))) q in
-            subst (λ (x : ℕ). HoldsTo J x E' (set S (off + s + 1) r) T' P') k
-            (holds-next J (off + s) r E S T P E' T' P' (I .held D L J Z H)
+            subst (λ (x : ℕ). LaidTo J x E₁ S₁ T₁ P₁ E' (set S (off + s + 1) r) T' P') k
+            (laid-next J (off + s) r (I .held D L J E₁ S₁ T₁ P₁ j Z e₁ s₁ H)
             (subst⁻¹ (λ (x : ℕ). Filled (getD J (off + s) noRow) (off + s) x r E T P E' T' P') (I .last) (subst⁻¹ (λ (x : Row). Filled x (off + s) end r E T P E' T' P') (Z s h ∙ sym es-is) (F D O L)))
-            he hs e (let g = G .2 in let z = I .t-size in omega arith) (let g = G .3 in let z = I .p-size in omega arith));
+            (omega arith) (omega arith) (omega arith) (let g = G .2 in let z = I .t-size in omega arith) (let g = G .3 in let z = I .p-size in omega arith));
       }
 
   -- where the jumps end is a small number
@@ -158,32 +104,25 @@ module _ {n : ℕ} {O ET : List ℕ} {EW : List Float} {off at : ℕ} {E₀ : Li
 
 pub done : {n : ℕ} {O ET : List ℕ} {EW : List Float} {off at : ℕ} {E₀ : List Float} {S₀ T₀ : List ℕ} {P₀ E : List Float} {S T : List ℕ} {P : List Float} {end s : ℕ}
     → Making n O ET EW off at E₀ S₀ T₀ P₀ E S T P end s → s ≡ n
-    → (end ≤ at + getD O n 0) × (getD S (off + n) 0 ≡ end) × ((D L : List ℕ) (J : Jumps) → RowsOf n off O ET EW J D L → HoldsTo J off E₀ S₀ T₀ P₀ → HoldsTo J (off + n) E S T P)
+    → (end ≤ at + getD O n 0) × (getD S (off + n) 0 ≡ end)
+    × ((D L : List ℕ) (J : Jumps) (E₁ : List Float) (S₁ T₁ : List ℕ) (P₁ : List Float) → off + n ≤ length J → RowsOf n off O ET EW J D L → off + n ≤ length E₁ → off + n < length S₁
+    → LaidTo J off E₁ S₁ T₁ P₁ E₀ S₀ T₀ P₀ → LaidTo J (off + n) E₁ S₁ T₁ P₁ E S T P)
 done {n} {O} {ET} {EW} {off} {at} {E₀} {S₀} {T₀} {P₀} {E} {S} {T} {P} {end} {s} I e =
-    (subst (λ (x : ℕ). end ≤ at + getD O x 0) e (I .room), subst (λ (x : ℕ). getD S (off + x) 0 ≡ end) e (I .last), λ D L J R H. subst (λ (x : ℕ). HoldsTo J (off + x) E S T P) e (I .held D L J R H))
+    (subst (λ (x : ℕ). end ≤ at + getD O x 0) e (I .room), subst (λ (x : ℕ). getD S (off + x) 0 ≡ end) e (I .last), λ D L J E₁ S₁ T₁ P₁ j R e₁ s₁ H. subst (λ (x : ℕ). LaidTo J (off + x) E₁ S₁ T₁ P₁ E S T P) e (I .held D L J E₁ S₁ T₁ P₁ j R e₁ s₁ H))
 
--- no row yet
-pub holds-none : (J : Jumps) (E : List Float) (S T : List ℕ) (P : List Float) → 0 < length S → HoldsTo J 0 E (set S 0 0) T P
-holds-none J E S T P h =
-    let z = getD-set-same S 0 0 0 h in
-    record {
-      exits-long = omega arith;
-      starts-long = let l = length-set S 0 0 in omega arith;
-      first = z;
-      rise = λ s k. absurd (omega arith);
-      targets-long = omega arith;
-      probs-long = omega arith;
-      exit = λ s k. absurd (omega arith);
-      prob = λ s k. absurd (omega arith);
-    }
+-- no row yet: only the start of the first is there
+pub laid-none : (J : Jumps) (E : List Float) (S T : List ℕ) (P : List Float) → 0 < length S → LaidTo J 0 E S T P E (set S 0 0) T P
+unfolding startsFrom allJumps
+laid-none J E [] T P h = absurd (omega arith)
+laid-none J E (x ∷ S) T P h = record { exits-are = refl; starts-are = refl; targets-are = refl; probs-are = refl }
 
 -- ---- states that are numbered from 0 on
 
 add-zero : (n : ℕ) → 0 + n ≡ n
 add-zero n = omega arith
 
-pub from-zero : (J : Jumps) (n : ℕ) (E : List Float) (S T : List ℕ) (P : List Float) → HoldsTo J (0 + n) E S T P → HoldsTo J n E S T P
-from-zero J n E S T P H = subst (λ (x : ℕ). HoldsTo J x E S T P) (add-zero n) H
+pub from-zero : (J : Jumps) (n : ℕ) {E₀ : List Float} {S₀ T₀ : List ℕ} {P₀ E : List Float} {S T : List ℕ} {P : List Float} → LaidTo J (0 + n) E₀ S₀ T₀ P₀ E S T P → LaidTo J n E₀ S₀ T₀ P₀ E S T P
+from-zero J n {E₀} {S₀} {T₀} {P₀} {E} {S} {T} {P} H = subst (λ (x : ℕ). LaidTo J x E₀ S₀ T₀ P₀ E S T P) (add-zero n) H
 
 pub start-from-zero : (S : List ℕ) (n a : ℕ) → getD S (0 + n) 0 ≡ a → getD S n 0 ≡ a
 start-from-zero S n a e = subst (λ (x : ℕ). getD S x 0 ≡ a) (add-zero n) e

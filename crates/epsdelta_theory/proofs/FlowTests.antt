@@ -12,15 +12,13 @@ use lib.ListN.{length, getD, length-append}
 use lib.Ieee.{Float, nan, inf, ofBits, le}
 use Rattle.numbers.specs.Real.{nought}
 use Rattle.numbers.proofs.Floats.{Low}
-use Rattle.flow_theory.specs.Network.{rev, Net, nodes, links, head, left, nodeLists}
-use Rattle.flow_theory.specs.Run.{FlowRun}
-use Rattle.flow_theory.specs.Claim.{Bounded}
+use Rattle.flow_theory.specs.Network.{rev, nodes, head, left, nodeLists}
+use Rattle.flow_theory.specs.Claim.{FlowClaim}
 use Rattle.flow_theory.proofs.Accepted.{Accepted}
 use Rattle.flow_theory.proofs.Theorem.{nodeLists-length, flow-run}
 use Rattle.epsdelta_theory.specs.Jumps.{Jump, Jumps, prob}
 use Rattle.epsdelta_theory.specs.Relation.{holds}
 use Rattle.epsdelta_theory.specs.FlowTest.{Link, sourceLinks, sinkLinks, linkIf, crossLinks, allCrossLinks, linksOf, heads, caps, networkBetween, runBetween, testLinks, testNodes, testNetwork, testRun}
-use Rattle.epsdelta_theory.specs.Claim.{Cut}
 
 -- from 0 to 2 ^ 40
 abbrev pub InRange : Float → Type 0
@@ -225,17 +223,14 @@ module _ (m : ℕ) (R : List Bool) (ps pt : List Jump) (in-range : AllInRange ps
         lists = ap (λ (x : ℕ). nodeLists hs x (length hs)) (sym nodes-are);
       }
 
-  pub between-bounded : Bounded (networkBetween m R ps pt) (caps (linksOf m R ps pt)) (length (linksOf m R ps pt)) (runBetween m R ps pt)
-  between-bounded = flow-run (networkBetween m R ps pt) (caps (linksOf m R ps pt)) (length (linksOf m R ps pt)) between-accepted
+  pub between-claimed : FlowClaim (networkBetween m R ps pt) (caps (linksOf m R ps pt)) (length (linksOf m R ps pt)) (runBetween m R ps pt)
+  between-claimed = flow-run (networkBetween m R ps pt) (caps (linksOf m R ps pt)) (length (linksOf m R ps pt)) between-accepted
 
 module _ (J : Jumps) (R : List Bool) (s t : ℕ) (in-range : AllInRange (prob J s)) (in-range' : AllInRange (prob J t)) (few : length (prob J s) ≤ 31) (few' : length (prob J t) ≤ 31) where
   pub test-accepted : Accepted (testNetwork J R s t) (caps (testLinks J R s t)) (length (testLinks J R s t))
   unfolding testNetwork testLinks
   test-accepted = between-accepted (length J) R (prob J s) (prob J t) in-range in-range' few few'
 
-  pub test-bounded : Bounded (testNetwork J R s t) (caps (testLinks J R s t)) (length (testLinks J R s t)) (testRun J R s t)
+  pub test-claimed : FlowClaim (testNetwork J R s t) (caps (testLinks J R s t)) (length (testLinks J R s t)) (testRun J R s t)
   unfolding testRun testNetwork testLinks
-  test-bounded = between-bounded (length J) R (prob J s) (prob J t) in-range in-range' few few'
-
-pub cut-of : {N : Net} {c : List Float} {E : ℕ} {r : FlowRun} → Bounded N c E r → Cut N r
-cut-of b = record { source-in = b .source-in; sink-out = b .sink-out; none-out = b .cut }
+  test-claimed = between-claimed (length J) R (prob J s) (prob J t) in-range in-range' few few'

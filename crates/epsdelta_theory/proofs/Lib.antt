@@ -14,6 +14,7 @@ pub mod Figures
 pub mod Samples
 pub mod RowsIn
 pub mod RowReads
+pub mod Layings
 pub mod TasksIn
 pub mod Halves
 pub mod MinEpsilon

@@ -3,6 +3,7 @@ use mathlib.Core.Path.{_≡_}
 use Prim.Native.Nat.{ℕ, suc, _+_, _*_, _≤_}
 use mathlib.Core.Bool.{Bool}
 use mathlib.Core.List.{List, [], _∷_, _++_}
+use lib.Dec.{leb}
 use lib.ListN.{length, take, drop}
 use lib.Ieee.{Float}
 use Rattle.numbers.specs.Bits.{bitAt}
@@ -23,6 +24,10 @@ pub record Free (h : List ℕ) (c : List Float) (e n : ℕ) : Type 0 where
   pub heads-room : e + (n + n) ≤ length h
   pub caps-room : e + (n + n) ≤ length c
   pub small : e + (n + n) ≤ 2176
+
+-- room for the links between a and b targets, if all are related: each link and its reverse
+abbrev pub hasRoom : ℕ → ℕ → ℕ → Bool
+hasRoom a b places = leb (2 * (a + b + a * b)) places
 
 -- from the source to nodes i and on, with these rates
 unfoldable pub sourceRow : ℕ → ℕ → List Float → List Link

@@ -10,18 +10,24 @@ use Rattle.numbers.specs.Lists.{In}
 use Rattle.numbers.proofs.Members.{in-at}
 use Rattle.bisim_core.specs.Data.{columns}
 use Rattle.bisim_core.proofs.Models.{begins-up}
-use Rattle.epsdelta_theory.specs.Jumps.{Jump, Jumps, jumpsOf, noRow}
-use Rattle.epsdelta_theory.proofs.Targets.{targets}
+use Rattle.epsdelta_theory.specs.Jumps.{Jump, Jumps, jumpsOf, targets, rates, noRow}
 use Rattle.epsdelta_theory.proofs.Rows.{RowOf}
 use Rattle.epsdelta_theory.proofs.RowsIn.{HoldsTo}
 
 -- ---- targets beside rates
 
-jumps-targets : (T : List ℕ) (P : List Float) → length T ≡ length P → targets (jumpsOf T P) ≡ T
+pub jumps-targets : (T : List ℕ) (P : List Float) → length T ≡ length P → targets (jumpsOf T P) ≡ T
 unfolding jumpsOf
 jumps-targets [] P e = refl
 jumps-targets (t ∷ T) [] e = absurd (omega arith)
 jumps-targets (t ∷ T) (p ∷ P) e = ap (λ (l : List ℕ). t ∷ l) (jumps-targets T P (omega arith))
+
+pub jumps-rates : (T : List ℕ) (P : List Float) → length T ≡ length P → rates (jumpsOf T P) ≡ P
+unfolding jumpsOf
+jumps-rates [] [] e = refl
+jumps-rates [] (p ∷ P) e = absurd (omega arith)
+jumps-rates (t ∷ T) [] e = absurd (omega arith)
+jumps-rates (t ∷ T) (p ∷ P) e = ap (λ (l : List Float). p ∷ l) (jumps-rates T P (omega arith))
 
 pub jumps-length : (T : List ℕ) (P : List Float) → length T ≡ length P → length (jumpsOf T P) ≡ length T
 unfolding jumpsOf

@@ -23,10 +23,10 @@ use Rattle.bisim_core.specs.declared.wlts.Shape.{Shape}
 use Rattle.bisim_core.specs.Model.{begins, edgeAt, model}
 use Rattle.bisim_core.specs.Model as models
 use Rattle.bisim_core.proofs.Accepted.{Accepted, begins-in}
-use Rattle.epsdelta_theory.specs.Jumps.{Jump, addHere, addRate, addEdge, addEdges, rates, divided, Row, row, union, noRow}
+use Rattle.epsdelta_theory.specs.Jumps.{Jump, addHere, addRate, addEdge, addEdges, targets, rates, divided, Row, row, union, noRow}
 use Rattle.epsdelta_theory.proofs.FlowTests.{AllInRange}
 use Rattle.epsdelta_theory.proofs.Rates.{Rate, Weight, weight-rate, join-rate, Summed, summed-add, summed-over, divided-not-negative, divided-low}
-use Rattle.epsdelta_theory.proofs.Targets.{targets, Rising, EdgeTo, From, edges-rising, edges-only, edges-few, divided-targets}
+use Rattle.epsdelta_theory.proofs.Targets.{Rising, EdgeTo, From, edges-rising, edges-only, edges-few, divided-targets}
 
 -- ---- the edges of a state
 
@@ -138,7 +138,7 @@ row-of m n off s es w f l =
 
 -- ---- the union
 
-at-map-span : {A : Type 0} (f : ℕ → A) (i n j : ℕ) (d : A) → j < n → getD (map f (span i n)) j d ≡ f (i + j)
+pub at-map-span : {A : Type 0} (f : ℕ → A) (i n j : ℕ) (d : A) → j < n → getD (map f (span i n)) j d ≡ f (i + j)
 unfolding span
 at-map-span f i zero j d h = absurd (omega arith)
 at-map-span f i (suc n) zero d h = ap f (omega arith)

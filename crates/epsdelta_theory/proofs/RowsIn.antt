@@ -5,9 +5,9 @@ use mathlib.Core.Bool.{true, false}
 use mathlib.Core.List.{List, [], _∷_}
 use lib.Dec.{ltb}
 use lib.Ieee.{Float, nan}
-use lib.ListN.{length, getD, take, set}
+use lib.ListN.{length, getD, take, drop, set}
 use lib.Seq.{slice}
-use Rattle.epsdelta_theory.specs.Jumps.{Jumps, Row, jumpsOf, noRow}
+use Rattle.epsdelta_theory.specs.Jumps.{Jumps, Row, jumpsOf, noRow, Laid}
 
 -- how many targets stand before the first that is not below t
 unfoldable pub rank : ℕ → List ℕ → ℕ
@@ -52,10 +52,16 @@ pub record HoldsTo (J : Jumps) (n : ℕ) (exits : List Float) (starts targets : 
 abbrev pub Holds : Jumps → List Float → List ℕ → List ℕ → List Float → Type 0
 Holds J exits starts targets probs = HoldsTo J (length J) exits starts targets probs
 
--- a row made in the lists: its jumps from place at up to r, its exit rate as entry k; what stands before is kept
+-- the first n rows over what the lists held
+abbrev pub LaidTo : Jumps → ℕ → List Float → List ℕ → List ℕ → List Float → List Float → List ℕ → List ℕ → List Float → Type 0
+LaidTo J n exits₀ starts₀ targets₀ probs₀ exits starts targets probs = Laid (take n J) exits₀ starts₀ targets₀ probs₀ exits starts targets probs
+
+-- a row made in the lists: its jumps from place at up to r, its exit rate as entry k; what stands before and behind is kept
 pub record Filled (R : Row) (k at r : ℕ) (exits : List Float) (targets : List ℕ) (probs exits' : List Float) (targets' : List ℕ) (probs' : List Float) : Type 0 where
   pub from : at ≤ r
   pub exit : exits' ≡ set exits k (R .exit)
   pub targets-kept : take at targets' ≡ take at targets
   pub probs-kept : take at probs' ≡ take at probs
   pub prob : jumpsOf (slice at r targets') (slice at r probs') ≡ R .prob
+  pub targets-past : drop r targets' ≡ drop r targets
+  pub probs-past : drop r probs' ≡ drop r probs

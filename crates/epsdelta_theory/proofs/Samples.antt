@@ -1,5 +1,5 @@
 -- Random pairs of models, run by the definition. The bytes of the relation and the strikes, the last first, are those that the Rust gives with document 01's rate test;
--- in the last two ε is at a rounding's edge, so that a test back fails where the test forth passed.
+-- in c and d ε is at a rounding's edge, so that a test back fails where the test forth passed. e is small: the strike of states 2 and 3 rests on one of the same sweep.
 use mathlib.Core.Path.{_≡_, refl}
 use Prim.Native.Nat.{ℕ, _+_, _*_}
 use mathlib.Core.Bool.{Bool, true, false, cond}
@@ -104,3 +104,19 @@ d = sample
 d-run : outcome d ≡ 163 ∷ 17 ∷ 1 ∷ 9 ∷ 25 ∷ 33 ∷ 1 ∷ 4061 ∷ 3040 ∷ 2060 ∷ 2040 ∷ 2030 ∷ []
 unfolding outcome sample ofBits
 d-run = refl
+
+-- 5 states and none, 2 sweeps, 5 strikes, 1 pair of distinct states stands: 2 jumps to 1 and 3 to 2, so that they fall with the strike of 1 and 2, earlier in the first sweep
+abbrev e : Given
+e = sample
+    ([]
+    ∷ (edge 1 0 0 (fin false 1 (pos 0)) ∷ [])
+    ∷ (edge 2 0 1 (fin false 1 (pos 0)) ∷ [])
+    ∷ (edge 3 0 2 (fin false 1 (pos 0)) ∷ [])
+    ∷ (edge 4 0 0 (fin false 1 (pos 0)) ∷ [])
+    ∷ [])
+    []
+    (0 ∷ 0 ∷ 0 ∷ 0 ∷ 0 ∷ []) (fin false 0 (pos 0)) (fin false 1 (pos 0))
+
+e-run : outcome e ≡ 65 ∷ 18 ∷ 36 ∷ 1 ∷ 3040 ∷ 2040 ∷ 2030 ∷ 1030 ∷ 1020 ∷ []
+unfolding outcome sample ofBits
+e-run = refl

@@ -18,10 +18,7 @@ use Rattle.bisim_core.specs.Data.{Edge}
 use Rattle.bisim_core.specs.Ids.{intern, distinct}
 use Rattle.bisim_core.specs.Edges.{others}
 use Rattle.bisim_core.proofs.Distinct.{intern-old, intern-new}
-use Rattle.epsdelta_theory.specs.Jumps.{Jump, addHere, addRate, addEdge, addEdges, divided}
-
-abbrev pub targets : List Jump → List ℕ
-targets js = map (λ (j : Jump). j .target) js
+use Rattle.epsdelta_theory.specs.Jumps.{Jump, addHere, addRate, addEdge, addEdges, targets, divided}
 
 -- ---- they rise
 

@@ -2,10 +2,10 @@
 use mathlib.Core.Path.{_≡_}
 use Prim.Native.Nat.{ℕ, _+_, _-_, _≤_, _<_}
 use mathlib.Core.Bool.{Bool, true, _&&_}
-use mathlib.Core.List.{List, _++_}
+use mathlib.Core.List.{List}
 use lib.Dec.{eqb}
 use lib.Ieee.{Float, nan, le}
-use lib.ListN.{length, getD, take}
+use lib.ListN.{length, getD}
 use lib.Seq.{slice}
 use Rattle.numbers.specs.Real.{nought, greatestWeight, isZero}
 use Rattle.numbers.specs.Lists.{all}
@@ -13,8 +13,7 @@ use Rattle.numbers.specs.Bits.{packed}
 use Rattle.epsdelta_theory.specs.Jumps.{Jump, jumpsOf}
 use Rattle.epsdelta_theory.specs.FlowTest.{runBetween}
 use Rattle.epsdelta_theory.specs.Sweeps.{Task, Run, marked}
-use Rattle.epsdelta_theory.specs.Epsdelta.{ratesClose, Given}
-use Rattle.epsdelta_theory.proofs.RowsIn.{Holds}
+use Rattle.epsdelta_theory.specs.Epsdelta.{ratesClose}
 
 -- ---- marks
 
@@ -60,13 +59,3 @@ Stored x store struck = (store ≡ packed (x .relation)) × (struck ≡ x .struc
 -- of whatever task the lists hold, and from whatever run is stored at first, what is stored then is what f makes of it
 abbrev pub Makes : ℕ → List Float → List ℕ → List ℕ → List Float → Float → (Task → Run → Run) → List ℕ → Bool → List ℕ → Bool → Type 0
 Makes n E S T P need f store₀ struck₀ store struck = (Q : Task) → SweepsIn Q n E S T P need → (x : Run) → Stored x store₀ struck₀ → Stored (f Q x) store struck
-
--- ---- both
-
--- the lists hold what `epsdelta` is given of l states of the left model and r of the right one
-pub record GivenIn (G : Given) (l r : ℕ) (cl cr : List ℕ) (E : List Float) (S T : List ℕ) (P : List Float) (ε ρ : Float) : Type 0 where
-  pub states : length (G .jumps) ≡ l + r
-  pub rows : Holds (G .jumps) E S T P
-  pub classes : G .classes ≡ take l cl ++ take r cr
-  pub pass : (a b : ℕ) (x y : Float) → G .pass a b x y ≡ ratesClose x y ρ
-  pub epsilon : G .epsilon ≡ ε

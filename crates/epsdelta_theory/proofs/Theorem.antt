@@ -15,17 +15,17 @@ use Rattle.numbers.specs.Lists.{In}
 use Rattle.bisim_core.specs.Data.{Columns}
 use Rattle.bisim_core.specs.declared.wlts.Shape.{Shape}
 use Rattle.bisim_core.specs.Model.{model}
-use Rattle.flow_theory.specs.Claim.{Bounded}
+use Rattle.flow_theory.specs.Claim.{Cut, FlowClaim}
 use Rattle.epsdelta_theory.specs.Jumps.{Jumps, union, noRow, exit, prob}
 use Rattle.epsdelta_theory.specs.Sweeps.{Strike}
 use Rattle.epsdelta_theory.specs.FlowTest.{caps, testLinks, testNetwork, testRun}
 use Rattle.epsdelta_theory.specs.Epsdelta.{ratesClose, Given, given, task, epsdelta}
 use Rattle.epsdelta_theory.specs.Refusal.{epsdeltaRefusal}
-use Rattle.epsdelta_theory.specs.Claim.{failedFrom, failedTo, Cut, states, Sound}
+use Rattle.epsdelta_theory.specs.Claim.{failedFrom, failedTo, states, Sound}
 use Rattle.epsdelta_theory.proofs.Unrefused.{Unrefused, unrefused}
 use Rattle.epsdelta_theory.proofs.Rates.{Summed, self-close}
 use Rattle.epsdelta_theory.proofs.Rows.{RowOf, model-length, union-length, union-rows}
-use Rattle.epsdelta_theory.proofs.FlowTests.{test-nodes, test-bounded, cut-of}
+use Rattle.epsdelta_theory.proofs.FlowTests.{test-nodes, test-claimed}
 use Rattle.epsdelta_theory.proofs.Sweeps.{Justified}
 use Rattle.epsdelta_theory.proofs.Runs.{run-trail, run-ended, run-symmetric, run-reflexive, run-standing, run-justified, run-struck, run-missing}
 
@@ -39,15 +39,15 @@ module _ (G : Given) (K : Ready G) where
   either true u v p q = p
   either false u v p q = q
 
-  bounds : (R : List Bool) (s t : ℕ) → s < states G → t < states G → Bounded (testNetwork (G .jumps) R s t) (caps (testLinks (G .jumps) R s t)) (length (testLinks (G .jumps) R s t)) (testRun (G .jumps) R s t)
-  bounds R s t h k = test-bounded (G .jumps) R s t (unfold prob in ((K .rows s h) .in-range)) (unfold prob in ((K .rows t k) .in-range)) (unfold prob in ((K .rows s h) .few)) (unfold prob in ((K .rows t k) .few))
+  claims : (R : List Bool) (s t : ℕ) → s < states G → t < states G → FlowClaim (testNetwork (G .jumps) R s t) (caps (testLinks (G .jumps) R s t)) (length (testLinks (G .jumps) R s t)) (testRun (G .jumps) R s t)
+  claims R s t h k = test-claimed (G .jumps) R s t (unfold prob in ((K .rows s h) .in-range)) (unfold prob in ((K .rows t k) .in-range)) (unfold prob in ((K .rows s h) .few)) (unfold prob in ((K .rows t k) .few))
 
   cuts : (k : Strike) → In k ((epsdelta G) .strikes) → Cut (testNetwork (G .jumps) (k .before) (failedFrom k) (failedTo k)) (testRun (G .jumps) (k .before) (failedFrom k) (failedTo k))
   unfolding epsdelta
   cuts k i =
       let a : Justified (task G) k = run-justified (task G) k i in
       let lo : k .low < states G = let x = a .apart in let y = a .inside in omega arith in
-      cut-of (bounds (k .before) (failedFrom k) (failedTo k) (either (k .back) (k .high) (k .low) (a .inside) lo) (either (k .back) (k .low) (k .high) lo (a .inside)))
+      claims (k .before) (failedFrom k) (failedTo k) (either (k .back) (k .high) (k .low) (a .inside) lo) (either (k .back) (k .low) (k .high) lo (a .inside)) .bounded .cut
 
   pub run-sound : Sound G
   unfolding epsdelta
@@ -59,8 +59,8 @@ module _ (G : Given) (K : Ready G) where
     strikes-failed = run-struck (task G);
     cut = cuts;
     nodes-counted = test-nodes (G .jumps);
-    bounded = bounds;
-    traced = λ R s t h k. (bounds R s t h k) .traced;
+    bounded = λ R s t h k. (claims R s t h k) .bounded;
+    traced = λ R s t h k. (claims R s t h k) .traced;
     trail = run-trail (task G);
     ended = run-ended (task G);
   }

@@ -17,7 +17,7 @@ use Rattle.bisim_core.specs.declared.wlts.Initial.the-variants.{At, Absent}
 use Rattle.bisim_core.specs.Model.{large, unfit, weightsOutside, crowded, modelRefusal}
 use Rattle.bisim_core.proofs.Accepted.{Accepted, accepted}
 use Rattle.epsdelta_theory.specs.Relation.{relationBytes}
-use Rattle.epsdelta_theory.specs.Refusal.{short, absent, factorOutside, tolerancesOutside, relationRefusal, epsdeltaRefusal}
+use Rattle.epsdelta_theory.specs.Refusal.{short, absent, factorOutside, tolerancesOutside, modelsRefusal, laterRefusal, relationRefusal, epsdeltaRefusal}
 use Rattle.epsdelta_theory.specs.Bisimilar.{start}
 
 -- what no check refuses, whatever 8 and 9 are of
@@ -36,27 +36,34 @@ pub model-passed : (S : Shape) (M : Columns) → large S ≡ false → unfit S M
 unfolding modelRefusal
 model-passed S M a b c d = accepted S M (check-skip 3 (large S) _ 0 a (check-skip 4 (unfit S M) _ 0 b (check-skip 5 (weightsOutside S M) _ 0 c (check-skip 6 (crowded S M) 0 0 d refl))))
 
-pub passed : (fails8 fails9 : Bool) (SL : Shape) (ML : Columns) (SR : Shape) (MR : Columns) (cl cr : List ℕ) (bytes : ℕ)
-    → relationRefusal fails8 fails9 SL ML SR MR cl cr bytes ≡ 0 → Passed fails8 fails9 SL ML SR MR cl cr bytes
-unfolding relationRefusal
-passed fails8 fails9 SL ML SR MR cl cr bytes e =
+-- both models, and what comes after them
+pub models-passed : (SL : Shape) (ML : Columns) (SR : Shape) (MR : Columns) (later : ℕ) → modelsRefusal SL ML SR MR later ≡ 0 → Accepted SL ML × Accepted SR MR × (later ≡ 0)
+unfolding modelsRefusal
+models-passed SL ML SR MR later e =
     let a = check-none 2 (large SL || large SR) _ e in
     let b = check-none 3 (unfit SL ML || unfit SR MR) _ (a .1) in
     let c = check-none 4 (weightsOutside SL ML || weightsOutside SR MR) _ (b .1) in
     let d = check-none 5 (crowded SL ML || crowded SR MR) _ (c .1) in
-    let f = check-none 6 (short SL SR cl cr bytes) _ (d .1) in
-    let g = check-none 7 fails8 _ (f .1) in
-    let h = check-none 8 fails9 _ (g .1) in
-    let i = check-none 9 (ltb 2000 (SL .states + SR .states)) 0 (h .1) in
     let a2 = or-f (large SL) (large SR) (a .0) in
     let b2 = or-f (unfit SL ML) (unfit SR MR) (b .0) in
     let c2 = or-f (weightsOutside SL ML) (weightsOutside SR MR) (c .0) in
     let d2 = or-f (crowded SL ML) (crowded SR MR) (d .0) in
+    (model-passed SL ML (a2 .0) (b2 .0) (c2 .0) (d2 .0), model-passed SR MR (a2 .1) (b2 .1) (c2 .1) (d2 .1), d .1)
+
+pub passed : (fails8 fails9 : Bool) (SL : Shape) (ML : Columns) (SR : Shape) (MR : Columns) (cl cr : List ℕ) (bytes : ℕ)
+    → relationRefusal fails8 fails9 SL ML SR MR cl cr bytes ≡ 0 → Passed fails8 fails9 SL ML SR MR cl cr bytes
+unfolding relationRefusal
+passed fails8 fails9 SL ML SR MR cl cr bytes e =
+    let (A, B, z) = models-passed SL ML SR MR (laterRefusal fails8 fails9 (SL .states) (SR .states) (length cl) (length cr) bytes) e in
+    let f = check-none 6 (short (SL .states) (SR .states) (length cl) (length cr) bytes) _ z in
+    let g = check-none 7 fails8 _ (f .1) in
+    let h = check-none 8 fails9 _ (g .1) in
+    let i = check-none 9 (ltb 2000 (SL .states + SR .states)) 0 (h .1) in
     let f2 = or-f (ltb (length cl) (SL .states)) _ (f .0) in
     let f3 = or-f (ltb (length cr) (SR .states)) (ltb bytes (relationBytes (SL .states + SR .states))) (f2 .1) in
     record {
-      left = model-passed SL ML (a2 .0) (b2 .0) (c2 .0) (d2 .0);
-      right = model-passed SR MR (a2 .1) (b2 .1) (c2 .1) (d2 .1);
+      left = A;
+      right = B;
       left-classes = ltb-false _ _ (f2 .0);
       right-classes = ltb-false _ _ (f3 .0);
       room = ltb-false _ _ (f3 .1);

@@ -4,12 +4,9 @@ use Prim.Native.Nat.{ℕ, _<_}
 use mathlib.Core.Bool.{Bool, true, false, cond}
 use mathlib.Core.List.{List, [], _∷_}
 use lib.ListN.{length}
-use lib.Ieee.{lt}
-use Rattle.numbers.specs.Real.{eps}
 use Rattle.numbers.specs.Lists.{In}
-use Rattle.flow_theory.specs.Network.{Net, nodes, links, head, tail, left}
-use Rattle.flow_theory.specs.Run.{FlowRun}
-use Rattle.flow_theory.specs.Claim.{Traced, inCut, Bounded}
+use Rattle.flow_theory.specs.Network.{nodes}
+use Rattle.flow_theory.specs.Claim.{Traced, Cut, Bounded}
 use Rattle.epsdelta_theory.specs.Relation.{holds, clear}
 use Rattle.epsdelta_theory.specs.Sweeps.{Task, marks, Strike, Run, sweep}
 use Rattle.epsdelta_theory.specs.FlowTest.{caps, testLinks, testNodes, testNetwork, testRun}
@@ -64,14 +61,6 @@ pub record Ended (Q : Task) (x : Run) : Type 0 where
   pub last : x ≡ sweep Q before
   pub none : x .struck ≡ false
 
--- ---- of a flow test
-
--- nodes with the source and without the sink, and no link out of them, reverses included, with over 1e-12 left when `max_flow` ended
-pub record Cut (N : Net) (r : FlowRun) : Type 0 where
-  pub source-in : inCut r (N .source) ≡ true
-  pub sink-out : inCut r (N .sink) ≡ false
-  pub none-out : (e : ℕ) → e < links N → inCut r (tail N e) ≡ true → inCut r (head N e) ≡ false → lt eps (left (r .cap) e) ≡ false
-
 -- ---- the claim
 
 -- the states of both models
@@ -97,10 +86,10 @@ pub record Sound (G : Given) : Type 0 where
   -- the failed test of every strike left a cut
   pub cut : (k : Strike) → In k ((epsdelta G) .strikes)
       → Cut (testNetwork (G .jumps) (k .before) (failedFrom k) (failedTo k)) (testRun (G .jumps) (k .before) (failedFrom k) (failedTo k))
-  -- every flow test, passed or failed, has V nodes and E added links: at most V - 1 phases, at most E pushes in each, the sink's level higher in each than in the one before
+  -- every flow test, passed or failed, has V nodes and E added links: at most V - 1 phases, at most E pushes in each, the sink's level higher in each than in the one before; and a cut at its end
   pub nodes-counted : (R : List Bool) (s t : ℕ) → nodes (testNetwork (G .jumps) R s t) ≡ testNodes (G .jumps) s t
   pub bounded : (R : List Bool) (s t : ℕ) → s < states G → t < states G
-      → Bounded (testNetwork (G .jumps) R s t) (caps (testLinks (G .jumps) R s t)) (length (testLinks (G .jumps) R s t)) (testRun (G .jumps) R s t)
+      → Bounded (testNetwork (G .jumps) R s t) (length (testLinks (G .jumps) R s t)) (testRun (G .jumps) R s t)
   -- its phases and pushes are the steps of its run, from its links' capacities on
   pub traced : (R : List Bool) (s t : ℕ) → s < states G → t < states G → Traced (testNetwork (G .jumps) R s t) (caps (testLinks (G .jumps) R s t)) (testRun (G .jumps) R s t)
   -- the strikes are the run's own trace, and the run ends with a sweep without a strike

@@ -24,15 +24,14 @@ pub record Given : Type 0 where
   pub pass : ℕ → ℕ → Float → Float → Bool
   pub epsilon : Float
 
--- two models handed in, a list of classes for each (which may be longer than its model), ε and ρ; this rate test does not look at classes
+-- rows, the class of each, ε and ρ; this rate test does not look at classes
+abbrev pub givenRows : Jumps → List ℕ → Float → Float → Given
+givenRows J classes ε ρ = record { jumps = J; classes = classes; pass = λ _ _ a b. ratesClose a b ρ; epsilon = ε }
+
+-- two models handed in, a list of classes for each (which may be longer than its model), ε and ρ
 unfoldable pub given : Shape → Columns → Shape → Columns → List ℕ → List ℕ → Float → Float → Given
 unfolding union model ratesClose
-given SL ML SR MR cl cr ε ρ = record {
-  jumps = union (model SL ML) (model SR MR);
-  classes = take (SL .states) cl ++ take (SR .states) cr;
-  pass = λ _ _ a b. ratesClose a b ρ;
-  epsilon = ε;
-}
+given SL ML SR MR cl cr ε ρ = givenRows (union (model SL ML) (model SR MR)) (take (SL .states) cl ++ take (SR .states) cr) ε ρ
 
 -- the class of a state
 unfoldable pub class : Given → ℕ → ℕ

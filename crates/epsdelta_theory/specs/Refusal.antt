@@ -19,8 +19,8 @@ use Rattle.bisim_core.specs.Model.{row, rows, rises, large, unfit, weightsOutsi
 use Rattle.epsdelta_theory.specs.Relation.{relationBytes}
 
 -- 7: fewer classes than states, or too few bytes for the relation
-abbrev pub short : Shape → Shape → List ℕ → List ℕ → ℕ → Bool
-short SL SR cl cr bytes = ltb (length cl) (SL .states) || (ltb (length cr) (SR .states) || ltb bytes (relationBytes (SL .states + SR .states)))
+abbrev pub short : ℕ → ℕ → ℕ → ℕ → ℕ → Bool
+short left right leftClasses rightClasses bytes = ltb leftClasses left || (ltb rightClasses right || ltb bytes (relationBytes (left + right)))
 
 -- 8: there is no initial state
 abbrev pub absent : Initial → Bool
@@ -35,19 +35,29 @@ factorOutside ρ = not (le one ρ && le ρ greatestFactor)
 abbrev pub tolerancesOutside : Float → Float → Bool
 tolerancesOutside ε ρ = not (isValid ε) || factorOutside ρ
 
--- whether 8 fails, whether 9 fails, two models, a list of classes for each, and how many bytes are lent for the relation: the first check that fails, 0 if none does
-unfoldable pub relationRefusal : Bool → Bool → Shape → Columns → Shape → Columns → List ℕ → List ℕ → ℕ → ℕ
+-- checks 3 to 6, each over both models, and what comes after them: the first check that fails, 0 if none does
+unfoldable pub modelsRefusal : Shape → Columns → Shape → Columns → ℕ → ℕ
 unfolding every all rises rows row span crowdedIn others intern seek lt le
-relationRefusal fails8 fails9 SL ML SR MR cl cr bytes =
+modelsRefusal SL ML SR MR later =
     check 3 (large SL || large SR)
     (check 4 (unfit SL ML || unfit SR MR)
     (check 5 (weightsOutside SL ML || weightsOutside SR MR)
     (check 6 (crowded SL ML || crowded SR MR)
-    (check 7 (short SL SR cl cr bytes)
+    later)))
+
+-- checks 7 to 10: whether 8 fails, whether 9 fails, so many left states and right ones, so many classes of each, and so many bytes for the relation
+abbrev pub laterRefusal : Bool → Bool → ℕ → ℕ → ℕ → ℕ → ℕ → ℕ
+laterRefusal fails8 fails9 left right leftClasses rightClasses bytes =
+    check 7 (short left right leftClasses rightClasses bytes)
     (check 8 fails8
     (check 9 fails9
-    (check 10 (ltb 2000 (SL .states + SR .states))
-    0)))))))
+    (check 10 (ltb 2000 (left + right))
+    0)))
+
+-- whether 8 fails, whether 9 fails, two models, a list of classes for each, and how many bytes are lent for the relation
+unfoldable pub relationRefusal : Bool → Bool → Shape → Columns → Shape → Columns → List ℕ → List ℕ → ℕ → ℕ
+unfolding modelsRefusal
+relationRefusal fails8 fails9 SL ML SR MR cl cr bytes = modelsRefusal SL ML SR MR (laterRefusal fails8 fails9 (SL .states) (SR .states) (length cl) (length cr) bytes)
 
 -- `epsdelta`, which asks for no initial state
 unfoldable pub epsdeltaRefusal : Shape → Columns → Shape → Columns → List ℕ → List ℕ → Float → Float → ℕ → ℕ

@@ -1,8 +1,5 @@
-// The library for C and Rust: numbers, slices and references to numbers, and to networks of links. Where a function can refuse, it returns the refusal's
+// Numbers, labels and models for C and Rust: numbers, slices and references to numbers. Where a function can refuse, it returns the refusal's
 // number, or 0 with its answer behind the references at its end, which a refusal leaves as they were.
-mod networks; // networks.rt: networks of links
-mod relations; // relations.rt: relations of two models
-
 use bisim_build::builder;
 use bisim_core::ids;
 use bisim_core::ids::LabelId;

@@ -78,6 +78,23 @@ module _ (ls : List Link) (whole : length ls ≡ 2176) {heads₀ : List ℕ} {ca
         I .costs-is ∙ over-end (map (λ (l : Link). l .cost) ls) costs₀ i (omega arith) ∙ ap (λ (n : ℕ). costsOf n ls) z,
       )
 
+-- the heads alone
+abbrev pub Heading : List Link → List ℕ → List ℕ → ℕ → Type 0
+Heading ls heads₀ heads i = (i ≤ length heads₀) × Filled (λ (l : Link). l .head) ls heads₀ i heads
+
+module _ (ls : List Link) (whole : length ls ≡ 2176) (heads₀ : List ℕ) {heads : List ℕ} {i : ℕ} (within : length heads₀ ≤ 2176) (I : Heading ls heads₀ heads i) where
+  pub row-length : length heads ≡ length heads₀
+  row-length = let u = I .0 in filled-length (λ (l : Link). l .head) ls heads₀ i heads (I .1) (omega arith) u
+
+  pub heading-on : i < length heads₀ → Heading ls heads₀ (set heads i (getD ls i pastEnd .head)) (i + 1)
+  heading-on h = (omega arith, filled-on (λ (l : Link). l .head) ls heads₀ i heads (I .1) (omega arith) h)
+
+  pub heading-ends : length heads₀ ≤ i → heads ≡ headsOf (length heads₀) ls
+  heading-ends h =
+      let u = I .0 in
+      let z : i ≡ length heads₀ = omega arith in
+      I .1 ∙ over-end (map (λ (l : Link). l .head) ls) heads₀ i (omega arith) ∙ ap (λ (n : ℕ). headsOf n ls) z
+
 -- ---- and back
 
 abbrev pub capAt : List Link → List Float → ℕ → Link

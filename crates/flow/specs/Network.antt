@@ -1,12 +1,14 @@
--- A network of links, as rows and back.
+-- A network of links: its heads, capacities and costs, and what `new`, `add_edge` and `max_flow` make of it.
 use Prim.Native.Nat.{ℕ, _+_}
 use mathlib.Core.List.{List, [], _∷_, map}
 use mathlib.Core.Bool.{Bool, true, false, _&&_}
-use lib.Dec.{leb, ltb}
+use lib.Dec.{leb}
 use lib.ListN.{take, set, replicate}
 use lib.Ieee.{Float, neg}
 use Rattle.numbers.specs.Real.{nought}
-use Rattle.flow_check.specs.Adding.{Relisted, relist}
+use Rattle.numbers.specs.Lists.{over}
+use Rattle.flow_theory.specs.Rows.{startsOf, listOf}
+use Rattle.flow_check.specs.Refusal.{edgeFits, networkFits}
 use Rattle.flow_core.specs.Outcome.{flowOn, Claimed}
 use Rattle.flow.specs.declared.network.Link.{Link}
 use Rattle.flow.specs.declared.network.FlowNetwork.{FlowNetwork}
@@ -24,7 +26,7 @@ capsOf n ls = take n (map (λ (l : Link). l .cap) ls)
 abbrev pub costsOf : ℕ → List Link → List Float
 costsOf n ls = take n (map (λ (l : Link). l .cost) ls)
 
--- the links with the first capacities taken from a row
+-- the links with their first capacities taken from a list
 unfoldable pub withCaps : List Link → List Float → List Link
 withCaps ls [] = ls
 withCaps [] (x ∷ xs) = []
@@ -46,7 +48,7 @@ pub record Outcome : Type 0 where
 abbrev pub ends : Answer → FlowNetwork → Outcome
 ends a N = record { answer = a; network = N }
 
--- the run on a network: only capacities of its links change; a network of more links than there is room for is turned back with 15 too
+-- the run on a network: only the capacities of its links change; over 1,088 added links, which are two links each, are 15
 abbrev pub flowIf : Bool → FlowNetwork → ℕ → ℕ → Outcome
 flowIf true N source sink =
     let o = flowOn (headsOf (N .count) (N .links)) (capsOf (N .count) (N .links)) (costsOf (N .count) (N .links)) (N .starts) (N .list) (N .nodes) source sink in ends (o .answer) (withLinks N (withCaps (N .links) (o .caps)))
@@ -69,27 +71,32 @@ made n = madeIf (leb n 66) n
 
 -- ---- adding a link
 
--- a link at place n, and at the next its reverse, which has capacity 0 and the cost negated
+-- link n, and after it its reverse, which has capacity 0 and the cost negated
 abbrev pub withLink : List Link → ℕ → ℕ → ℕ → Float → Float → List Link
 withLink ls n from to cap cost = set (set ls n (record { head = to; cap = cap; cost = cost })) (n + 1) (record { head = from; cap = nought; cost = neg cost })
 
--- the node lists with the link, over those of the network; or that it is refused
-abbrev pub relistedOn : FlowNetwork → List Link → Relisted
-relistedOn N ls = relist (headsOf (N .count + 2) ls) (capsOf (N .count + 2) ls) (costsOf (N .count + 2) ls) (N .starts) (N .list) (N .nodes) (N .starts) (N .list)
+-- the network passes refusal 15, its clauses on source and sink apart
+abbrev pub fitsOn : FlowNetwork → Bool
+fitsOn N = networkFits (headsOf (N .count) (N .links)) (capsOf (N .count) (N .links)) (costsOf (N .count) (N .links)) (N .starts) (N .list) (N .nodes)
 
-abbrev pub grownIf : Bool → FlowNetwork → List Link → List ℕ → List ℕ → Made
-grownIf true N ls starts list = record { refused = 0; net = record { links = ls; count = N .count + 2; nodes = N .nodes; starts = starts; list = list } }
-grownIf false N ls starts list = record { refused = 15; net = N }
+-- may a link be added: there are at most 1,087 added ones, which are two links each, and neither the link nor the network is refused
+abbrev pub addable : FlowNetwork → ℕ → ℕ → Float → Float → Bool
+addable N from to cap cost = leb (N .count) 2174 && (edgeFits (N .nodes) from to cap cost && fitsOn N)
 
-abbrev pub addedIf : Bool → FlowNetwork → List Link → Made
-addedIf true N ls = grownIf (relistedOn N ls .added) N ls (relistedOn N ls .starts) (relistedOn N ls .list)
-addedIf false N ls = record { refused = 15; net = N }
+-- the network with these links, of which two are new: its node lists are those that adding the links in order gives; entries past their ends keep their contents
+abbrev pub grown : FlowNetwork → List Link → FlowNetwork
+grown N ls =
+    let H = headsOf (N .count + 2) ls in
+    record { links = ls; count = N .count + 2; nodes = N .nodes; starts = over (startsOf H (N .nodes)) (N .starts); list = over (listOf H (N .nodes)) (N .list) }
 
 -- how adding a link ends: the number of the refusal, and the network that it leaves
 abbrev pub leaves : ℕ → FlowNetwork → Made
 leaves r N = record { refused = r; net = N }
 
--- the network with one more link; a refusal, 15, leaves it as it was
+abbrev pub addedIf : Bool → FlowNetwork → List Link → Made
+addedIf true N ls = leaves 0 (grown N ls)
+addedIf false N ls = leaves 15 N
+
+-- the network with one more link and its reverse; a refusal, 15, leaves it as it was
 abbrev pub added : FlowNetwork → ℕ → ℕ → Float → Float → Made
-added N from to cap cost =
-    addedIf (leb (N .nodes) 66 && (leb (N .count) 2174 && (ltb from (N .nodes) && ltb to (N .nodes)))) N (withLink (N .links) (N .count) from to cap cost)
+added N from to cap cost = addedIf (addable N from to cap cost) N (withLink (N .links) (N .count) from to cap cost)

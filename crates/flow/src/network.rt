@@ -2,12 +2,12 @@
 use flow_check::check;
 use flow_core::rows;
 use flow_core::rows::Answer;
-ghost use Rattle.flow.specs.Network.{headsOf, capsOf, costsOf, ends, flowThrough, ClaimedOn, made, leaves, addedIf, added};
-ghost use Rattle.flow_theory.proofs.ListRows.{Fitting};
-ghost use Rattle.flow_check.specs.Adding.{relisted, relist};
+ghost use Rattle.flow.specs.Network.{headsOf, capsOf, costsOf, ends, flowThrough, ClaimedOn, made, fitsOn, grown, leaves, added};
+ghost use Rattle.flow_theory.proofs.ListRows.{Indexable, Fitting};
+ghost use Rattle.flow_check.specs.Refusal.{networkFits};
 ghost use mathlib.Core.Path.{_≡_};
 ghost use mathlib.Core.Bool.{true};
-ghost use Prim.Native.Nat.{ℕ, _≤_};
+ghost use Prim.Native.Nat.{ℕ, _+_, _≤_};
 ghost use lib.ListN.{length, take};
 ghost use Rattle.flow_core.specs.Outcome;
 
@@ -29,7 +29,7 @@ pub struct FlowNetwork {
     pub list: [u32; 2176],
 }
 
-// A new network, or the number of the refusal beside a network of no nodes (0: none).
+// The number of a refusal, 0 if there is none, and a network: a new one or one with a link more; where a new one is refused, one of no nodes.
 pub struct Made {
     pub refused: u32,
     pub net: FlowNetwork,
@@ -80,8 +80,20 @@ fn unpack(links: [Link; 2176], heads: &mut [u32], caps: &mut [f64], costs: &mut 
     }
 }
 
-// Whether the last pair of the first links may be added to the network of those before it; if so, the node lists are made in lent rows.
-fn link_in(
+// Copies the heads of the first links into a row.
+fn unpack_heads(links: [Link; 2176], heads: &mut [u32])
+    requires { ⌜ length (now heads) ≤ 2176 ⌝ }
+    ensures { λ r. ⌜ now (heads .exit) ≡ headsOf (length (now (heads .entry))) links ⌝ }
+{
+    let mut i: usize = 0;
+    while i < heads.len() {
+        heads[i] = links[i].head;
+        i += 1;
+    }
+}
+
+// Whether the first links, copied into lent rows, pass the check but for source and sink.
+fn fits_in(
     links: [Link; 2176],
     heads: &mut [u32],
     caps: &mut [f64],
@@ -89,64 +101,56 @@ fn link_in(
     starts: &[u32; 67],
     list: &[u32],
     nodes: usize,
-    new_starts: &mut [u32],
-    new_list: &mut [u32],
 ) -> bool
     requires { ⌜ Fitting (now heads) (now caps) (now costs) ⌝ }
-    ensures { λ r. ⌜ relisted r (now («new_starts» .exit)) (now («new_list» .exit)) ≡ relist (headsOf (length (now (heads .entry))) links) (capsOf (length (now (heads .entry))) links) (costsOf (length (now (heads .entry))) links) (now (starts .entry)) (now (list .entry)) nodes (now («new_starts» .entry)) (now («new_list» .entry)) ⌝ }
+    ensures { λ r. ⌜ r ≡ networkFits (headsOf (length (now (heads .entry))) links) (capsOf (length (now (heads .entry))) links) (costsOf (length (now (heads .entry))) links) (now (starts .entry)) (now (list .entry)) nodes ⌝ }
 {
     unpack(links, heads, caps, costs);
-    check::relist(
-        heads,
-        caps,
-        costs,
-        starts,
-        list,
-        nodes,
-        new_starts,
-        new_list,
-    )
+    check::network_fits(heads, caps, costs, starts, list, nodes)
 }
 
-// The network with two links more, which stand after those in use; or the refusal beside the network as it is.
-fn grow(net: FlowNetwork, links: [Link; 2176]) -> Made
-    requires { ⌜ net .count ≤ 2174 ⌝ }
-    ensures { λ r. ⌜ r ≡ addedIf true net links ⌝ }
+// Whether a network passes the check but for source and sink.
+fn net_fits(net: FlowNetwork) -> bool
+    requires { ⌜ net .count ≤ 2176 ⌝ }
+    ensures { λ r. ⌜ r ≡ fitsOn net ⌝ }
 {
-    let count = net.count;
-    let nodes = net.nodes;
+    let n = net.count;
+    let links = net.links;
     let starts = net.starts;
     let list = net.list;
-    let mut new_starts = starts;
-    let mut new_list = list;
     let mut heads = [0u32; 2176];
     let mut caps = [0.0; 2176];
     let mut costs = [0.0; 2176];
-    let n = count + 2;
-    if link_in(
+    fits_in(
         links,
         &mut heads[..n],
         &mut caps[..n],
         &mut costs[..n],
         &starts,
         &list,
+        net.nodes,
+    )
+}
+
+// The network with these links, two more than before, and with their node lists.
+fn grow(net: FlowNetwork, links: [Link; 2176]) -> FlowNetwork
+    requires { ⌜ (net .count ≤ 2174) × (net .nodes ≤ 66) × Indexable (headsOf (net .count + 2) links) (net .nodes) ⌝ }
+    ensures { λ r. ⌜ r ≡ grown net links ⌝ }
+{
+    let n = net.count + 2;
+    let nodes = net.nodes;
+    let mut starts = net.starts;
+    let mut list = net.list;
+    let mut heads = [0u32; 2176];
+    unpack_heads(links, &mut heads[..n]);
+    check::node_lists(&heads[..n], nodes, &mut starts, &mut list);
+    FlowNetwork {
+        links,
+        count: n,
         nodes,
-        &mut new_starts,
-        &mut new_list,
-    ) {
-        let grown = FlowNetwork {
-            links,
-            count: n,
-            nodes,
-            starts: new_starts,
-            list: new_list,
-        };
-        return Made {
-            refused: 0,
-            net: grown,
-        };
+        starts,
+        list,
     }
-    Made { refused: 15, net }
 }
 
 // The network with a link from one node to another, and its reverse, added; or the refusal beside the network as it is.
@@ -154,24 +158,25 @@ fn with_link(net: FlowNetwork, from: usize, to: usize, capacity: f64, cost: f64)
     ensures { λ r. ⌜ r ≡ added net from to capacity cost ⌝ }
 {
     let count = net.count;
-    let nodes = net.nodes;
-    if nodes <= 66 {
-        if count <= 2174 {
-            if from < nodes {
-                if to < nodes {
-                    let mut links = net.links;
-                    links[count] = Link {
-                        head: to as u32,
-                        cap: capacity,
-                        cost,
-                    };
-                    links[count + 1] = Link {
-                        head: from as u32,
-                        cap: 0.0,
-                        cost: -cost,
-                    };
-                    return grow(net, links);
-                }
+    if count <= 2174 {
+        if check::edge_fits(from, to, capacity, cost, net.nodes) {
+            if net_fits(net) {
+                let mut links = net.links;
+                links[count] = Link {
+                    head: to as u32,
+                    cap: capacity,
+                    cost,
+                };
+                links[count + 1] = Link {
+                    head: from as u32,
+                    cap: 0.0,
+                    cost: -cost,
+                };
+                let grown = grow(net, links);
+                return Made {
+                    refused: 0,
+                    net: grown,
+                };
             }
         }
     }

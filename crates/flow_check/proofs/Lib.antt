@@ -1,5 +1,4 @@
 pub mod Checking
 pub mod Laying
 pub mod Accepting
-pub mod Deciding
 pub mod Relists

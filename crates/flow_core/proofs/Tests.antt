@@ -13,7 +13,7 @@ use Rattle.numbers.specs.Real.{nought, greatestWeight}
 use Rattle.numbers.specs.Lists.{all}
 use Rattle.numbers.specs.Bits.{packed}
 use Rattle.numbers.proofs.Bools.{t-of, and-t}
-use Rattle.flow_theory.specs.Claim.{Bounded}
+use Rattle.flow_theory.specs.Claim.{FlowClaim}
 use Rattle.flow_theory.proofs.Accepted.{Accepted}
 use Rattle.flow_theory.specs.Rows.{network}
 use Rattle.flow_theory.specs.Run.{FlowRun, maxFlow}
@@ -22,14 +22,13 @@ use Rattle.flow_theory.proofs.RunRows.{Runnable, Ran}
 use Rattle.flow_theory.proofs.Outs.{network-nodes}
 use Rattle.flow_theory.proofs.Theorem.{accepted-good, accepted-caps, flow-run}
 use Rattle.flow_theory.specs.Network.{head}
-use Rattle.flow_check.specs.Adding.{relisted, enlist}
-use Rattle.flow_check.proofs.Relists.{enlisted}
+use Rattle.flow_check.proofs.Relists.{Relisted, enlisted}
 use Rattle.epsdelta_theory.specs.Jumps.{Jump, jumpsOf}
 use Rattle.epsdelta_theory.specs.FlowTest.{Link, linksOf, heads, caps, networkBetween, runBetween}
 use Rattle.epsdelta_theory.proofs.FlowTests.{AllInRange, heads-length, between-accepted}
 use Rattle.epsdelta_theory.proofs.RowReads.{jumps-length}
 use Rattle.flow_links.specs.Fits.{rateFits, fits}
-use Rattle.flow_links.specs.Writing.{relationOf}
+use Rattle.epsdelta_theory.specs.Relation.{relationOf}
 use Rattle.flow_links.proofs.LinkWrites.{links-same}
 use Rattle.flow_links.proofs.Fitting.{Fit, fit, Laid}
 use Rattle.flow_core.specs.Outcome.{settled}
@@ -60,7 +59,7 @@ in-range (t ∷ ts) (w ∷ ws) f =
 
 -- an accepted network of written links can be run once its node lists are made
 pub runs-listed : (H : List ℕ) (c : List Float) (k s : ℕ) (st l : List ℕ) → Accepted (network H (s + 2) s (s + 1)) c k → length H ≤ length l → length st ≡ 67
-    → (b : Bool) (st' l' : List ℕ) → relisted b st' l' ≡ enlist H (s + 2) st l → Runnable (network H (s + 2) s (s + 1)) st' l' c
+    → (b : Bool) (st' l' : List ℕ) → Relisted H (s + 2) st l b st' l' → Runnable (network H (s + 2) s (s + 1)) st' l' c
 unfolding head
 runs-listed H c k s st l A room places b st' l' e =
     let v = network-nodes H (s + 2) in
@@ -99,7 +98,7 @@ module _ (us : List ℕ) (vs : List Float) (ts : List ℕ) (ws : List Float) (n 
       between-accepted n R (jumpsOf us vs) (jumpsOf ts ws) (in-range us vs (fitting .left .range)) (in-range ts ws (fitting .right .range)) (omega arith) (omega arith)
 
   -- what is claimed of the run
-  pub claimed : (R : List Bool) → Bounded (networkBetween n R (jumpsOf us vs) (jumpsOf ts ws)) (caps (linksOf n R (jumpsOf us vs) (jumpsOf ts ws))) (length (linksOf n R (jumpsOf us vs) (jumpsOf ts ws))) (runBetween n R (jumpsOf us vs) (jumpsOf ts ws))
+  pub claimed : (R : List Bool) → FlowClaim (networkBetween n R (jumpsOf us vs) (jumpsOf ts ws)) (caps (linksOf n R (jumpsOf us vs) (jumpsOf ts ws))) (length (linksOf n R (jumpsOf us vs) (jumpsOf ts ws))) (runBetween n R (jumpsOf us vs) (jumpsOf ts ws))
   claimed R = flow-run (networkBetween n R (jumpsOf us vs) (jumpsOf ts ws)) (caps (linksOf n R (jumpsOf us vs) (jumpsOf ts ws))) (length (linksOf n R (jumpsOf us vs) (jumpsOf ts ws))) (between R)
 
 module _ {us : List ℕ} {vs : List Float} {ts : List ℕ} {ws : List Float} {n : ℕ} (store : List ℕ) {h : List ℕ} {k : ℕ} {h' : List ℕ} {c' : List Float} (L : Laid us vs ts ws n (relationOf store) h k h' c') where

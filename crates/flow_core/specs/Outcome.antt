@@ -7,7 +7,7 @@ use lib.ListN.{length}
 use lib.Ieee.{Float}
 use Rattle.flow_theory.specs.Run.{FlowRun, maxFlow, allPushes}
 use Rattle.flow_theory.specs.Rows.{network}
-use Rattle.flow_theory.specs.Claim.{Bounded}
+use Rattle.flow_theory.specs.Claim.{FlowClaim}
 use Rattle.flow_check.specs.Refusal.{accepts}
 use Rattle.flow_core.specs.declared.rows.Answer.{Answer}
 use Rattle.flow_core.specs.declared.rows.Answer.the-variants as says
@@ -31,4 +31,4 @@ flowOn H c p starts list n s t = settled (accepts H c p starts list n s t) (maxF
 
 -- what is claimed of that run: V nodes, E added links, which are two links each
 abbrev pub Claimed : List ℕ → List Float → List Float → List ℕ → List ℕ → ℕ → ℕ → ℕ → Type 0
-Claimed H c p starts list n s t = accepts H c p starts list n s t ≡ true → Bounded (network H n s t) c (length H / 2) (maxFlow (network H n s t) c)
+Claimed H c p starts list n s t = accepts H c p starts list n s t ≡ true → FlowClaim (network H n s t) c (length H / 2) (maxFlow (network H n s t) c)

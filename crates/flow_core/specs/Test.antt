@@ -5,7 +5,7 @@ use mathlib.Core.Bool.{Bool, true}
 use mathlib.Core.List.{List, []}
 use lib.ListN.{length}
 use lib.Ieee.{Float}
-use Rattle.flow_theory.specs.Claim.{Bounded}
+use Rattle.flow_theory.specs.Claim.{FlowClaim}
 use Rattle.epsdelta_theory.specs.Jumps.{jumpsOf}
 use Rattle.epsdelta_theory.specs.FlowTest.{caps, linksOf, networkBetween, runBetween}
 use Rattle.flow_links.specs.Fits.{fits}
@@ -18,4 +18,4 @@ flowBetween us vs ts ws n R = settled (fits us vs ts ws n) (runBetween n R (jump
 
 -- what is claimed of that run
 abbrev pub ClaimedBetween : List ℕ → List Float → List ℕ → List Float → ℕ → List Bool → Type 0
-ClaimedBetween us vs ts ws n R = fits us vs ts ws n ≡ true → let ps = jumpsOf us vs in let pt = jumpsOf ts ws in Bounded (networkBetween n R ps pt) (caps (linksOf n R ps pt)) (length (linksOf n R ps pt)) (runBetween n R ps pt)
+ClaimedBetween us vs ts ws n R = fits us vs ts ws n ≡ true → let ps = jumpsOf us vs in let pt = jumpsOf ts ws in FlowClaim (networkBetween n R ps pt) (caps (linksOf n R ps pt)) (length (linksOf n R ps pt)) (runBetween n R ps pt)

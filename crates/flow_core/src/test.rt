@@ -13,7 +13,7 @@ ghost use lib.ListN.{length};
 ghost use Rattle.flow_theory.proofs.Accepted.{Accepted};
 ghost use Rattle.flow_theory.specs.Rows.{network};
 ghost use Rattle.flow_theory.specs.Run.{maxFlow};
-ghost use Rattle.flow_links.specs.Writing.{relationOf};
+ghost use Rattle.epsdelta_theory.specs.Relation.{relationOf};
 ghost use Rattle.flow_links.proofs.Fitting.{Roomy};
 ghost use Rattle.flow_core.specs.Outcome.{settled};
 ghost use Rattle.flow_core.specs.Test.{flowBetween, ClaimedBetween};

@@ -1,7 +1,7 @@
 -- Two rows that fit a flow test: what the checks say, that their links have room, and what stands in both rows once they are written.
 use mathlib.Core.Path.{_≡_, refl, sym, ap, _∙_}
 use Prim.Native.Nat.{ℕ, _+_, _-_, _*_, _≤_, _<_}
-use mathlib.Core.Bool.{Bool, true, false, _&&_, false≢true}
+use mathlib.Core.Bool.{Bool, true, false, _&&_, cond, false≢true}
 use mathlib.Core.List.{List, _++_}
 use native.Mathlib.Omega.{arith}
 use native.Mathlib.Nat.{mul-le-mul, mul-comm}
@@ -13,11 +13,11 @@ use borrow.Author.Tests.{eqb-true, le-leb, lt-leb}
 use Rattle.numbers.specs.Lists.{all, over}
 use Rattle.numbers.proofs.Bools.{t-of, and-t}
 use Rattle.epsdelta_theory.specs.Jumps.{jumpsOf}
+use Rattle.epsdelta_theory.specs.Relation.{relationOf}
 use Rattle.epsdelta_theory.specs.FlowTest.{Link, linksOf, heads, caps}
 use Rattle.epsdelta_theory.proofs.FlowTests.{heads-length, caps-length}
-use Rattle.epsdelta_theory.proofs.LinkRows.{Added, Free, rowLinks}
+use Rattle.epsdelta_theory.proofs.LinkRows.{Added, Free, hasRoom, rowLinks}
 use Rattle.flow_links.specs.Fits.{rateFits, rowFits, fits}
-use Rattle.flow_links.specs.Writing.{hasRoom, relationOf, Written, wrote, writeIf, write}
 use Rattle.flow_links.proofs.LinkWrites.{links-are, links-most}
 
 -- where the bits of a state start
@@ -87,29 +87,34 @@ module _ {us : List ℕ} {vs : List Float} {ts : List ℕ} {ws : List Float} {n 
 
 -- ---- what is written
 
+-- is there room in both rows
+abbrev rooms : List ℕ → List ℕ → List ℕ → List Float → Bool
+rooms us ts h c = hasRoom (length us) (length ts) (length h) && hasRoom (length us) (length ts) (length c)
+
+-- what `write_links` says: whether links were written, how many places they take, and both rows then
+abbrev pub Written : List ℕ → List Float → List ℕ → List Float → ℕ → List Bool → List ℕ → List Float → Bool → ℕ → List ℕ → List Float → Type 0
+Written us vs ts ws n R h c d k h' c' =
+    let ls = linksOf n R (jumpsOf us vs) (jumpsOf ts ws) in
+    (d ≡ (fits us vs ts ws n && rooms us ts h c)) × ((k ≡ cond d (length (heads ls)) 0) × ((h' ≡ cond d (over (heads ls) h) h) × (c' ≡ cond d (over (caps ls) c) c)))
+
 laid-over : {A : Type 0} (new old l : List A) (k : ℕ) → k ≡ length new → take k l ≡ new → drop k l ≡ drop k old → l ≡ over new old
 laid-over {A} new old l k z a b = sym (take-append-drop k l) ∙ ap (λ (x : List A). x ++ drop k l) a ∙ ap (λ (x : List A). new ++ x) (b ∙ ap (λ (i : ℕ). drop i old) z)
 
 module _ (us : List ℕ) (vs : List Float) (ts : List ℕ) (ws : List Float) (n : ℕ) (f : fits us vs ts ws n ≡ true) where
   pub done-is : (store h : List ℕ) (c : List Float) → (hasRoom (length us) (length ts) (length h) && hasRoom (length us) (length ts) (length c)) ≡ true
-      → {k : ℕ} {h' : List ℕ} {c' : List Float} → Added (rowLinks store n us vs ts ws) h c 0 h' c' k → wrote true k h' c' ≡ write us vs ts ws n (relationOf store) h c
+      → {k : ℕ} {h' : List ℕ} {c' : List Float} → Added (rowLinks store n us vs ts ws) h c 0 h' c' k → Written us vs ts ws n (relationOf store) h c true k h' c'
   done-is store h c e {k} {h'} {c'} A =
       let F = fit us vs ts ws n f in
       let ls = linksOf n (relationOf store) (jumpsOf us vs) (jumpsOf ts ws) in
       let z : rowLinks store n us vs ts ws ≡ ls = links-are n store us vs ts ws (F .left .rates) (F .right .rates) in
       let p : k ≡ length (heads ls) = A .count ∙ ap (λ (l : List Link). 0 + (length l + length l)) z ∙ let q = heads-length ls in omega arith in
-      let hs : h' ≡ over (heads ls) h = laid-over (heads ls) h h' k p (A .heads-is ∙ ap heads z) (A .heads-rest) in
-      let cs : c' ≡ over (caps ls) c = laid-over (caps ls) c c' k (p ∙ sym (caps-length ls)) (A .caps-is ∙ ap caps z) (A .caps-rest) in
-      ap (λ (x : ℕ). wrote true x h' c') p
-      ∙ ap (λ (x : List ℕ). wrote true (length (heads ls)) x c') hs
-      ∙ ap (λ (x : List Float). wrote true (length (heads ls)) (over (heads ls) h) x) cs
-      ∙ ap (λ (b : Bool). writeIf b ls h c) (sym (ap (λ (b : Bool). b && (hasRoom (length us) (length ts) (length h) && hasRoom (length us) (length ts) (length c))) f ∙ e))
+      (sym (ap (λ (b : Bool). b && rooms us ts h c) f ∙ e), (p, (laid-over (heads ls) h h' k p (A .heads-is ∙ ap heads z) (A .heads-rest), laid-over (caps ls) c c' k (p ∙ sym (caps-length ls)) (A .caps-is ∙ ap caps z) (A .caps-rest))))
 
-  pub no-room : (R : List Bool) (h : List ℕ) (c : List Float) → (hasRoom (length us) (length ts) (length h) && hasRoom (length us) (length ts) (length c)) ≡ false → wrote false 0 h c ≡ write us vs ts ws n R h c
-  no-room R h c e = ap (λ (b : Bool). writeIf b (linksOf n R (jumpsOf us vs) (jumpsOf ts ws)) h c) (sym (ap (λ (b : Bool). b && (hasRoom (length us) (length ts) (length h) && hasRoom (length us) (length ts) (length c))) f ∙ e))
+  pub no-room : (R : List Bool) (h : List ℕ) (c : List Float) → (hasRoom (length us) (length ts) (length h) && hasRoom (length us) (length ts) (length c)) ≡ false → Written us vs ts ws n R h c false 0 h c
+  no-room R h c e = (sym (ap (λ (b : Bool). b && rooms us ts h c) f ∙ e), (refl, (refl, refl)))
 
-pub no-fit : (us : List ℕ) (vs : List Float) (ts : List ℕ) (ws : List Float) (n : ℕ) (R : List Bool) (h : List ℕ) (c : List Float) → fits us vs ts ws n ≡ false → wrote false 0 h c ≡ write us vs ts ws n R h c
-no-fit us vs ts ws n R h c f = ap (λ (b : Bool). writeIf (b && (hasRoom (length us) (length ts) (length h) && hasRoom (length us) (length ts) (length c))) (linksOf n R (jumpsOf us vs) (jumpsOf ts ws)) h c) (sym f)
+pub no-fit : (us : List ℕ) (vs : List Float) (ts : List ℕ) (ws : List Float) (n : ℕ) (R : List Bool) (h : List ℕ) (c : List Float) → fits us vs ts ws n ≡ false → Written us vs ts ws n R h c false 0 h c
+no-fit us vs ts ws n R h c f = (sym (ap (λ (b : Bool). b && rooms us ts h c) f), (refl, (refl, refl)))
 
 -- ---- what the rows are for whoever asked
 
@@ -136,25 +141,17 @@ module _ (us : List ℕ) (vs : List Float) (ts : List ℕ) (ws : List Float) (n 
   abbrev links : List Link
   links = linksOf n (relationOf store) (jumpsOf us vs) (jumpsOf ts ws)
 
-  abbrev rooms : Bool
-  rooms = hasRoom (length us) (length ts) (length h) && hasRoom (length us) (length ts) (length c)
-
-  written-is : (b : Bool) {k : ℕ} {h' : List ℕ} {c' : List Float} → wrote true k h' c' ≡ writeIf b links h c → (b ≡ true) × (wrote true k h' c' ≡ wrote true (length (heads links)) (over (heads links) h) (over (caps links) c))
-  written-is true e = (refl, e)
-  written-is false e = absurd (false≢true (sym (ap (λ (w : Written). w .done) e)))
-
-  pub laid : {d : Bool} {k : ℕ} {h' : List ℕ} {c' : List Float} → wrote d k h' c' ≡ write us vs ts ws n (relationOf store) h c → d ≡ true → Laid us vs ts ws n (relationOf store) h k h' c'
-  laid {d} {k} {h'} {c'} e t =
-      let (b, w) = written-is (fits us vs ts ws n && rooms) (ap (λ (x : Bool). wrote x k h' c') (sym t) ∙ e) in
-      let (f, r) = and-t (fits us vs ts ws n) rooms b in
+  pub laid : {d : Bool} {k : ℕ} {h' : List ℕ} {c' : List Float} → Written us vs ts ws n (relationOf store) h c d k h' c' → d ≡ true → Laid us vs ts ws n (relationOf store) h k h' c'
+  laid {d} {k} {h'} {c'} w t =
+      let (f, r) = and-t (fits us vs ts ws n) (rooms us ts h c) (sym (w .0) ∙ t) in
       let F = fit us vs ts ws n f in
       let free = room F store h c r .heads-room in
       let m = ap length (links-are n store us vs ts ws (F .left .rates) (F .right .rates)) in
       let l = heads-length links in
-      let p : k ≡ length (heads links) = ap (λ (x : Written). x .places) w in
+      let p : k ≡ length (heads links) = w .1 .0 ∙ ap (λ (b : Bool). cond b (length (heads links)) 0) t in
       let q : k ≡ length (caps links) = p ∙ sym (caps-length links) in
-      let hs : h' ≡ over (heads links) h = ap (λ (x : Written). x .heads) w in
-      let cs : c' ≡ over (caps links) c = ap (λ (x : Written). x .caps) w in
+      let hs : h' ≡ over (heads links) h = w .1 .1 .0 ∙ ap (λ (b : Bool). cond b (over (heads links) h) h) t in
+      let cs : c' ≡ over (caps links) c = w .1 .1 .1 ∙ ap (λ (b : Bool). cond b (over (caps links) c) c) t in
       let i : length h' ≡ length (heads links) + (length h - length (heads links)) = ap length hs ∙ length-append (heads links) (drop (length (heads links)) h) ∙ ap (λ (x : ℕ). length (heads links) + x) (length-drop (length (heads links)) h) in
       let j = ap length cs ∙ length-append (caps links) (drop (length (caps links)) c) in
       record {
@@ -166,14 +163,10 @@ module _ (us : List ℕ) (vs : List Float) (ts : List ℕ) (ws : List Float) (n 
         heads-size = omega arith;
       }
 
-  unwritten-is : (b : Bool) {k : ℕ} {h' : List ℕ} {c' : List Float} → wrote false k h' c' ≡ writeIf b links h c → b ≡ false
-  unwritten-is true e = absurd (false≢true (ap (λ (w : Written). w .done) e))
-  unwritten-is false e = refl
-
   -- where there is room for rows that fit, they did not fit
-  pub unlaid : {d : Bool} {k : ℕ} {h' : List ℕ} {c' : List Float} → wrote d k h' c' ≡ write us vs ts ws n (relationOf store) h c → d ≡ false → Roomy us vs ts ws n h c → fits us vs ts ws n ≡ false
-  unlaid {d} {k} {h'} {c'} e t r = pick (fits us vs ts ws n) (unwritten-is (fits us vs ts ws n && rooms) (ap (λ (x : Bool). wrote x k h' c') (sym t) ∙ e)) r
+  pub unlaid : {d : Bool} {k : ℕ} {h' : List ℕ} {c' : List Float} → Written us vs ts ws n (relationOf store) h c d k h' c' → d ≡ false → Roomy us vs ts ws n h c → fits us vs ts ws n ≡ false
+  unlaid w t r = pick (fits us vs ts ws n) (sym (w .0) ∙ t) r
     where
-      pick : (b : Bool) → (b && rooms) ≡ false → (b ≡ true → rooms ≡ true) → b ≡ false
+      pick : (b : Bool) → (b && rooms us ts h c) ≡ false → (b ≡ true → rooms us ts h c ≡ true) → b ≡ false
       pick true x y = absurd (false≢true (sym x ∙ y refl))
       pick false x y = refl

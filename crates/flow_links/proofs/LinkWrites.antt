@@ -16,10 +16,9 @@ use Rattle.numbers.specs.Bits.{bitAt, packed}
 use Rattle.numbers.proofs.Packed.{unpack-at, unpack-length, packed-bit}
 use Rattle.numbers.proofs.Bools.{lt-or-ge}
 use Rattle.epsdelta_theory.specs.Jumps.{Jump, jumpsOf}
-use Rattle.epsdelta_theory.specs.Relation.{holds}
+use Rattle.epsdelta_theory.specs.Relation.{holds, relationOf}
 use Rattle.epsdelta_theory.specs.FlowTest.{Link, linkIf, sourceLinks, sinkLinks, crossLinks, allCrossLinks, linksOf, heads, caps}
 use Rattle.epsdelta_theory.proofs.RowReads.{jumps-length}
-use Rattle.flow_links.specs.Writing.{relationOf}
 use Rattle.epsdelta_theory.proofs.LinkRows.{Added, Free, sourceRow, sinkRow, crossRow, crossRows, rowLinks}
 
 heads-append : (xs ys : List Link) → heads (xs ++ ys) ≡ heads xs ++ heads ys

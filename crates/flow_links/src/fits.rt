@@ -26,7 +26,7 @@ fn rates_fit(rates: &[f64]) -> bool
 }
 
 // At most 31 targets, each with a rate from 0 to 2^40.
-fn row_fits(targets: &[u32], rates: &[f64]) -> bool
+pub fn row_fits(targets: &[u32], rates: &[f64]) -> bool
     ensures { λ r. ⌜ r ≡ rowFits (now (targets .entry)) (now (rates .entry)) ⌝ }
 {
     if targets.len() <= 31 {

@@ -3,14 +3,18 @@ use crate::fits;
 use numbers::bit;
 use numbers::infinity;
 ghost use mathlib.Core.Path.{_≡_};
-ghost use Prim.Native.Nat.{_+_, _≤_};
-ghost use mathlib.Core.Bool.{true, _&&_};
+ghost use Prim.Native.Nat.{_+_, _*_, _≤_};
+ghost use mathlib.Core.Bool.{true, _&&_, cond};
 ghost use mathlib.Core.List.{[], _∷_};
+ghost use lib.Dec.{leb};
 ghost use lib.ListN.{length};
-ghost use Rattle.epsdelta_theory.specs.FlowTest.{linkIf};
-ghost use Rattle.epsdelta_theory.proofs.LinkRows.{Added, Free, sourceRow, sinkRow, crossRow, crossRows, rowLinks};
+ghost use Rattle.numbers.specs.Lists.{over};
+ghost use Rattle.epsdelta_theory.specs.Jumps.{jumpsOf};
+ghost use Rattle.epsdelta_theory.specs.Relation.{relationOf};
+ghost use Rattle.epsdelta_theory.specs.FlowTest;
+ghost use Rattle.epsdelta_theory.specs.FlowTest.{linkIf, linksOf};
+ghost use Rattle.epsdelta_theory.proofs.LinkRows.{Added, Free, hasRoom, sourceRow, sinkRow, crossRow, crossRows, rowLinks};
 ghost use Rattle.flow_links.specs.Fits.{fits};
-ghost use Rattle.flow_links.specs.Writing.{hasRoom, relationOf, wrote, write};
 
 // Writes a link at place e, and its reverse after it.
 fn put(heads: &mut [u32], caps: &mut [f64], e: usize, from: usize, to: usize, cap: f64)
@@ -179,7 +183,7 @@ pub struct Links {
     pub places: usize,
 }
 
-// Writes the links of a flow test into lent rows; where the rows do not fit, or have no room, nothing is written.
+// Writes the links of a flow test over lent rows, heads and capacities; where the jumps do not fit, or there is no room for all links between their targets, nothing is written.
 pub fn write_links(
     left_targets: &[u32],
     left_rates: &[f64],
@@ -190,7 +194,10 @@ pub fn write_links(
     heads: &mut [u32],
     caps: &mut [f64],
 ) -> Links
-    ensures { λ r. ⌜ wrote (r .done) (r .places) (now (heads .exit)) (now (caps .exit)) ≡ write (now («left_targets» .entry)) (now («left_rates» .entry)) (now («right_targets» .entry)) (now («right_rates» .entry)) states (relationOf (now (relation .entry))) (now (heads .entry)) (now (caps .entry)) ⌝ }
+    ensures { λ r. ⌜ r .done ≡ (fits (now («left_targets» .entry)) (now («left_rates» .entry)) (now («right_targets» .entry)) (now («right_rates» .entry)) states && (leb (2 * (length (now («left_targets» .entry)) + length (now («right_targets» .entry)) + length (now («left_targets» .entry)) * length (now («right_targets» .entry)))) (length (now (heads .entry))) && leb (2 * (length (now («left_targets» .entry)) + length (now («right_targets» .entry)) + length (now («left_targets» .entry)) * length (now («right_targets» .entry)))) (length (now (caps .entry))))) ⌝ }
+    ensures { λ r. ⌜ r .places ≡ cond (r .done) (length (FlowTest.heads (linksOf states (relationOf (now (relation .entry))) (jumpsOf (now («left_targets» .entry)) (now («left_rates» .entry))) (jumpsOf (now («right_targets» .entry)) (now («right_rates» .entry)))))) 0 ⌝ }
+    ensures { λ r. ⌜ now (heads .exit) ≡ cond (r .done) (over (FlowTest.heads (linksOf states (relationOf (now (relation .entry))) (jumpsOf (now («left_targets» .entry)) (now («left_rates» .entry))) (jumpsOf (now («right_targets» .entry)) (now («right_rates» .entry))))) (now (heads .entry))) (now (heads .entry)) ⌝ }
+    ensures { λ r. ⌜ now (caps .exit) ≡ cond (r .done) (over (FlowTest.caps (linksOf states (relationOf (now (relation .entry))) (jumpsOf (now («left_targets» .entry)) (now («left_rates» .entry))) (jumpsOf (now («right_targets» .entry)) (now («right_rates» .entry))))) (now (caps .entry))) (now (caps .entry)) ⌝ }
 {
     if fits::rows_fit(left_targets, left_rates, right_targets, right_rates, states) {
         if has_room(

@@ -12,7 +12,7 @@ use Rattle.numbers.specs.Real.{nought, half, greatestWeight, eps}
 use Rattle.numbers.proofs.Comparisons.{fin-inf}
 use Rattle.flow_theory.specs.Network.{Net, head, tail, left, nodeLists}
 use Rattle.flow_theory.specs.Run.{maxFlow}
-use Rattle.flow_theory.specs.Claim.{Bounded, inCut}
+use Rattle.flow_theory.specs.Claim.{FlowClaim, inCut}
 use Rattle.flow_theory.proofs.Accepted.{Accepted}
 use Rattle.flow_theory.proofs.Theorem.{flow-run}
 
@@ -95,5 +95,5 @@ m3-accepted = record {
     finites (suc (suc (suc zero))) l f = fin-inf _ _ _
     finites (suc (suc (suc (suc e)))) l f = absurd (omega arith)
 
-m3-bounded : Bounded line caps 2 (maxFlow line caps)
-m3-bounded = flow-run line caps 2 m3-accepted
+m3-claimed : FlowClaim line caps 2 (maxFlow line caps)
+m3-claimed = flow-run line caps 2 m3-accepted

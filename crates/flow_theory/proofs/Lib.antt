@@ -14,7 +14,6 @@ pub mod PathRows
 pub mod RunRows
 pub mod Outs
 pub mod Lists
-pub mod Adds
 pub mod Enlisted
 pub mod Indexing
 pub mod Standing

@@ -1,4 +1,4 @@
--- A whole run on a well-formed network keeps `Bounded`.
+-- A whole run on a well-formed network keeps `FlowClaim`.
 -- Invariant: the sink's level rose with each phase, so there were no more phases than its last level; where the levels do not reach the sink, no residual link leads out of the nodes with a level.
 use mathlib.Core.Path.{_≡_, refl, sym, ap, _∙_}
 use Prim.Native.Nat.{ℕ, zero, suc, _≤_, _<_, _+_, _-_}
@@ -13,7 +13,7 @@ use Rattle.flow_theory.specs.Network.{Net, nodes, head, tail, left, resi
 use Rattle.flow_theory.specs.Levels.{unset, levelOf, levels}
 use Rattle.flow_theory.specs.Run.{phase, Phase, FlowRun, afterPhase, atEnd, run, start, maxFlow}
 use Rattle.numbers.specs.Real.{eps}
-use Rattle.flow_theory.specs.Claim.{lastSinkLevel, Phases, PhaseTrail, inCut, Bounded}
+use Rattle.flow_theory.specs.Claim.{lastSinkLevel, Phases, PhaseTrail, inCut, FlowClaim}
 use borrow.Author.Tests.{eq-eqb, eqb-false, eqb-true, ne-eqb}
 use Rattle.flow_theory.proofs.Links.{HasLevel, WellFormed, Caps}
 use Rattle.flow_theory.proofs.Levels.{Levels, levels-ok, Pred}
@@ -49,15 +49,15 @@ module _ (N : Net) (G : WellFormed N) where
   not-b false e = refl
 
   finished : (c : List Float) (s : FlowRun) (k : ℕ) → Running s k → PhaseTrail N c (s .phases) s → (L : List ℕ) → L ≡ levels N (s .cap) → Levels N (s .cap) L → levelOf L (N .sink) ≡ unset
-      → Bounded N c (G .added) (atEnd s L)
+      → FlowClaim N c (G .added) (atEnd s L)
   unfolding atEnd inCut
   finished c s k I T L q B h = record {
-    few-phases = let n = phases-length (G .added) (s .phases) (I .phases) in let l = I .low in omega arith;
-    each-phase = I .phases;
+    bounded = record {
+      few-phases = let n = phases-length (G .added) (s .phases) (I .phases) in let l = I .low in omega arith;
+      each-phase = I .phases;
+      cut = record { source-in = ap not ((ne-eqb _ _) source-set); sink-out = ap not ((eq-eqb _ _) h); none-out = λ e l i o. pick e (not-b _ i) o (residual (s .cap) e) refl };
+    };
     traced = record { last = s; trail = T; unreached = rw (← q) h; ends = rw (← q) };
-    source-in = ap not ((ne-eqb _ _) source-set);
-    sink-out = ap not ((eq-eqb _ _) h);
-    cut = λ e l i o. pick e (not-b _ i) o (residual (s .cap) e) refl;
   }
     where
       source-set : HasLevel L (N .source)
@@ -81,7 +81,7 @@ module _ (N : Net) (G : WellFormed N) where
         rise = λ L' B' h'. rises N G (s .cap) L B (phase N s L) P L' B' h';
       }
 
-  ran : (c : List Float) (k : ℕ) (s : FlowRun) → Running s k → PhaseTrail N c (s .phases) s → Bounded N c (G .added) (run N k s)
+  ran : (c : List Float) (k : ℕ) (s : FlowRun) → Running s k → PhaseTrail N c (s .phases) s → FlowClaim N c (G .added) (run N k s)
   ran c zero s I T = let f = I .fuel in let l = I .low in absurd (omega arith)
   ran c (suc k) s I T = pick (λ t J U. ran c k t J U) (eqb (levelOf L (N .sink)) unset) refl
     where
@@ -91,8 +91,8 @@ module _ (N : Net) (G : WellFormed N) where
       B : Levels N (s .cap) L
       B = levels-ok N G (s .cap) (I .caps)
 
-      pick : ((t : FlowRun) → Running t k → PhaseTrail N c (t .phases) t → Bounded N c (G .added) (run N k t)) → (b : Bool) → eqb (levelOf L (N .sink)) unset ≡ b
-          → Bounded N c (G .added) (run N (suc k) s)
+      pick : ((t : FlowRun) → Running t k → PhaseTrail N c (t .phases) t → FlowClaim N c (G .added) (run N k t)) → (b : Bool) → eqb (levelOf L (N .sink)) unset ≡ b
+          → FlowClaim N c (G .added) (run N (suc k) s)
       pick again true t = rw (run-end N k s ((eqb-true _ _) t)) (finished c s (suc k) I T L refl B ((eqb-true _ _) t))
       pick again false f = rw (run-on N k s ((eqb-false _ _) f)) (again (afterPhase N s L) (onwards s k I L B ((eqb-false _ _) f)) (trail-on N G c s (I .caps) B ((eqb-false _ _) f) T))
 
@@ -107,6 +107,6 @@ module _ (N : Net) (G : WellFormed N) where
           pick (inr (e, l, q, t)) = omega arith
 
   -- every run on an accepted network
-  pub bounded : (c : List Float) → Caps N c → Bounded N c (G .added) (maxFlow N c)
+  pub claimed : (c : List Float) → Caps N c → FlowClaim N c (G .added) (maxFlow N c)
   unfolding maxFlow
-  bounded c C = ran c (nodes N) (start c) (run-starts c C) refl
+  claimed c C = ran c (nodes N) (start c) (run-starts c C) refl

@@ -1,4 +1,4 @@
--- The theorem of every flow run: on an accepted network it keeps `Bounded`.
+-- The theorem of every flow run: on an accepted network it keeps `FlowClaim`.
 -- Node lists that adding the links in order gives hold each link once, at the node that it leaves, so an accepted network is well formed, and its run is one of Runs.antt.
 use mathlib.Core.Path.{_≡_, refl, sym, subst, subst⁻¹, ap, _∙_}
 use Prim.Native.Nat.{ℕ, zero, suc, _≤_, _<_, _+_}
@@ -20,8 +20,8 @@ use Rattle.flow_theory.proofs.Links.{rev-in, WellFormed, Caps}
 use Rattle.numbers.specs.Lists.{In}
 use Rattle.numbers.proofs.Members.{in-last, in-left, in-snoc}
 use Rattle.numbers.proofs.Floats.{Low}
-use Rattle.flow_theory.proofs.Runs.{bounded}
-use Rattle.flow_theory.specs.Claim.{Bounded}
+use Rattle.flow_theory.proofs.Runs.{claimed}
+use Rattle.flow_theory.specs.Claim.{FlowClaim}
 use Rattle.flow_theory.proofs.Accepted.{Accepted}
 
 abbrev pub row : List (List ℕ) → ℕ → List ℕ
@@ -130,6 +130,6 @@ accepted-caps N c added A = record { size = A .size; low = λ e l f. pick e l f 
     pick e l f (inr q) = absurd (A .finite e l f q)
 
 -- every flow run on an accepted network, of any number of nodes and links
-pub flow-run : (N : Net) (c : List Float) (added : ℕ) → Accepted N c added → Bounded N c added (maxFlow N c)
+pub flow-run : (N : Net) (c : List Float) (added : ℕ) → Accepted N c added → FlowClaim N c added (maxFlow N c)
 unfolding accepted-good made
-flow-run N c added A = bounded N (accepted-good N c added A) c (accepted-caps N c added A)
+flow-run N c added A = claimed N (accepted-good N c added A) c (accepted-caps N c added A)

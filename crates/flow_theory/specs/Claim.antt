@@ -66,11 +66,19 @@ unfoldable pub inCut : FlowRun → ℕ → Bool
 unfolding levelOf unset
 inCut r v = not (eqb (levelOf (r .level) v) unset)
 
--- at most V - 1 phases, at most E pushes in each, its own steps; the cut holds the source and not the sink, and no link out of it, reverses included, has over 1e-12 left
-pub record Bounded (N : Net) (c : List Float) (added : ℕ) (r : FlowRun) : Type 0 where
-  pub few-phases : length (r .phases) < nodes N
-  pub each-phase : Phases added (r .phases)
-  pub traced : Traced N c r
+-- it holds the source and not the sink, and no link out of it, reverses included, has over 1e-12 left
+pub record Cut (N : Net) (r : FlowRun) : Type 0 where
   pub source-in : inCut r (N .source) ≡ true
   pub sink-out : inCut r (N .sink) ≡ false
-  pub cut : (e : ℕ) → e < links N → inCut r (tail N e) ≡ true → inCut r (head N e) ≡ false → lt eps (left (r .cap) e) ≡ false
+  pub none-out : (e : ℕ) → e < links N → inCut r (tail N e) ≡ true → inCut r (head N e) ≡ false → lt eps (left (r .cap) e) ≡ false
+
+-- at most V - 1 phases, at most E pushes in each, the sink's level higher in each than in the one before; and a cut at the end
+pub record Bounded (N : Net) (added : ℕ) (r : FlowRun) : Type 0 where
+  pub few-phases : length (r .phases) < nodes N
+  pub each-phase : Phases added (r .phases)
+  pub cut : Cut N r
+
+-- what is claimed of a run from capacities c: its bounds, and that its phases and pushes are its own steps
+pub record FlowClaim (N : Net) (c : List Float) (added : ℕ) (r : FlowRun) : Type 0 where
+  pub bounded : Bounded N added r
+  pub traced : Traced N c r

@@ -1,13 +1,16 @@
 // The kind `build`: a model from transitions in columns.
-use crate::answers;
-use crate::answers::Answer;
 use crate::entries;
+use crate::fronts;
 use crate::outcomes;
-use crate::tally;
-use crate::text;
-use crate::text::Reader;
 use bisim_build::builder;
 use bisim_core::wlts::Initial;
+use replay_text::answers;
+use replay_text::answers::Answer;
+use replay_text::columns;
+use replay_text::lists;
+use replay_text::tally;
+use replay_text::text;
+use replay_text::text::Reader;
 
 struct Asked {
     states: usize,
@@ -27,11 +30,11 @@ fn compare(
     edge_weights: &[f64],
 ) -> Reader {
     let s = answers::expect_two(buf, r, a);
-    let t = text::expect_list(buf, s, label_values);
-    let u = text::expect_list(buf, t, offsets);
-    let v = text::expect_list(buf, u, edge_labels);
-    let w = text::expect_list(buf, v, edge_targets);
-    text::expect_reals(buf, w, edge_weights)
+    let t = lists::expect_list(buf, s, label_values);
+    let u = lists::expect_list(buf, t, offsets);
+    let v = lists::expect_list(buf, u, edge_labels);
+    let w = lists::expect_list(buf, v, edge_targets);
+    lists::expect_reals(buf, w, edge_weights)
 }
 
 fn check(
@@ -90,16 +93,16 @@ fn run_lent(
     let mut el_store = [0u32; 2112];
     let mut et_store = [0u32; 2112];
     let mut ew_store = [0.0f64; 2112];
-    let l = text::list_field(buf, r, &mut l_store);
-    let label_values = text::front_mut(&mut l_store, l.n);
-    let o = text::list_field(buf, l.r, &mut o_store);
-    let offsets = text::front_mut(&mut o_store, o.n);
-    let el = text::list_field(buf, o.r, &mut el_store);
-    let edge_labels = text::front_mut(&mut el_store, el.n);
-    let et = text::list_field(buf, el.r, &mut et_store);
-    let edge_targets = text::front_mut(&mut et_store, et.n);
-    let ew = text::reals_field(buf, et.r, &mut ew_store);
-    let edge_weights = text::reals_front_mut(&mut ew_store, ew.n);
+    let l = lists::list_field(buf, r, &mut l_store);
+    let label_values = fronts::front_mut(&mut l_store, l.n);
+    let o = lists::list_field(buf, l.r, &mut o_store);
+    let offsets = fronts::front_mut(&mut o_store, o.n);
+    let el = lists::list_field(buf, o.r, &mut el_store);
+    let edge_labels = fronts::front_mut(&mut el_store, el.n);
+    let et = lists::list_field(buf, el.r, &mut et_store);
+    let edge_targets = fronts::front_mut(&mut et_store, et.n);
+    let ew = lists::reals_field(buf, et.r, &mut ew_store);
+    let edge_weights = fronts::reals_front_mut(&mut ew_store, ew.n);
     check(
         buf,
         ew.r,
@@ -122,18 +125,18 @@ fn run_columns(buf: &mut [u8; 65536], r: Reader, x: Asked) -> Reader {
     let mut labels = [0u32; 2112];
     let mut targets = [0u32; 2112];
     let mut weights = [0.0f64; 2112];
-    let s = text::list_field(buf, r, &mut sources);
-    let l = text::list_field(buf, s.r, &mut labels);
-    let t = text::list_field(buf, l.r, &mut targets);
-    let w = text::reals_field(buf, t.r, &mut weights);
+    let s = lists::list_field(buf, r, &mut sources);
+    let l = lists::list_field(buf, s.r, &mut labels);
+    let t = lists::list_field(buf, l.r, &mut targets);
+    let w = lists::reals_field(buf, t.r, &mut weights);
     run_lent(
         buf,
         w.r,
         x,
-        text::front(&sources, s.n),
-        text::front(&labels, l.n),
-        text::front(&targets, t.n),
-        text::reals_front(&weights, w.n),
+        lists::front(&sources, s.n),
+        lists::front(&labels, l.n),
+        lists::front(&targets, t.n),
+        lists::reals_front(&weights, w.n),
     )
 }
 
@@ -141,7 +144,7 @@ pub fn run(buf: &mut [u8; 65536], r: Reader, counts: &mut [u64; 48]) -> Reader {
     let states = text::number_field(buf, r);
     let initial = text::number_field(buf, states.r);
     let given = text::number_field(buf, initial.r);
-    let start = outcomes::to_initial(initial.x);
+    let start = columns::to_initial(initial.x);
     let x = Asked {
         states: states.x as usize,
         initial: start,

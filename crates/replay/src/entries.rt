@@ -28,17 +28,3 @@ pub const SUCCESSORS: usize = 24;
 pub const LABEL: usize = 26;
 
 pub const LABEL_ID: usize = 28;
-
-pub const MAX_FLOW: usize = 30;
-
-pub const ADD_EDGE: usize = 32;
-
-pub const NEW: usize = 34;
-
-pub const EPSDELTA: usize = 36;
-
-pub const EPSDELTA_BISIMILAR: usize = 38;
-
-pub const MIN_EPSILON: usize = 40;
-
-pub const RELATED: usize = 42;

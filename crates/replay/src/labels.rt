@@ -1,12 +1,14 @@
 // The kinds `intern` and `label`: the label ids of bisim_core::ids.
-use crate::answers;
-use crate::answers::Answer;
 use crate::entries;
+use crate::fronts;
 use crate::outcomes;
-use crate::tally;
-use crate::text;
-use crate::text::Reader;
 use bisim_core::ids;
+use replay_text::answers;
+use replay_text::answers::Answer;
+use replay_text::lists;
+use replay_text::tally;
+use replay_text::text;
+use replay_text::text::Reader;
 
 struct Asked {
     count: usize,
@@ -22,7 +24,7 @@ fn compare_intern(
     a: Answer,
 ) -> Reader {
     let s = answers::expect_two(buf, r, a);
-    let t = text::expect_list(buf, s, labels);
+    let t = lists::expect_list(buf, s, labels);
     tally::count(counts, entries::INTERN, t)
 }
 
@@ -39,7 +41,7 @@ fn check_intern(
 
 pub fn run_intern(buf: &mut [u8; 65536], r: Reader, counts: &mut [u64; 48]) -> Reader {
     let mut labels = [0u32; 2112];
-    let l = text::list_field(buf, r, &mut labels);
+    let l = lists::list_field(buf, r, &mut labels);
     let count = text::number_field(buf, l.r);
     let value = text::short_field(buf, count.r);
     let x = Asked {
@@ -47,7 +49,7 @@ pub fn run_intern(buf: &mut [u8; 65536], r: Reader, counts: &mut [u64; 48]) -> R
         value: text::narrow(value.x),
         id: 0,
     };
-    check_intern(buf, value.r, counts, text::front_mut(&mut labels, l.n), x)
+    check_intern(buf, value.r, counts, fronts::front_mut(&mut labels, l.n), x)
 }
 
 fn check_label(
@@ -65,7 +67,7 @@ fn check_label(
 
 pub fn run_label(buf: &mut [u8; 65536], r: Reader, counts: &mut [u64; 48]) -> Reader {
     let mut labels = [0u32; 2112];
-    let l = text::list_field(buf, r, &mut labels);
+    let l = lists::list_field(buf, r, &mut labels);
     let count = text::number_field(buf, l.r);
     let value = text::short_field(buf, count.r);
     let id = text::short_field(buf, value.r);
@@ -74,5 +76,5 @@ pub fn run_label(buf: &mut [u8; 65536], r: Reader, counts: &mut [u64; 48]) -> Re
         value: text::narrow(value.x),
         id: text::narrow(id.x),
     };
-    check_label(buf, id.r, counts, text::front(&labels, l.n), x)
+    check_label(buf, id.r, counts, lists::front(&labels, l.n), x)
 }

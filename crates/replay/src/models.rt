@@ -1,15 +1,15 @@
 // The kind `model`: the check of a built model, and its readers.
-use crate::answers;
-use crate::columns;
 use crate::entries;
 use crate::outcomes;
-use crate::text;
-use crate::text::Reader;
 use bisim_core::ids::LabelId;
 use bisim_core::ids::StateId;
 use bisim_core::wlts;
 use bisim_core::wlts::Shape;
 use bisim_reader::reader;
+use replay_text::answers;
+use replay_text::columns;
+use replay_text::text;
+use replay_text::text::Reader;
 
 // The check, and the counts.
 fn check_counts(

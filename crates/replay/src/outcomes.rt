@@ -1,19 +1,15 @@
-// The answers of the entries, as numbers.
-use crate::answers::Answer;
-use crate::answers::given;
-use crate::answers::refused;
-use crate::text;
+// The answers of the entries on models, as numbers.
 use bisim_build::builder::Built;
 use bisim_core::ids::Found;
 use bisim_core::ids::Interned;
 use bisim_core::ids::Resolved;
-use bisim_core::ids::StateId;
 use bisim_core::wlts::Counted;
-use bisim_core::wlts::Initial;
 use bisim_core::wlts::Start;
 use bisim_core::wlts::Successors;
-use bisimilar::related::Verdict;
-use epsdelta::relation::Ended;
+use replay_text::answers::Answer;
+use replay_text::answers::given;
+use replay_text::answers::refused;
+use replay_text::text;
 
 pub fn of_interned(a: Interned) -> Answer {
     match a {
@@ -73,27 +69,4 @@ pub fn of_built(a: Built) -> Answer {
         Built::Model(shape) => given(shape.edges as u64, shape.labels as u64),
         Built::Refused(k) => refused(k),
     }
-}
-
-// The refusal, or 0.
-pub fn of_ended(a: Ended) -> u32 {
-    match a {
-        Ended::Related => 0,
-        Ended::Refused(k) => k,
-    }
-}
-
-pub fn of_verdict(a: Verdict) -> Answer {
-    match a {
-        Verdict::Related => given(1, 0),
-        Verdict::Unrelated => given(0, 0),
-        Verdict::Refused(k) => refused(k),
-    }
-}
-
-pub fn to_initial(x: u64) -> Initial {
-    if x == text::ABSENT {
-        return Initial::Absent;
-    }
-    Initial::At(StateId(text::narrow(x)))
 }

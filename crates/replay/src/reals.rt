@@ -1,10 +1,11 @@
 // The kind `real`: `Real` of the crate numbers.
-use crate::answers;
 use crate::entries;
-use crate::tally;
-use crate::text;
-use crate::text::Reader;
 use numbers::Real;
+use replay_text::answers;
+use replay_text::lists;
+use replay_text::tally;
+use replay_text::text;
+use replay_text::text::Reader;
 
 fn bit(b: bool) -> u64 {
     if b { 1 } else { 0 }
@@ -40,6 +41,6 @@ fn check(buf: &mut [u8; 65536], r: Reader, counts: &mut [u64; 48], x: f64, xs: &
 pub fn run(buf: &mut [u8; 65536], r: Reader, counts: &mut [u64; 48]) -> Reader {
     let mut xs = [0.0f64; 2112];
     let x = text::real_field(buf, r);
-    let l = text::reals_field(buf, x.r, &mut xs);
-    check(buf, l.r, counts, x.x, text::reals_front(&xs, l.n))
+    let l = lists::reals_field(buf, x.r, &mut xs);
+    check(buf, l.r, counts, x.x, lists::reals_front(&xs, l.n))
 }

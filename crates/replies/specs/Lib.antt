@@ -1,3 +1,4 @@
 pub mod Answers
 pub mod Flows
 pub mod Relations
+pub mod Texts

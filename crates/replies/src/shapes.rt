@@ -17,14 +17,21 @@ pub fn initial_of(present: u32, start: u32) -> Initial
 }
 
 // A model's counts and initial state.
-pub fn shape_of(states: usize, edges: usize, labels: usize, present: u32, start: u32) -> Shape
-    ensures { λ r. ⌜ r ≡ shape states edges labels (initial present start) ⌝ }
+pub fn shape_from(states: usize, edges: usize, labels: usize, initial: Initial) -> Shape
+    ensures { λ r. ⌜ r ≡ shape states edges labels initial ⌝ }
 {
-    let initial = initial_of(present, start);
     Shape {
         states,
         edges,
         labels,
         initial,
     }
+}
+
+// The same, the initial state in numbers.
+pub fn shape_of(states: usize, edges: usize, labels: usize, present: u32, start: u32) -> Shape
+    ensures { λ r. ⌜ r ≡ shape states edges labels (initial present start) ⌝ }
+{
+    let initial = initial_of(present, start);
+    shape_from(states, edges, labels, initial)
 }

@@ -7,10 +7,11 @@ use std::collections::BTreeMap;
 use std::process::ExitCode;
 
 use oracle::args::{FlowArgs, RunArgs};
-use oracle::generate::{Rng, build, labels, model, network, related, relation, remainders};
+use oracle::card::printed;
+use oracle::generate::{Rng, build, card, labels, model, network, related, relation, remainders};
 use oracle::ours::Ours;
 use oracle::pairs::{alike, first_difference, paired};
-use oracle::rows::{PARTS, ROWS, floors};
+use oracle::rows::{PARTS, ROWS, floors, printed_numbers};
 use oracle::sample;
 use oracle::text::{Case, Field, Value, write_case};
 
@@ -25,6 +26,23 @@ struct Entry {
     differ: u64,
     /// Comparisons by refusal number, the oracle's where it has the answer; 0 for none.
     refused: BTreeMap<u32, u64>,
+    /// Of `report`, texts by the number printed; 0 for a relation.
+    printed: BTreeMap<u32, u64>,
+}
+
+fn count(counts: &BTreeMap<u32, u64>, number: u32) -> u64 {
+    counts.get(&number).copied().unwrap_or(0)
+}
+
+/// The numbers with their counts.
+fn listed(numbers: &[u32], counts: &BTreeMap<u32, u64>) -> String {
+    if numbers.is_empty() {
+        return "none".into();
+    }
+    let each = numbers
+        .iter()
+        .map(|&number| format!("{number} {}", count(counts, number)));
+    each.collect::<Vec<_>>().join(", ")
 }
 
 #[derive(Default)]
@@ -77,13 +95,17 @@ fn show<C: Ours>(case: &C) {
 impl Tally {
     /// Counts an answer, which one of the sides may lack; true where it is to be shown.
     fn count(&mut self, expected: &[Field], got: &[Field]) -> bool {
-        let head = expected.first().unwrap_or_else(|| &got[0]);
+        let side = if expected.is_empty() { got } else { expected };
+        let head = &side[0];
         let Value::Answer(refusal, _) = head.value else {
             panic!("{} is no answer", head.name);
         };
         let entry = self.entries.entry(head.name).or_default();
         entry.compared += 1;
         *entry.refused.entry(refusal).or_default() += 1;
+        if let Some(number) = printed(side) {
+            *entry.printed.entry(number).or_default() += 1;
+        }
         let differs = !alike(expected, got);
         entry.differ += u64::from(differs);
         differs && entry.differ <= SHOWN
@@ -102,20 +124,24 @@ impl Tally {
     fn report(&self, name: &str, row: &[u32]) -> bool {
         let none = Entry::default();
         let entry = self.entries.get(name).unwrap_or(&none);
-        let count = |number: u32| entry.refused.get(&number).copied().unwrap_or(0);
-        let refused: Vec<String> = row.iter().map(|&r| format!("{r} {}", count(r))).collect();
-        let refused = if row.is_empty() {
-            "none".into()
-        } else {
-            refused.join(", ")
-        };
+        let refused = listed(row, &entry.refused);
         println!(
             "{name}: {} compared, {} differ (refused: {refused})",
             entry.compared, entry.differ
         );
         let (least, per_outcome) = floors(name);
-        let low = |number: &u32| count(*number) < per_outcome;
-        let short = entry.compared < least || row.iter().chain(&[0]).any(low);
+        let low = |numbers: &[u32], counts: &BTreeMap<u32, u64>| {
+            let mut numbers = numbers.iter().chain(&[0]);
+            numbers.any(|&number| count(counts, number) < per_outcome)
+        };
+        let mut short = entry.compared < least || low(row, &entry.refused);
+        let numbers = printed_numbers(name);
+        if !numbers.is_empty() {
+            let relations = count(&entry.printed, 0);
+            let printed = listed(numbers, &entry.printed);
+            println!("{name}: {relations} relations printed (refusals printed: {printed})");
+            short |= low(numbers, &entry.printed);
+        }
         if short {
             println!("{name}: floor of {least} compared, {per_outcome} per outcome, not reached");
         }
@@ -139,6 +165,7 @@ fn samples(tally: &mut Tally) {
     sample::relation::askings()
         .iter()
         .for_each(|a| tally.check(a));
+    sample::card::cards().iter().for_each(|a| tally.check(a));
 }
 
 fn reals_and_labels(tally: &mut Tally, rng: &mut Rng, scale: usize) {
@@ -206,6 +233,10 @@ fn relations(tally: &mut Tally, rng: &mut Rng, scale: usize) {
     related::askings(rng, scale, &mut |a| tally.check(&a));
 }
 
+fn cards(tally: &mut Tally, rng: &mut Rng, scale: usize) {
+    card::cards(rng, scale, &mut |a| tally.check(&a));
+}
+
 /// Seed and scale.
 fn options() -> Option<(u64, usize)> {
     let (mut seed, mut scale) = (1, 1);
@@ -234,6 +265,7 @@ fn main() -> ExitCode {
     models(&mut tally, &mut rng, scale);
     networks(&mut tally, &mut rng, scale);
     relations(&mut tally, &mut rng, scale);
+    cards(&mut tally, &mut rng, scale);
     let entries = ROWS.iter().chain(PARTS);
     let low = entries.filter(|row| tally.report(row.0, row.1)).count();
     let compared: u64 = tally.entries.values().map(|e| e.compared).sum();

@@ -1,12 +1,24 @@
-//! Prints the fixed list of cases with the oracle's answers, for the program that replays it without Rust.
+//! Prints a part of the fixed list of cases with the oracle's answers, for the programs that replay it without Rust.
 
 use oracle::sample;
 
+/// The text of a part.
+fn text(part: &str) -> Option<String> {
+    match part {
+        "models" => Some(sample::text()),
+        "networks" => Some(sample::flow::text()),
+        "relations" => Some(sample::relation::text()),
+        "cards" => Some(sample::card::text()),
+        _ => None,
+    }
+}
+
 fn main() {
-    let parts = [
-        sample::text(),
-        sample::flow::text(),
-        sample::relation::text(),
-    ];
-    print!("{}", parts.concat());
+    let mut args = std::env::args().skip(1);
+    let part = args.next().unwrap_or_default();
+    let (Some(text), None) = (text(&part), args.next()) else {
+        eprintln!("one part: models, networks, relations or cards");
+        std::process::exit(2);
+    };
+    print!("{text}");
 }

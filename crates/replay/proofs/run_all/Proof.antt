@@ -1,16 +1,14 @@
--- `run_all` is safe and ends: its turns are counted, and the measure is how many are left; the store keeps its length.
-use mathlib.Core.Path.{_≡_}
+-- `run_all` is safe and ends: its turns are counted, and the measure is how many are left.
 use Prim.Native.Nat.{_≤_, _-_}
-use lib.ListN.{length}
 use borrow.Author.Needs.{needs}
 use Rattle.replay.proofs.run_all.Statement.{statement}
 use Rattle.replay.proofs.run_all.Tie as tie
 
 abbrev Inv-loop : tie.InvT-loop
-Inv-loop buf₀ counts₀ store₀ r₀ turns₀ buf counts store r turns = (turns ≤ 1000000) × (length store ≡ length store₀)
+Inv-loop buf₀ counts₀ r₀ turns₀ buf counts r turns = (turns ≤ 1000000)
 
 abbrev μ-loop : tie.MeasureT-loop
-μ-loop buf₀ counts₀ store₀ r₀ turns₀ buf counts store r turns = 1000000 - turns
+μ-loop buf₀ counts₀ r₀ turns₀ buf counts r turns = 1000000 - turns
 
 start-requires : tie.Need-start-requires Inv-loop μ-loop
 start-requires c κs = search needs
@@ -33,14 +31,8 @@ loop-less c = search needs
 loop-again : tie.Need-loop-again Inv-loop μ-loop
 loop-again c = search needs
 
-same-length : tie.Need-same-length Inv-loop μ-loop
-same-length c = search needs
-
 returns : tie.Need-returns Inv-loop μ-loop
 returns c = search needs
-
-same-length-2 : tie.Need-same-length-2 Inv-loop μ-loop
-same-length-2 c = search needs
 
 returns-2 : tie.Need-returns-2 Inv-loop μ-loop
 returns-2 c = search needs
@@ -58,7 +50,5 @@ run-all-spec =
     add-turns
     loop-less
     loop-again
-    same-length
     returns
-    same-length-2
     returns-2)

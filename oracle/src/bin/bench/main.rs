@@ -2,8 +2,10 @@
 //!
 //! Prints `NAME rust_ns A ours_ns B ratio A/B`, medians over the samples. The Rust side is a new builder, each
 //! transition added, `build` and the release of the model. Our side is `build` into stores that are allocated once and
-//! not cleared between calls. The readers are left out. The flow is in `flow`, whole runs of `epsdelta` in `relation`.
+//! not cleared between calls. The readers are left out. The flow is in `flow`, whole runs of `epsdelta` in `relation`, reports
+//! of cards in `card`.
 
+mod card;
 mod flow;
 mod relation;
 
@@ -84,6 +86,17 @@ fn median(mut times: Vec<u128>) -> u128 {
     times[times.len() / 2]
 }
 
+/// Both sides in turn, sample by sample.
+fn in_turns(name: &str, rust: &mut dyn FnMut(), library: &mut dyn FnMut()) {
+    let turns = 1 + SAMPLE_NS / nanoseconds(3, rust).max(1);
+    let (mut a, mut b) = (Vec::new(), Vec::new());
+    for _ in 0..SAMPLES {
+        a.push(nanoseconds(turns, rust));
+        b.push(nanoseconds(turns, library));
+    }
+    print(name, median(a), median(b));
+}
+
 fn measure(name: &str, args: &BuildArgs) {
     let mut lent = args.clone();
     let mut rust = || drop(black_box(built(black_box(args))));
@@ -92,13 +105,7 @@ fn measure(name: &str, args: &BuildArgs) {
         let refusal = ours::build(black_box(&mut lent), &mut edges, &mut labels);
         assert_eq!(black_box(refusal), 0);
     };
-    let turns = 1 + SAMPLE_NS / nanoseconds(3, &mut rust).max(1);
-    let (mut a, mut b) = (Vec::new(), Vec::new());
-    for _ in 0..SAMPLES {
-        a.push(nanoseconds(turns, &mut rust));
-        b.push(nanoseconds(turns, &mut library));
-    }
-    print(name, median(a), median(b));
+    in_turns(name, &mut rust, &mut library);
 }
 
 fn print(name: &str, rust: u128, ours: u128) {
@@ -119,5 +126,8 @@ fn main() {
     }
     for (name, case) in relation::cases().iter().filter(|case| chosen(&case.0)) {
         relation::measure(name, case);
+    }
+    for (name, case) in card::cases().iter().filter(|case| chosen(case.0)) {
+        card::measure(name, case);
     }
 }

@@ -3,7 +3,7 @@ use mathlib.Core.Path.{refl, sym}
 use native.Mathlib.Omega.{arith}
 use borrow.Author.Tests.{lt-ltb, le-ltb, lt-leb, le-leb}
 use Rattle.numbers.proofs.Refuses.{check-hit, check-skip, hit, skip, none}
-use Rattle.epsdelta.proofs.Marking.{square-most}
+use Rattle.epsdelta_sweeps.proofs.Marking.{square-most}
 use borrow.Author.Needs.{needs}
 use Rattle.bisimilar.proofs.related.refusal.Statement.{statement}
 use Rattle.bisimilar.proofs.related.refusal.Tie as tie

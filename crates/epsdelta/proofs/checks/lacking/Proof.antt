@@ -4,7 +4,7 @@ use native.Mathlib.Omega.{arith}
 use borrow.Author.Tests.{lt-ltb, le-ltb}
 use Rattle.numbers.proofs.Refuses.{skip}
 use Rattle.numbers.proofs.Bools.{or-first}
-use Rattle.epsdelta.proofs.Marking.{square-most}
+use Rattle.epsdelta_sweeps.proofs.Marking.{square-most}
 use borrow.Author.Needs.{needs}
 use Rattle.epsdelta.proofs.checks.lacking.Statement.{statement}
 use Rattle.epsdelta.proofs.checks.lacking.Tie as tie

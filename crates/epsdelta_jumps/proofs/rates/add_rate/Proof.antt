@@ -1,11 +1,11 @@
 -- The place sought has lower targets before it only; if t stands there its rate is added to, else it is put in there (Inserts).
-use mathlib.Core.Path.{_≡_, sym}
+use mathlib.Core.Path.{_≡_, refl, sym}
 use mathlib.Core.Logic.{⊎-elim}
 use Prim.Native.Nat.{_<_}
 use native.Mathlib.Omega.{arith}
 use lib.ListN.{getD, take}
-use lib.Seq.{length-take-le}
-use Rattle.epsdelta_jumps.proofs.Inserts.{rank-le, rate-new, rate-more}
+use lib.Seq.{length-take-le, drop-set-lt}
+use Rattle.epsdelta_jumps.proofs.Inserts.{rank-le, put-past, rate-new, rate-more}
 use borrow.Author.Needs.{needs}
 use Rattle.epsdelta_jumps.proofs.rates.add_rate.Statement.{statement}
 use Rattle.epsdelta_jumps.proofs.rates.add_rate.Tie as tie
@@ -42,7 +42,7 @@ returns c =
     let s = c .before .before .before .before .before .before .before .before in
     let p = s .pre in
     let a = s .args in
-    (omega arith, rate-more (a .t) (a .w) _ (a .m) (a .targets .now) (a .probs .now) (c .before .before .before .if1 .taken) (omega arith) (omega arith) (sym (c .before .before .before .before .place .ensures)) (c .before .if2 .taken))
+    (omega arith, omega arith, refl, drop-set-lt (a .m) (a .probs .now) _ _ (c .before .before .before .if1 .taken), rate-more (a .t) (a .w) _ (a .m) (a .targets .now) (a .probs .now) (c .before .before .before .if1 .taken) (omega arith) (omega arith) (sym (c .before .before .before .before .place .ensures)) (c .before .if2 .taken))
 
 insert-requires : tie.Need-insert-requires
 insert-requires c κs =
@@ -74,7 +74,7 @@ returns-2 c =
     let r = rank-le (a .t) (take (a .m) (a .targets .now)) in
     let l = length-take-le (a .m) (a .targets .now) (omega arith) in
     let z : (d .place .result < a .m → getD (a .targets .now) (d .place .result) 0 ≡ a .t → ⊥) = ⊎-elim (λ w l q. w .2 .left q) (λ w l q. let n = w .left in absurd (omega arith)) (g .before .before .before .if1 .came) in
-    (omega arith, rate-new (a .t) (a .w) _ (a .m) (a .targets .now) (a .probs .now) _ _ (g .insert .ensures .0) (g .insert .ensures .1) (omega arith) (p .0) (p .1) (sym e) z)
+    (omega arith, omega arith, put-past _ (a .m) (a .targets .now) _ (a .t) (omega arith) (g .insert .ensures .0), put-past _ (a .m) (a .probs .now) _ (a .w) (omega arith) (g .insert .ensures .1), rate-new (a .t) (a .w) _ (a .m) (a .targets .now) (a .probs .now) _ _ (g .insert .ensures .0) (g .insert .ensures .1) (omega arith) (p .0) (p .1) (sym e) z)
 
 pub add-rate-spec : {M : Type 1} → statement M
 add-rate-spec =

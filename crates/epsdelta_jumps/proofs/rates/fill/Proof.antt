@@ -83,7 +83,7 @@ returns c =
     let n = g .add-edges .ensures .0 in (
       (let a = p .0 in omega arith),
       λ D O L. filled (s .args .off) _ (s .args .off + s .args .s) (s .args .at) (g .add-edges .result) (s .args .exits .now) (s .args .targets .now) (s .args .probs .now) _ _ _ _
-          (let a = p .3 in omega arith) (let a = p .4 in omega arith) (g .add-edges .kept .1 .1 .1 .1 .1 .1 .0) (g .add-edges .kept .1 .1 .1 .1 .1 .1 .1 .0) (g .add-edges .ensures .1 D O L) (f .finish .ensures),
+          (let a = p .3 in omega arith) (let a = p .4 in omega arith) (g .add-edges .kept .1 .1 .1 .1 .1 .1 .0) (g .add-edges .kept .1 .1 .1 .1 .1 .1 .1 .0) (g .add-edges .ensures .1) (g .add-edges .ensures .2) (g .add-edges .ensures .3 D O L) (f .finish .ensures),
     )
 
 pub fill-spec : {M : Type 1} → statement M

@@ -1,10 +1,9 @@
 -- The left model's rows are made behind none, the right one's behind these.
 use mathlib.Core.Path.{_∙_}
-use Prim.Native.Nat.{_<_}
 use native.Mathlib.Omega.{arith}
-use lib.ListN.{length, length-set}
+use lib.ListN.{length-set}
 use lib.Seq.{getD-set-same}
-use Rattle.epsdelta_jumps.proofs.Makes.{holds-none, from-zero, start-from-zero, row-from-zero}
+use Rattle.epsdelta_jumps.proofs.Makes.{laid-none, from-zero, start-from-zero, row-from-zero}
 use borrow.Author.Needs.{needs}
 use Rattle.epsdelta_jumps.proofs.rows.both_rows.Statement.{statement}
 use Rattle.epsdelta_jumps.proofs.rows.both_rows.Tie as tie
@@ -57,11 +56,13 @@ returns : tie.Need-returns
 returns c =
     let g = c .before .before .before .before .before .before .before .before .before .before .before .before .before .before .before .before .before .before .before .before .before in
     let s = g .before .before .before .before .before .before .before .before .before .before .before .before .before .before .before in
-    let h : 0 < length (s .args .starts .now) = let b = s .pre .3 in omega arith in
-    λ A B C D J L R.
-    c .before .before .before .before .before .before .before .before .model-rows2 .ensures .2 C D J R
-    (from-zero J _ _ _ _ _
-    (g .model-rows .ensures .2 A B J (λ i k. row-from-zero J i _ (L i k)) (holds-none J _ (s .args .starts .now) _ _ h)))
+    let p = s .pre in
+    let b = p .3 in
+    let e = p .2 in
+    λ A B C D J j L R.
+    c .before .before .before .before .before .before .before .before .model-rows2 .ensures .2 C D J _ _ _ _ j R e b
+    (from-zero J (s .args .left-states)
+    (g .model-rows .ensures .2 A B J _ _ _ _ (omega arith) (λ i k. row-from-zero J i _ (L i k)) (omega arith) (omega arith) (laid-none J _ (s .args .starts .now) _ _ (omega arith))))
 
 pub both-rows-spec : {M : Type 1} → statement M
 both-rows-spec =

@@ -1,14 +1,33 @@
--- `network::grow` meets its contract: the rows have room for the links and the new pair, and the answer of `link_in` decides (Grows.grows).
+-- `network::grow` meets its contract: the heads are copied into the front of a row, and their node lists are made (Grows).
 use borrow.Author.Needs.{needs}
-use mathlib.Core.Path.{_≡_, sym, _∙_}
-use mathlib.Core.Bool.{true, false}
-use Prim.Native.Nat.{ℕ, _≤_}
-use native.Mathlib.Omega.{arith}
-use lib.Ieee.{Float}
-use Rattle.numbers.specs.Real.{nought}
-use Rattle.flow.proofs.Grows.{room-length, grows}
 use Rattle.flow.proofs.network.grow.Statement.{statement}
 use Rattle.flow.proofs.network.grow.Tie as tie
+use mathlib.Core.Path.{_≡_, sym, ap, _∙_}
+use Prim.Native.Nat.{ℕ, _+_, _≤_, _<_}
+use native.Mathlib.Omega.{arith}
+use lib.ListN.{length}
+use Rattle.flow.specs.Network.{headsOf}
+use Rattle.flow.proofs.Grows.{room-length, front-in, front-is, front-length, grows}
+
+-- all links are there
+whole : (c : tie.Start) → length (c .args .links) ≡ 2176
+whole c = search needs
+
+few : (c : tie.Start) → c .args .net .count + 2 ≤ 2176
+few c = let p = c .pre .0 in omega arith
+
+-- room for the node lists
+places : (c : tie.Start) → c .args .net .nodes < length (c .args .net .starts)
+places c =
+    let p = c .pre .1 in
+    let q : length (c .args .net .starts) ≡ 67 = search needs in
+    omega arith
+
+room : (c : tie.Start) → length (headsOf (c .args .net .count + 2) (c .args .links)) ≤ length (c .args .net .list)
+room c =
+    let p = c .pre .2 .small in
+    let q : length (c .args .net .list) ≡ 2176 = search needs in
+    omega arith
 
 add-n : tie.Need-add-n
 add-n c = search needs
@@ -16,38 +35,30 @@ add-n c = search needs
 array-borrow-prefix-heads : tie.Need-array-borrow-prefix-heads
 array-borrow-prefix-heads c = search needs
 
-slice-aggregate-link-in : tie.Need-slice-aggregate-link-in
-slice-aggregate-link-in c = sym (room-length {A = ℕ} (c .before .before .before .args .net .count) 0 (c .before .before .before .pre))
+slice-aggregate-unpack-heads : tie.Need-slice-aggregate-unpack-heads
+slice-aggregate-unpack-heads c = sym (room-length {A = ℕ} (c .before .before .before .before .args .net .count + 2) 0 (few (c .before .before .before .before)))
 
-array-borrow-prefix-caps : tie.Need-array-borrow-prefix-caps
-array-borrow-prefix-caps c = search needs
+unpack-heads-requires : tie.Need-unpack-heads-requires
+unpack-heads-requires c κs = omega (arith, room-length {A = ℕ} (c .before .before .before .before .args .net .count + 2) 0 (few (c .before .before .before .before)), few (c .before .before .before .before))
 
-slice-aggregate-link-in-2 : tie.Need-slice-aggregate-link-in-2
-slice-aggregate-link-in-2 c = sym (room-length {A = Float} (c .before .before .before .before .args .net .count) nought (c .before .before .before .before .pre))
+array-share-prefix-heads : tie.Need-array-share-prefix-heads
+array-share-prefix-heads c = front-in (c .before .before .before .before .before .before .args .links) (whole (c .before .before .before .before .before .before)) (c .before .before .before .before .before .before .args .net .count + 2) (few (c .before .before .before .before .before .before)) (c .before .unpack-heads .last .1 .0) (c .before .unpack-heads .ensures)
 
-array-borrow-prefix-costs : tie.Need-array-borrow-prefix-costs
-array-borrow-prefix-costs c = search needs
+slice-aggregate-node-lists : tie.Need-slice-aggregate-node-lists
+slice-aggregate-node-lists c = sym (front-length (c .before .before .before .before .before .before .before .args .links) (whole (c .before .before .before .before .before .before .before)) (c .before .before .before .before .before .before .before .args .net .count + 2) (few (c .before .before .before .before .before .before .before)) (c .before .before .unpack-heads .last .1 .0) (c .before .before .unpack-heads .ensures))
 
-slice-aggregate-link-in-3 : tie.Need-slice-aggregate-link-in-3
-slice-aggregate-link-in-3 c = sym (room-length {A = Float} (c .before .before .before .before .before .args .net .count) nought (c .before .before .before .before .before .pre))
+slice-aggregate-node-lists-2 : tie.Need-slice-aggregate-node-lists-2
+slice-aggregate-node-lists-2 c = search needs
 
-slice-aggregate-link-in-4 : tie.Need-slice-aggregate-link-in-4
-slice-aggregate-link-in-4 c = search needs
+slice-aggregate-node-lists-3 : tie.Need-slice-aggregate-node-lists-3
+slice-aggregate-node-lists-3 c = search needs
 
-slice-aggregate-link-in-5 : tie.Need-slice-aggregate-link-in-5
-slice-aggregate-link-in-5 c = search needs
-
-slice-aggregate-link-in-6 : tie.Need-slice-aggregate-link-in-6
-slice-aggregate-link-in-6 c = search needs
-
-link-in-requires : tie.Need-link-in-requires
-link-in-requires c κs = let h = room-length {A = ℕ} (c .before .before .before .before .before .before .before .before .before .args .net .count) 0 (c .before .before .before .before .before .before .before .before .before .pre) in let f = room-length {A = Float} (c .before .before .before .before .before .before .before .before .before .args .net .count) nought (c .before .before .before .before .before .before .before .before .before .pre) in record { within = omega (arith, h, c .before .before .before .before .before .before .before .before .before .pre); caps-too = f ∙ sym h; costs-too = f ∙ sym h }
+node-lists-requires : tie.Need-node-lists-requires
+node-lists-requires c κs = search needs
 
 returns : tie.Need-returns
-returns c = grows (c .before .before .before .before .before .before .before .before .before .before .before .before .before .before .before .before .args .net) (c .before .before .before .before .before .before .before .before .before .before .before .before .before .before .before .before .args .links) _ _ _ _ (room-length {A = ℕ} (c .before .before .before .before .before .before .before .before .before .before .before .before .before .before .before .before .args .net .count) 0 (c .before .before .before .before .before .before .before .before .before .before .before .before .before .before .before .before .pre)) (c .before .before .before .before .before .before .link-in .ensures) true (c .if1 .taken)
-
-returns-2 : tie.Need-returns-2
-returns-2 c = grows (c .before .before .before .before .before .before .before .before .before .before .before .before .before .before .before .before .args .net) (c .before .before .before .before .before .before .before .before .before .before .before .before .before .before .before .before .args .links) _ _ _ _ (room-length {A = ℕ} (c .before .before .before .before .before .before .before .before .before .before .before .before .before .before .before .before .args .net .count) 0 (c .before .before .before .before .before .before .before .before .before .before .before .before .before .before .before .before .pre)) (c .before .before .before .before .before .before .link-in .ensures) false (c .if1 .left)
+returns c =
+    grows (c .before .before .before .before .before .before .before .before .before .before .before .before .args .net) (c .before .before .before .before .before .before .before .before .before .before .before .before .args .links) (c .before .before .before .before .before .before .before .before .before .before .before .before .pre .1) (c .before .before .before .before .before .before .before .before .before .before .before .before .pre .2) (places (c .before .before .before .before .before .before .before .before .before .before .before .before)) (room (c .before .before .before .before .before .before .before .before .before .before .before .before)) _ (front-is (c .before .before .before .before .before .before .before .before .before .before .before .before .args .links) (whole (c .before .before .before .before .before .before .before .before .before .before .before .before)) (c .before .before .before .before .before .before .before .before .before .before .before .before .args .net .count + 2) (few (c .before .before .before .before .before .before .before .before .before .before .before .before)) (c .before .before .before .before .before .before .before .unpack-heads .last .1 .0) (c .before .before .before .before .before .before .before .unpack-heads .ensures)) _ _ _ (c .before .before .node-lists .ensures)
 
 pub grow-spec : {M : Type 1} → statement M
 grow-spec =
@@ -55,14 +66,11 @@ grow-spec =
     (tie.spec
     add-n
     array-borrow-prefix-heads
-    slice-aggregate-link-in
-    array-borrow-prefix-caps
-    slice-aggregate-link-in-2
-    array-borrow-prefix-costs
-    slice-aggregate-link-in-3
-    slice-aggregate-link-in-4
-    slice-aggregate-link-in-5
-    slice-aggregate-link-in-6
-    link-in-requires
-    returns
-    returns-2)
+    slice-aggregate-unpack-heads
+    unpack-heads-requires
+    array-share-prefix-heads
+    slice-aggregate-node-lists
+    slice-aggregate-node-lists-2
+    slice-aggregate-node-lists-3
+    node-lists-requires
+    returns)

@@ -4,7 +4,7 @@ use Rattle.flow_core.proofs.test.flow_in.Statement.{statement}
 use Rattle.flow_core.proofs.test.flow_in.Tie as tie
 use mathlib.Core.Path.{sym, _∙_}
 use lib.Seq.{length-take-le}
-use Rattle.flow_links.specs.Writing.{relationOf}
+use Rattle.epsdelta_theory.specs.Relation.{relationOf}
 use Rattle.flow_links.proofs.Fitting.{Laid, laid, unlaid}
 use Rattle.flow_core.proofs.Tests.{cut-room, refused, written-accepted, answer-is}
 

@@ -3,7 +3,7 @@ use borrow.Author.Needs.{needs}
 use Rattle.flow_links.proofs.links.write_links.Statement.{statement}
 use Rattle.flow_links.proofs.links.write_links.Tie as tie
 use mathlib.Core.Path.{sym, _∙_}
-use Rattle.flow_links.specs.Writing.{relationOf}
+use Rattle.epsdelta_theory.specs.Relation.{relationOf}
 use Rattle.flow_links.proofs.Fitting.{fit, room, done-is, no-room, no-fit}
 
 rows-fit-requires : tie.Need-rows-fit-requires

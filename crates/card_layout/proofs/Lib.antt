@@ -1,0 +1,6 @@
+pub mod Lines
+pub mod Cards
+pub mod Steps
+pub mod Writes
+pub mod Filling
+pub mod Claims

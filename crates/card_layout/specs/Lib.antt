@@ -1,0 +1,4 @@
+pub mod Layout
+pub mod Card
+pub mod Lists
+pub mod Claim

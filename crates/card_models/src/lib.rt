@@ -1,0 +1,5 @@
+// The two models of a card, built, or the number that refuses one.
+mod models; // models.rt: both models together
+
+pub use models::Both;
+pub use models::both_models;

@@ -1,0 +1,4 @@
+pub mod Marking
+pub mod Turns
+pub mod Sweeping
+pub mod Reading

@@ -1,0 +1,5 @@
+// The relation of states whose rows stand in lists: marks, and sweeps until one without a strike.
+mod marks; // marks.rt: the marks of a relation
+pub mod relate; // relate.rt: marks, then sweeps
+mod rows; // rows.rt: whether lists hold rows that can be read
+mod sweeps; // sweeps.rt: turns, sweeps and the run
