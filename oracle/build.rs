@@ -1,11 +1,13 @@
 //! With the feature `ours`, links our static libraries from the folder that `TANQESHA_LIB` names.
 
 /// Their names.
-const LIBRARIES: [&str; 4] = [
+const LIBRARIES: [&str; 6] = [
     "exports",
     "exports_flow",
     "exports_relation",
     "exports_card",
+    "exports_transport",
+    "exports_chains",
 ];
 
 fn main() {

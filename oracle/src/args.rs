@@ -127,6 +127,58 @@ pub struct NodesArgs {
     pub nodes: usize,
 }
 
+/// `transport` of masses a and b, with a cost for each pair in row order; the three columns of the plan are lent.
+#[derive(Debug, Clone)]
+pub struct TransportArgs {
+    pub a: Vec<f64>,
+    pub b: Vec<f64>,
+    pub costs: Vec<f64>,
+    pub plan_rows: Vec<u32>,
+    pub plan_columns: Vec<u32>,
+    pub plan_masses: Vec<f64>,
+}
+
+/// The lists of a chain: lent to `uniformise`, or handed in.
+#[derive(Debug, Clone)]
+pub struct ChainLists {
+    pub offsets: Vec<u32>,
+    pub targets: Vec<u32>,
+    pub probabilities: Vec<f64>,
+    pub observations: Vec<f64>,
+}
+
+/// A chain handed in.
+#[derive(Debug, Clone)]
+pub struct ChainArgs {
+    pub states: usize,
+    pub entries: usize,
+    pub initial: u32,
+    pub lists: ChainLists,
+}
+
+/// `common_rate`.
+#[derive(Debug, Clone)]
+pub struct RateArgs {
+    pub left: ModelArgs,
+    pub right: ModelArgs,
+}
+
+/// `uniformise` of a model at a rate, with an observation of each state; the lists of the chain are lent.
+#[derive(Debug, Clone)]
+pub struct UniformiseArgs {
+    pub model: ModelArgs,
+    pub rate: f64,
+    pub observations: Vec<f64>,
+    pub chain: ChainLists,
+}
+
+/// `normalise`; the observations of both chains are lent.
+#[derive(Debug, Clone)]
+pub struct NormaliseArgs {
+    pub left: ChainArgs,
+    pub right: ChainArgs,
+}
+
 /// `epsdelta`, `epsdelta_bisimilar` and `min_epsilon`, which has no ε; `relation` is lent.
 #[derive(Debug, Clone)]
 pub struct RelationArgs {
@@ -499,6 +551,139 @@ impl Input for NodesArgs {
 
     fn fields(&self) -> Vec<Field> {
         vec![number("nodes", self.nodes as u64)]
+    }
+}
+
+impl TransportArgs {
+    /// The columns of the plan, as answer lines.
+    pub fn plan(&self) -> [Field; 3] {
+        [
+            numbers("plan_rows", &self.plan_rows),
+            numbers("plan_columns", &self.plan_columns),
+            reals("plan_masses", &self.plan_masses),
+        ]
+    }
+}
+
+impl Input for TransportArgs {
+    const KIND: &'static str = "transport";
+
+    fn fields(&self) -> Vec<Field> {
+        let mut fields = vec![
+            reals("a", &self.a),
+            reals("b", &self.b),
+            reals("costs", &self.costs),
+        ];
+        fields.extend(self.plan());
+        fields
+    }
+
+    /// The masses of both sides.
+    fn parts(&self) -> usize {
+        self.a.len() + self.b.len()
+    }
+
+    /// The cells of a mass go with it, so far as their costs are there.
+    fn without(&self, from: usize, to: usize) -> Self {
+        let (m, n) = (self.a.len(), self.b.len());
+        let out = |part: usize| (from..to).contains(&part);
+        let kept = |k: usize| k >= m * n || !(out(k / n) || out(m + k % n));
+        let costs = self.costs.iter().enumerate().filter(|(k, _)| kept(*k));
+        Self {
+            a: cut(&self.a, from.min(m), to.min(m)),
+            b: cut(&self.b, from.saturating_sub(m), to.saturating_sub(m)),
+            costs: costs.map(|(_, &cost)| cost).collect(),
+            ..self.clone()
+        }
+    }
+}
+
+impl ChainLists {
+    /// Lent lists of these lengths, filled with values that no result has at that place.
+    pub fn filled(offsets: usize, entries: usize, states: usize) -> Self {
+        Self {
+            offsets: fill(offsets),
+            targets: (7_000..).take(entries).collect(),
+            probabilities: (0..entries).map(|k| -1.0 - k as f64).collect(),
+            observations: (0..states).map(|k| 1e15 + k as f64).collect(),
+        }
+    }
+
+    /// The four lines.
+    pub fn fields(&self) -> [Field; 4] {
+        [
+            numbers("chain_offsets", &self.offsets),
+            numbers("chain_targets", &self.targets),
+            reals("chain_probabilities", &self.probabilities),
+            reals("chain_observations", &self.observations),
+        ]
+    }
+}
+
+impl ChainArgs {
+    /// The seven lines.
+    fn fields(&self) -> Vec<Field> {
+        let mut fields = vec![
+            number("states", self.states as u64),
+            number("entries", self.entries as u64),
+            number("initial", self.initial.into()),
+        ];
+        fields.extend(self.lists.fields());
+        fields
+    }
+}
+
+impl Input for RateArgs {
+    const KIND: &'static str = "rate";
+
+    fn fields(&self) -> Vec<Field> {
+        [self.left.fields(), self.right.fields()].concat()
+    }
+
+    /// The edges of both models.
+    fn parts(&self) -> usize {
+        self.left.listed() + self.right.listed()
+    }
+
+    fn without(&self, from: usize, to: usize) -> Self {
+        let left = self.left.listed();
+        let right = |edge: usize| edge.saturating_sub(left);
+        Self {
+            left: self.left.without(from.min(left), to.min(left)),
+            right: self.right.without(right(from), right(to)),
+        }
+    }
+}
+
+impl Input for UniformiseArgs {
+    const KIND: &'static str = "uniformise";
+
+    fn fields(&self) -> Vec<Field> {
+        let mut fields = self.model.fields();
+        fields.push(real("rate", self.rate));
+        fields.push(reals("observations", &self.observations));
+        fields.extend(self.chain.fields());
+        fields
+    }
+
+    /// The edges of the model.
+    fn parts(&self) -> usize {
+        self.model.listed()
+    }
+
+    fn without(&self, from: usize, to: usize) -> Self {
+        Self {
+            model: self.model.without(from, to),
+            ..self.clone()
+        }
+    }
+}
+
+impl Input for NormaliseArgs {
+    const KIND: &'static str = "normalise";
+
+    fn fields(&self) -> Vec<Field> {
+        [self.left.fields(), self.right.fields()].concat()
     }
 }
 

@@ -12,10 +12,13 @@ pub mod metric;
 pub mod misfits;
 pub mod model;
 pub mod network;
+pub mod normalise;
+pub mod rate;
 pub mod related;
 pub mod relation;
 pub mod remainders;
 pub mod steps;
+pub mod transport;
 
 /// 2^-40, the least weight that is not zero.
 pub const LEAST_WEIGHT: f64 = 1.0 / (1u64 << 40) as f64;

@@ -6,6 +6,7 @@ pub mod args;
 pub mod bisim_core;
 pub mod bisim_metric;
 pub mod card;
+pub mod chain;
 pub mod generate;
 pub mod network;
 #[cfg(feature = "ours")]
@@ -16,3 +17,4 @@ pub mod relation;
 pub mod rows;
 pub mod sample;
 pub mod text;
+pub mod transport;

@@ -2,8 +2,10 @@
 //! Each function returns a refusal's number, or 0 with its answer behind the references.
 
 pub mod card;
+pub mod chain;
 pub mod network;
 pub mod relation;
+pub mod transport;
 
 use crate::answers::{Oracle, answer};
 use crate::args::{BuildArgs, InternArgs, LabelArgs, ModelArgs, ReadArgs, RealArgs, numbers};

@@ -6,9 +6,13 @@
 
 use crate::args::{
     BuildArgs, EdgeArgs as AddArgs, FlowArgs, InternArgs, LabelArgs, ModelArgs, NetworkArgs,
-    RelatedArgs, RelationArgs,
+    RelatedArgs, RelationArgs, TransportArgs,
 };
 use std::collections::{BTreeMap, BTreeSet};
+
+mod chain;
+
+pub use chain::{common_rate_refusal, normalise_refusal, uniformise_refusal};
 
 /// 3: a model's states.
 pub const MAX_STATES: usize = 2_000;
@@ -40,6 +44,12 @@ pub const MAX_LINKS: usize = 2 * MAX_ADDED_LINKS;
 pub const MAX_CAPACITY: f64 = (1_u64 << 40) as f64;
 /// 15: the greatest cost of an added link, 2^40.
 pub const MAX_COST: f64 = (1_u64 << 40) as f64;
+/// 15: the masses on a side of `transport`.
+pub const MAX_MASSES: usize = 32;
+/// 15: the greatest mass, and the greatest cost of `transport`, 2^40.
+pub const MAX_MASS: f64 = (1_u64 << 40) as f64;
+/// 16: by how much the totals may differ, for each unit of the first, or of 1.
+pub const TOTALS_APART: f64 = 1e-9;
 
 // The entries, with the checks of their rows in the table of REQUIREMENTS.md.
 
@@ -157,9 +167,22 @@ pub fn add_edge_refusal(a: &AddArgs) -> u32 {
     )
 }
 
+/// `transport`: 7, 15, 16.
+pub fn transport_refusal(a: &TransportArgs) -> u32 {
+    if transport_short(a) {
+        7
+    } else if masses_wrong(&a.a) || masses_wrong(&a.b) || cell_costs(a).iter().any(mass_wrong) {
+        15
+    } else if totals_differ(total(&a.a), total(&a.b)) {
+        16
+    } else {
+        0
+    }
+}
+
 /// `epsdelta`: 3, 4, 5, 6, 7, 9, 10.
 pub fn epsdelta_refusal(a: &RelationArgs) -> u32 {
-    let models = models_refusal(a);
+    let models = models_refusal(&a.left, &a.right);
     if models != 0 {
         models
     } else if either_classes_short(a) || relation_short(&a.relation, states_together(a)) {
@@ -192,7 +215,7 @@ pub fn related_refusal(a: &RelatedArgs) -> u32 {
 
 /// `epsdelta_bisimilar`: 3, 4, 5, 6, 7, 8, 9, 10. "Initial states first" puts 8 before 9 and 10 (P29).
 pub fn epsdelta_bisimilar_refusal(a: &RelationArgs) -> u32 {
-    let models = models_refusal(a);
+    let models = models_refusal(&a.left, &a.right);
     if models != 0 {
         models
     } else if either_classes_short(a) || relation_short(&a.relation, states_together(a)) {
@@ -210,7 +233,7 @@ pub fn epsdelta_bisimilar_refusal(a: &RelationArgs) -> u32 {
 
 /// `min_epsilon`: 3, 4, 5, 6, 7, 8, 9 ("ρ alone", P31), 10.
 pub fn min_epsilon_refusal(a: &RelationArgs) -> u32 {
-    let models = models_refusal(a);
+    let models = models_refusal(&a.left, &a.right);
     if models != 0 {
         models
     } else if either_classes_short(a) || relation_short(&a.relation, states_together(a)) {
@@ -227,8 +250,8 @@ pub fn min_epsilon_refusal(a: &RelationArgs) -> u32 {
 }
 
 /// Two built models handed in, each "checked afresh": 3, 4, 5, 6, and 3 of both before 4 of either, and so on.
-fn models_refusal(a: &RelationArgs) -> u32 {
-    let both = [model_refusal(&a.left), model_refusal(&a.right)];
+fn models_refusal(left: &ModelArgs, right: &ModelArgs) -> u32 {
+    let both = [model_refusal(left), model_refusal(right)];
     both.into_iter().filter(|&n| n != 0).min().unwrap_or(0)
 }
 
@@ -393,6 +416,20 @@ fn relation_short(relation: &[u8], states: usize) -> bool {
     relation.len() < states.saturating_mul(states).div_ceil(8)
 }
 
+/// "For `transport` of m and n masses m × n costs and m × n plan cells": in each column of the plan (P40).
+fn transport_short(a: &TransportArgs) -> bool {
+    let cells = cells(a);
+    a.costs.len() < cells
+        || a.plan_rows.len() < cells
+        || a.plan_columns.len() < cells
+        || a.plan_masses.len() < cells
+}
+
+/// m × n.
+fn cells(a: &TransportArgs) -> usize {
+    a.a.len().saturating_mul(a.b.len())
+}
+
 // 8. "An initial state is absent (`epsdelta_bisimilar`, `min_epsilon`, ...)."
 
 /// "An initial state is absent", of either model (P28).
@@ -494,6 +531,35 @@ fn lists_wrong(n: &NetworkArgs) -> bool {
         starts.push(starts[starts.len() - 1] + list.len() as u32);
     }
     n.starts[..=n.nodes] != starts || n.list[..n.count] != lists.concat()
+}
+
+// 15. `transport`.
+
+/// "Over 32 masses on a side, a negative, non-finite or over-2^40 mass".
+fn masses_wrong(masses: &[f64]) -> bool {
+    masses.len() > MAX_MASSES || masses.iter().any(mass_wrong)
+}
+
+/// "A negative, non-finite or over-2^40 mass, or such a cost"; -0 is not negative (P42).
+fn mass_wrong(mass: &f64) -> bool {
+    *mass < 0.0 || !mass.is_finite() || *mass > MAX_MASS
+}
+
+/// The costs of the m × n pairs; what follows them is not read (P41).
+fn cell_costs(a: &TransportArgs) -> &[f64] {
+    &a.costs[..cells(a)]
+}
+
+// 16. "`transport` is given totals ta and tb that differ by over 1e-9 × max(ta, 1)."
+
+/// "Sums run left to right from zero."
+fn total(masses: &[f64]) -> f64 {
+    masses.iter().fold(0.0, |sum, mass| sum + mass)
+}
+
+/// "Differ by over 1e-9 × max(ta, 1)", one rounding per operation (P43).
+fn totals_differ(ta: f64, tb: f64) -> bool {
+    (ta - tb).abs() > TOTALS_APART * ta.max(1.0)
 }
 
 // Small helps.
@@ -1525,6 +1591,74 @@ mod tests {
         assert_eq!(altered(|n| n.starts.push(0)), 15);
     }
 
+    // `transport`.
+
+    /// The refusal of masses and costs with as many plan cells.
+    fn transport(a: &[f64], b: &[f64], costs: &[f64], rooms: [usize; 3]) -> u32 {
+        transport_refusal(&TransportArgs {
+            a: a.to_vec(),
+            b: b.to_vec(),
+            costs: costs.to_vec(),
+            plan_rows: vec![9; rooms[0]],
+            plan_columns: vec![9; rooms[1]],
+            plan_masses: vec![9.0; rooms[2]],
+        })
+    }
+
+    #[test]
+    fn cells_of_a_plan() {
+        let (a, b) = ([0.5, 0.5], [0.25, 0.25, 0.5]);
+        let at = |costs: usize, rooms| transport(&a, &b, &vec![1.0; costs], rooms);
+        assert_eq!(at(6, [6, 6, 6]), 0);
+        assert_eq!(at(7, [8, 9, 10]), 0);
+        assert_eq!(at(5, [6, 6, 6]), 7);
+        assert_eq!(at(6, [5, 6, 6]), 7);
+        assert_eq!(at(6, [6, 5, 6]), 7);
+        assert_eq!(at(6, [6, 6, 5]), 7);
+        assert_eq!(transport(&[], &[], &[], [0; 3]), 0);
+        assert_eq!(transport(&[], &[0.0, 1e-9], &[], [0; 3]), 0);
+        assert_eq!(transport(&[2e-9], &[], &[], [0; 3]), 16);
+    }
+
+    #[test]
+    fn masses_and_costs_at_their_limits() {
+        let one = |x: f64| transport(&[x], &[x], &[1.0], [1; 3]);
+        let cost = |x: f64| transport(&[1.0], &[1.0], &[x], [1; 3]);
+        for good in [0.0, -0.0, 5e-324, 1.0, TWO_40] {
+            assert_eq!((one(good), cost(good)), (0, 0), "{good}");
+        }
+        let far = [TWO_40.next_up(), f64::MAX, INFINITY];
+        for bad in [far, far.map(|x| -x), [-5e-324, -1.0, f64::NAN]].concat() {
+            assert_eq!((one(bad), cost(bad)), (15, 15), "{bad}");
+        }
+        let side = |m: usize, n: usize| {
+            transport(&vec![0.0; m], &vec![0.0; n], &vec![1.0; m * n], [m * n; 3])
+        };
+        assert_eq!([side(32, 32), side(33, 0), side(0, 33)], [0, 15, 15]);
+        assert_eq!([side(33, 32), side(32, 33)], [15, 15]);
+        assert_eq!(transport(&[1.0], &[1.0], &[1.0, -1.0], [1; 3]), 0);
+    }
+
+    #[test]
+    fn totals() {
+        let of = |ta: f64, tb: f64| transport(&[ta], &[tb], &[0.0], [1; 3]);
+        assert_eq!([of(0.0, 1e-9), of(1e-9, 0.0)], [0, 0]);
+        assert_eq!([of(0.0, 1e-9f64.next_up()), of(2.0, 2.1)], [16, 16]);
+        assert_eq!([of(1e6, 1e6 + 0.0005), of(1e6, 1e6 + 0.002)], [0, 16]);
+        assert_eq!(of(TWO_40, TWO_40 - 1_000.0), 0);
+        assert_eq!(of(TWO_40, TWO_40 - 1_100.0), 16);
+    }
+
+    #[test]
+    fn order_of_the_checks_of_transport() {
+        assert_eq!(transport(&[1.0], &[-1.0], &[], [1; 3]), 7);
+        assert_eq!(transport(&[1.0], &[-1.0], &[0.0], [1; 3]), 15);
+        assert_eq!(transport(&[1.0], &[3.0], &[-1.0], [1; 3]), 15);
+        assert_eq!(transport(&[1.0], &[3.0], &[1.0], [1; 3]), 16);
+        assert_eq!(transport(&[1.0; 33], &[33.0], &[1.0; 33], [32; 3]), 7);
+        assert_eq!(transport(&[1.0; 33], &[33.0], &[1.0; 33], [33; 3]), 15);
+    }
+
     // No input makes a function panic: many small and damaged ones.
 
     struct Dice(u64);
@@ -1670,6 +1804,18 @@ mod tests {
         assert_eq!(of(&seen, "bisimilar"), [0, 3, 4, 5, 7, 8, 9]);
         assert_eq!(of(&seen, "min"), [0, 3, 4, 5, 7, 8, 9]);
         assert_eq!(of(&seen, "related"), [0, 3, 4, 7]);
+    }
+
+    #[test]
+    fn nothing_panics_on_transports() {
+        let mut d = Dice(1);
+        let mut seen = Seen::new();
+        for _ in 0..100_000 {
+            let (a, b) = (d.floats(4), d.floats(4));
+            let rooms = [8 + d.below(8), 8 + d.below(8), 8 + d.below(8)].map(|n| n as usize);
+            seen.insert(("transport", transport(&a, &b, &d.floats(20), rooms)));
+        }
+        assert_eq!(of(&seen, "transport"), [0, 7, 15, 16]);
     }
 
     #[test]

@@ -20,10 +20,14 @@ pub const ROWS: &[(&str, &[u32])] = &[
     ("new", &[15]),
     ("add_edge", &[15]),
     ("max_flow", &[15]),
+    ("transport", &[7, 15, 16]),
     ("epsdelta", &[3, 4, 5, 6, 7, 9, 10]),
     ("related", &[3, 4, 7, 10]),
     ("epsdelta_bisimilar", &[3, 4, 5, 6, 7, 8, 9, 10]),
     ("min_epsilon", &[3, 4, 5, 6, 7, 8, 9, 10]),
+    ("common_rate", &[3, 4, 5, 6]),
+    ("uniformise", &[3, 4, 5, 6, 7, 8, 11, 12]),
+    ("normalise", &[4, 7, 12, 13]),
     ("report", &[7]),
 ];
 

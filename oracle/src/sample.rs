@@ -1,10 +1,12 @@
 //! The fixed list of cases that is replayed without Rust: figures of document 01, some of the short inputs, random ones.
 //! The networks, its second part, are in `flow`, the relations, its third, in `relation`, the cards, its fourth, in
-//! `card`.
+//! `card`, the transports, its fifth, in `transport`, the chains, its sixth, in `chain`.
 
 pub mod card;
+pub mod chain;
 pub mod flow;
 pub mod relation;
+pub mod transport;
 
 use crate::answers::{Oracle, handed_in};
 use crate::args::{BuildArgs, Columns, InternArgs, LabelArgs, ModelArgs, ReadArgs, RealArgs};
@@ -290,7 +292,9 @@ mod tests {
         let flows = (flow::text(), &["nodes", "edge", "flow"][..]);
         let relations = (relation::text(), &["relation", "related"][..]);
         let cards = (card::text(), &["card"][..]);
-        for (text, kinds) in [flows, relations, cards] {
+        let transports = (transport::text(), &["transport"][..]);
+        let chains = (chain::text(), &["rate", "uniformise", "normalise"][..]);
+        for (text, kinds) in [flows, relations, cards, transports, chains] {
             let cases = read_cases(&text).unwrap();
             assert_eq!(cases.iter().map(write_case).collect::<String>(), text);
             for kind in kinds {
@@ -307,8 +311,13 @@ mod tests {
         assert!(flows.len() < 640_000, "{} bytes", flows.len());
         assert!(relations.len() < 480_000, "{} bytes", relations.len());
         assert!(cards.len() < 320_000, "{} bytes", cards.len());
+        let (transports, chains) = (transport::text(), chain::text());
+        assert!(transports.len() < 320_000, "{} bytes", transports.len());
+        assert!(chains.len() < 640_000, "{} bytes", chains.len());
         let mut counts: BTreeMap<(&str, u32), usize> = BTreeMap::new();
-        for case in read_cases(&(models + &flows + &relations + &cards)).unwrap() {
+        for case in
+            read_cases(&(models + &flows + &relations + &cards + &transports + &chains)).unwrap()
+        {
             for field in case.fields {
                 if let Value::Answer(refusal, _) = field.value {
                     *counts.entry((field.name, refusal)).or_default() += 1;

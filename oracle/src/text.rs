@@ -178,16 +178,20 @@ const EDGE: Shape = &[
 /// How many nodes the new network has.
 const NODES: Shape = &[&[("nodes", Number), ("new", Answer(&[Number]))]];
 
-/// Masses and costs by row, and what `transport` gives: total, cells; then the plan.
-const TRANSPORT: Shape = &[&[
-    ("a", Reals),
-    ("b", Reals),
-    ("costs", Reals),
-    ("transport", Answer(&[Real, Number])),
+/// The columns of a plan.
+const PLAN: Lines = &[
     ("plan_rows", Numbers),
     ("plan_columns", Numbers),
     ("plan_masses", Reals),
-]];
+];
+
+/// Masses, costs by row and the columns lent, and what `transport` gives: total, cells; then the columns.
+const TRANSPORT: Shape = &[
+    &[("a", Reals), ("b", Reals), ("costs", Reals)],
+    PLAN,
+    &[("transport", Answer(&[Real, Number]))],
+    PLAN,
+];
 
 /// The left and the right model, classes and tolerances, the bytes lent and what the first of them hold; each answer
 /// with these bytes afterwards.
@@ -222,6 +226,49 @@ const RELATED: Shape = &[&[
     ("t", Number),
     ("related", Answer(&[Number])),
 ]];
+
+/// Two models, and the rate that covers both.
+const RATE: Shape = &[
+    COUNTS,
+    COLUMNS,
+    COUNTS,
+    COLUMNS,
+    &[("common_rate", Answer(&[Real]))],
+];
+
+/// The lists of a chain.
+const CHAIN: Lines = &[
+    ("chain_offsets", Numbers),
+    ("chain_targets", Numbers),
+    ("chain_probabilities", Reals),
+    ("chain_observations", Reals),
+];
+
+/// A model, a rate, observations and the lists lent; how many entries the chain has, and the lists.
+const UNIFORMISE: Shape = &[
+    COUNTS,
+    COLUMNS,
+    &[("rate", Real), ("observations", Reals)],
+    CHAIN,
+    &[("uniformise", Answer(&[Number]))],
+    CHAIN,
+];
+
+/// The counts of a chain and its initial state.
+const CHAIN_COUNTS: Lines = &[("states", Number), ("entries", Number), ("initial", Number)];
+
+/// Two chains; by how much the observations differ, and the observations of each.
+const NORMALISE: Shape = &[
+    CHAIN_COUNTS,
+    CHAIN,
+    CHAIN_COUNTS,
+    CHAIN,
+    &[
+        ("normalise", Answer(&[Real])),
+        ("left_observations", Reals),
+        ("right_observations", Reals),
+    ],
+];
 
 /// Two chains and options; what `distance` gives: value, bound, γ, pairs, rounds; then the contributions.
 const DISTANCE: Shape = &[&[
@@ -269,6 +316,9 @@ pub const SHAPES: &[(&str, Shape)] = &[
     ("transport", TRANSPORT),
     ("relation", RELATION),
     ("related", RELATED),
+    ("rate", RATE),
+    ("uniformise", UNIFORMISE),
+    ("normalise", NORMALISE),
     ("distance", DISTANCE),
     ("card", CARD),
 ];

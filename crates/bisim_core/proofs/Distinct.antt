@@ -11,15 +11,15 @@ use lib.Seq.{getD-append-seam}
 use borrow.Author.Tests.{lt-ltb, le-ltb, ltb-true, ltb-false}
 use Rattle.numbers.specs.Search.{seek}
 use Rattle.numbers.proofs.Seeks.{seek-more, seek-new}
-use Rattle.bisim_core.specs.Ids.{intern, distinct}
+use Rattle.bisim_core.specs.Ids.{noted, intern, distinct}
 
 pub intern-old : (known : List ℕ) (x : ℕ) (xs : List ℕ) → seek x known < length known → intern known (x ∷ xs) ≡ intern known xs
 unfolding intern
-intern-old known x xs h = rw (lt-ltb (seek x known) (length known) h)
+intern-old known x xs h = ap (λ (b : Bool). intern (noted b x known) xs) (lt-ltb (seek x known) (length known) h)
 
 pub intern-new : (known : List ℕ) (x : ℕ) (xs : List ℕ) → length known ≤ seek x known → intern known (x ∷ xs) ≡ intern (known ++ (x ∷ [])) xs
 unfolding intern
-intern-new known x xs h = rw (le-ltb (seek x known) (length known) h)
+intern-new known x xs h = ap (λ (b : Bool). intern (noted b x known) xs) (le-ltb (seek x known) (length known) h)
 
 known-or-new : (x : ℕ) (l : List ℕ) → (seek x l < length l) ⊎ (length l ≤ seek x l)
 known-or-new x l = pick (ltb (seek x l) (length l)) refl

@@ -18,7 +18,8 @@ use Rattle.card_report.specs.Report.{refusalLine, mostReport}
 use Rattle.card_relation.proofs.Relates.{line-fits}
 use Rattle.card_models.specs.Models.{cardText}
 use Rattle.card_models.proofs.Handing.{Room, headsText}
-use Rattle.card_models.proofs.Builds.{listed-text, card-room, card-fits}
+use Rattle.card_models.proofs.Answers.{card-fits}
+use Rattle.card_models.proofs.Builds.{listed-text, card-room}
 use Rattle.card.specs.Printing.{readingText, printed}
 
 -- the lists that are lent
@@ -55,7 +56,7 @@ module _ {bs : List ℕ} {k : answers.Columns} {r : Read} (A : Answered bs zeros
   was-room {h} e = let F = was-card e in card-room (F .the-card) h k (F .lists .its-heads) (F .within) (F .long)
 
   pub was-printed : {h : Heads} → r ≡ reads.Card h → headsText h k ≡ printed bs
-  was-printed {h} e = let F = was-card e in listed-text (F .the-card) h k (F .lists) ∙ printed-card bs (F .the-card) (F .reads)
+  was-printed {h} e = let F = was-card e in listed-text (F .the-card) h k (F .within) (F .long) (F .lists) ∙ printed-card bs (F .the-card) (F .reads)
 
 -- ---- how long a text is
 

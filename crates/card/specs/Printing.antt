@@ -1,7 +1,6 @@
--- What is printed for the bytes of a card: a refusal's line, or the report of the relation of its two models.
+-- What is printed for any bytes: a refusal's line, or the report of the relation of a card's two models.
 use mathlib.Core.List.{List}
 use Prim.Native.Nat.{ℕ}
-use Rattle.bisim_build.specs.Build.{build}
 use Rattle.card_layout.specs.Card.{Reading, card, refused, read}
 use Rattle.card_report.specs.Report.{refusalLine}
 use Rattle.card_models.specs.Models.{cardText}
@@ -11,7 +10,7 @@ abbrev pub readingText : Reading → List ℕ
 readingText (card c) = cardText c
 readingText (refused n) = refusalLine n
 
--- what is printed for any bytes: checks 1 and 2 line by line, then those of the calls
+-- checks 1 and 2 line by line, then those of the card
 unfoldable pub printed : List ℕ → List ℕ
-unfolding read build
+unfolding read cardText
 printed bs = readingText (read bs)

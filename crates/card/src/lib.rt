@@ -1,5 +1,4 @@
 // The report of a card: from its bytes to the printed relation.
-mod models; // models.rt: a model of a card, built
-mod print; // print.rt: their relation, and the report
+mod print; // print.rt: the models, their relation, and the report
 
 pub use print::report;

@@ -1,8 +1,8 @@
 // The relation of a card's models, and the report.
-use crate::models::build_side;
 use bisim_build::builder::Built;
 use card_models::Both;
 use card_models::both_models;
+use card_models::build_side;
 use card_reader::Heads;
 use card_reader::Read;
 use card_reader::read_card;

@@ -1,51 +1,17 @@
 -- The claims of specs/Claim.antt hold; and the document's worked examples, by computation.
 use mathlib.Core.Path.{_≡_, refl}
-use mathlib.Core.Logic.{_⊎_, inl, inr}
-use mathlib.Core.Bool.{Bool, true, false, not}
 use mathlib.Core.List.{List, [], _∷_, _++_}
-use Prim.Native.Nat.{ℕ, zero, suc, _+_, _^_, _≤_, _<_}
+use Prim.Native.Nat.{ℕ, _^_, _<_}
 use native.Mathlib.Omega.{arith}
-use lib.Dec.{T, ltb, lit<, le→leb}
+use lib.Dec.{T, lit<, le→leb}
 use lib.Ieee.{binary64, inFloat}
 use lib.Ieee.Back.{unsigned-back}
 use lib.IntN.{pos}
-use lib.ListN.{length}
-use Rattle.numbers.specs.Refuse.{check}
-use Rattle.card_layout.specs.Layout.{place, column, line, lines, digit, value, numbers, rows, starts, laid}
-use Rattle.card_layout.specs.Card.{Side, Card, sideText, layout, classesIn, transitionsIn, sideIn, SideWithin, Within, outcome, card, refused, read, states, count, classPart, transitionPart, afterSide, lastPart, large, sideFault, lastFault, fault, cardIn}
+use Rattle.card_layout.specs.Layout.{place, column, line, lines, digit, value, numbers, rows, starts}
+use Rattle.card_layout.specs.Card.{Side, Card, sideText, layout, classesIn, transitionsIn, sideIn, SideWithin, Within, card, refused, read, sideFault, lastFault, fault, cardIn}
 use Rattle.card_layout.specs.Claim.{Laws}
+use Rattle.card_layout.proofs.Faults.{which, too-large}
 use Rattle.card_layout.proofs.Cards.{read-layout, layout-read, layout-length, read-take}
-
--- ---- a fault is 1 or 2
-
-check-low : (n : ℕ) (b : Bool) (later : ℕ) → n ≤ 2 → later ≤ 2 → check n b later ≤ 2
-check-low n true later h g = h
-check-low n false later h g = g
-
-side-low : (bs : List ℕ) (later : ℕ) → later ≤ 2 → sideFault bs later ≤ 2
-unfolding sideFault
-side-low bs later h =
-    check-low 1 (not (laid 1 3 bs)) _ (omega arith)
-    (check-low 2 (large bs) _ (omega arith)
-    (check-low 1 (not (laid (states bs) 1 (classPart bs))) _ (omega arith)
-    (check-low 1 (not (laid (count bs) 4 (transitionPart bs))) later (omega arith) h)))
-
-fault-low : (bs : List ℕ) → fault bs ≤ 2
-unfolding fault lastFault
-fault-low bs =
-    side-low bs _ (side-low (afterSide bs) _
-    (check-low 1 (not (laid 1 2 (lastPart bs))) _ (omega arith)
-    (check-low 1 (ltb 13 (length (lastPart bs))) 0 (omega arith) (omega arith))))
-
-refused-low : (a : ℕ) (c : Card) (n : ℕ) → a ≤ 2 → outcome a c ≡ refused n → (n ≡ 1) ⊎ (n ≡ 2)
-refused-low zero c n h e = absurd (let z : _≡_ {A = ℕ} 0 1 = cc in omega arith)
-refused-low (suc zero) c n h e = inl (let z : _≡_ {A = ℕ} n 1 = cc in z)
-refused-low (suc (suc zero)) c n h e = inr (let z : _≡_ {A = ℕ} n 2 = cc in z)
-refused-low (suc (suc (suc a))) c n h e = absurd (omega arith)
-
-refuses : (bs : List ℕ) (n : ℕ) → read bs ≡ refused n → (n ≡ 1) ⊎ (n ≡ 2)
-unfolding read
-refuses bs n e = refused-low (fault bs) (cardIn bs) n (fault-low bs) e
 
 -- ---- the claims
 
@@ -57,7 +23,8 @@ pub laws : Laws
 laws = record {
   reads-back = read-layout;
   lays-again = layout-read;
-  refuses = refuses;
+  refuses = which;
+  too-large = too-large;
   greatest = layout-length;
   first-bytes = λ bs h. read-take 10500 bs (omega arith);
   exact = λ m h. unsigned-back binary64 32 (m .weight) (whole (m .weight) h) (let l : 1000000 < 2 ^ 32 = lit< tt in omega arith);

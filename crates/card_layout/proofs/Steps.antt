@@ -1,7 +1,7 @@
 -- The steps of the code over bytes, as the definitions make them.
 use mathlib.Core.Path.{_≡_, refl, sym, ap, _∙_}
 use mathlib.Core.Bool.{Bool, true, false, _&&_}
-use mathlib.Core.List.{List, []}
+use mathlib.Core.List.{List, [], _∷_}
 use Prim.Native.Nat.{ℕ, zero, suc, _+_, _*_, _-_, _/_, _%_, _≤_, _<_}
 use native.Mathlib.Omega.{arith}
 use lib.Dec.{eqb}
@@ -45,12 +45,21 @@ value-drop s at =
     let e : at + 0 ≡ at = omega arith in
     rw (getD-drop at s 0 0, getD-drop at s 1 0, getD-drop at s 2 0, getD-drop at s 3 0, getD-drop at s 4 0, getD-drop at s 5 0, e)
 
+-- the number of six digits
+pub number-of : (s : List ℕ) (at a b d e f g : ℕ) → a ≡ digit (getD s at 0) → b ≡ digit (getD s (at + 1) 0) → d ≡ digit (getD s (at + 2) 0) → e ≡ digit (getD s (at + 3) 0)
+    → f ≡ digit (getD s (at + 4) 0) → g ≡ digit (getD s (at + 5) 0) → 100000 * a + 10000 * b + 1000 * d + 100 * e + 10 * f + g ≡ value (drop at s)
+number-of s at a b d e f g p q r t u v = rw (p, q, r, t, u, v) (sym (value-drop s at))
+
 -- past the end no number stands
 pub value-past : (s : List ℕ) (at : ℕ) → length s ≤ at → 0 ≡ value (drop at s)
 unfolding value digit
 value-past s at h = rw (drop-of-length-le s h)
 
 -- ---- the bytes of a column, one by one
+
+pub column-of : (n a b d e f : ℕ) → a ≡ place 100000 n → b ≡ place 10000 n → d ≡ place 1000 n → e ≡ place 100 n → f ≡ place 10 n → a ∷ b ∷ d ∷ e ∷ f ∷ (48 + n % 10) ∷ [] ≡ column n
+unfolding column
+column-of n a b d e f p q r t u = rw (p, q, r, t, u)
 
 module _ (c s : List ℕ) (i p : ℕ) (h : i < length c) where
   pub starts-past : length s ≤ p → starts (drop i c) (drop p s) ≡ false

@@ -3,12 +3,14 @@ use mathlib.Core.Path.{_≡_, refl, sym, ap, subst, _∙_}
 use mathlib.Core.List.{List}
 use Prim.Native.Nat.{ℕ, zero, suc, _+_, _-_, _≤_}
 use native.Mathlib.Omega.{arith}
+use lib.Dec.{ltb}
 use lib.ListN.{length, take, drop}
 use lib.Seq.{slice}
-use Rattle.numbers.proofs.Parts.{drop-take}
+use Rattle.numbers.specs.Refuse.{check}
 use Rattle.bisim_core.specs.Data.{Transitions, Columns, transitions}
 use Rattle.bisim_core.specs.declared.wlts.Shape.{Shape}
 use Rattle.bisim_core.specs.declared.wlts.Initial.{Initial}
+use Rattle.bisim_core.specs.declared.wlts.Initial.the-variants.{At}
 use Rattle.bisim_build.specs.Build as builds
 use Rattle.bisim_build.specs.Build.{build}
 use Rattle.bisim_build.specs.declared.builder.Built.{Built}
@@ -17,26 +19,21 @@ use Rattle.bisim_edges.specs.Checks.{present}
 use Rattle.card_layout.specs.Card.{Side, Card, Within}
 use Rattle.card_layout.specs.Lists as answers
 use Rattle.card_reader.specs.Answer.{headOf, headsOf}
+use Rattle.card_reader.specs.declared.reader.Head.{Head}
 use Rattle.card_reader.specs.declared.reader.Heads.{Heads}
 use Rattle.card_reader.proofs.Lists.{SideListed, Listed, Long}
-use Rattle.card_report.specs.Report.{refusalLine, mostReport}
+use Rattle.card_report.specs.Report.{refusalLine}
 use Rattle.card_relation.specs.Relating.{relationText}
-use Rattle.card_relation.proofs.Relates.{line-fits, relation-fits}
 use Rattle.card_models.specs.declared.models.Both.{Both}
 use Rattle.card_models.specs.declared.models.Both.the-variants as boths
-use Rattle.card_models.specs.Models.{buildFrom, builtOf, both, modelsText, cardText}
-use Rattle.card_models.proofs.Handing.{Room, Few, FewBoth, cutAt, sideBuilt, listsText, rightText, headsText}
+use Rattle.card_models.specs.Models.{cardText}
+use Rattle.card_models.specs.Together.{both}
+use Rattle.card_models.specs.Sides.{shortest, cutAt, sideEnds}
+use Rattle.card_models.proofs.Handing.{blank, builtOf, modelsText, builtText, Room, Few, FewBoth, sideBuilt, listsText, rightText, headsText}
+use Rattle.card_models.proofs.Parts.{cut, side-there}
+use Rattle.card_models.proofs.Answers.{built-text}
 
--- ---- parts of lists, as code cuts them
-
-cut : {A : Type 0} (m n : ℕ) (l : List A) → take (m + n - m) (drop m l) ≡ slice m (m + n) l
-cut m n l = let e : m + n - m ≡ n = omega arith in ap (λ (x : ℕ). take x (drop m l)) e ∙ sym (drop-take m n l)
-
--- the transitions that `build` is handed
-pub cut-built : (s i m n : ℕ) (k : answers.Columns) (M : Columns)
-    → buildFrom s i (transitions (take (m + n - m) (drop m (k .sources))) (take (m + n - m) (drop m (k .labels))) (take (m + n - m) (drop m (k .targets))) (take (m + n - m) (drop m (k .weights)))) n M
-    ≡ buildFrom s i (cutAt m n k) n M
-cut-built s i m n k M = rw (cut m n (k .sources), cut m n (k .labels), cut m n (k .targets), cut m n (k .weights))
+-- ---- the classes, as code cuts them
 
 module _ (ML MR : Columns) (h : Heads) (classes : List ℕ) (b : Both) where
   pub lists-refused : (n : ℕ) → b ≡ boths.Refused n → refusalLine n ≡ listsText b ML MR h classes
@@ -71,10 +68,18 @@ unfolding statesOf
 few-of (built.Model S) n h g = omega arith
 few-of (built.Refused m) n h g = tt
 
-pub built-few : (x : Built) (N : Columns) (s : ℕ) (i : Initial) (C : Transitions) (n : ℕ) (M : Columns) → builds.ends x N ≡ build s i C n M → s ≤ 32 → Few x
-built-few x N s i C n M e h =
-    let f : statesOf x ≡ statesOf ((build s i C n M) .answer) = ap (λ (o : builds.Outcome). statesOf (o .answer)) e in
-    few-of x s (subst (λ (k : ℕ). k ≤ s) (sym f) (built-states s i C n M)) h
+side-states : (h : Head) (m : ℕ) (C : Transitions) (M : Columns) → statesOf ((sideEnds h m C M) .answer) ≤ h .states
+unfolding statesOf
+side-states h m C M = pick (check 7 (ltb (shortest C) (m + h .transitions)) 0)
+  where
+    pick : (r : ℕ) → statesOf ((builds.settled r M (build (h .states) (At (record { 0 = h .initial })) (cutAt m (h .transitions) C) (h .transitions) M)) .answer) ≤ h .states
+    pick zero = built-states (h .states) (At (record { 0 = h .initial })) (cutAt m (h .transitions) C) (h .transitions) M
+    pick (suc r) = omega arith
+
+pub built-few : (x : Built) (N : Columns) (h : Head) (m : ℕ) (k : answers.Columns) → builds.ends x N ≡ sideBuilt h m k → h .states ≤ 32 → Few x
+built-few x N h m k e g =
+    let f : statesOf x ≡ statesOf ((sideBuilt h m k) .answer) = ap (λ (o : builds.Outcome). statesOf (o .answer)) e in
+    few-of x (h .states) (subst (λ (n : ℕ). n ≤ h .states) (sym f) (side-states h m (transitions (k .sources) (k .labels) (k .targets) (k .weights)) blank)) g
 
 pub both-few : (x y : Built) (b : Both) → b ≡ both x y → Few x → Few y → FewBoth b
 both-few x y b e p q = rw e (pick x y p q)
@@ -95,50 +100,35 @@ left-is x N h k e = ap (λ (o : builds.Outcome). rightText (o .answer) (o .memor
 
 -- ---- the card in the lists
 
-side-built : (s : Side) (n m : ℕ) (k : answers.Columns) → SideListed (s .classes) (s .transitions) n m k → sideBuilt (headOf s) m k ≡ builtOf s
-side-built s n m k L = rw (L .its-sources, L .its-labels, L .its-targets, L .its-weights)
+side-built : (s : Side) (n m : ℕ) (k : answers.Columns) → Long k → m + length (s .transitions) ≤ 400 → SideListed (s .classes) (s .transitions) n m k → sideBuilt (headOf s) m k ≡ builtOf s
+side-built s n m k g e L =
+    let a = g .sources-long in
+    let b = g .labels-long in
+    let d = g .targets-long in
+    let f = g .weights-long in
+    sym (side-there (headOf s) m (transitions (k .sources) (k .labels) (k .targets) (k .weights)) blank (omega arith)) ∙ rw (L .its-sources, L .its-labels, L .its-targets, L .its-weights)
 
-module _ (c : Card) (k : answers.Columns) (L : SideListed (c .left .classes) (c .left .transitions) 0 0 k)
+module _ (c : Card) (k : answers.Columns) (w : Within c) (g : Long k) (L : SideListed (c .left .classes) (c .left .transitions) 0 0 k)
     (R : SideListed (c .right .classes) (c .right .transitions) (length (c .left .classes)) (length (c .left .transitions)) k) where
-  heads-text : headsText (headsOf c) k ≡ cardText c
+  heads-text : headsText (headsOf c) k ≡ builtText c
   heads-text =
       let o : 0 + length (c .left .classes) ≡ length (c .left .classes) = omega arith in
       let l : slice 0 (length (c .left .classes)) (k .classes) ≡ c .left .classes = ap (λ (z : ℕ). slice 0 z (k .classes)) (sym o) ∙ L .its-classes in
-      let x = side-built (c .left) 0 0 k L in
-      let y = side-built (c .right) (length (c .left .classes)) (length (c .left .transitions)) k R in
+      let m = w .left-within .few-transitions in
+      let n = w .right-within .few-transitions in
+      let x = side-built (c .left) 0 0 k g (omega arith) L in
+      let y = side-built (c .right) (length (c .left .classes)) (length (c .left .transitions)) k g (omega arith) R in
       ap (λ (z : builds.Outcome). rightText (z .answer) (z .memory) (headsOf c) k) x
       ∙ ap (λ (z : builds.Outcome). listsText (both ((builtOf (c .left)) .answer) (z .answer)) ((builtOf (c .left)) .memory) (z .memory) (headsOf c) (k .classes)) y
       ∙ ap (λ (z : List ℕ). modelsText (both ((builtOf (c .left)) .answer) ((builtOf (c .right)) .answer)) ((builtOf (c .left)) .memory) ((builtOf (c .right)) .memory) z (slice (length (c .left .classes)) (length (c .left .classes) + length (c .right .classes)) (k .classes)) (c .epsilon) (c .rho)) l
       ∙ ap (λ (z : List ℕ). modelsText (both ((builtOf (c .left)) .answer) ((builtOf (c .right)) .answer)) ((builtOf (c .left)) .memory) ((builtOf (c .right)) .memory) (c .left .classes) z (c .epsilon) (c .rho)) (R .its-classes)
 
-pub listed-text : (c : Card) (h : Heads) (k : answers.Columns) → Listed c h k → headsText h k ≡ cardText c
-listed-text c h k L = ap (λ (z : Heads). headsText z k) (L .its-heads) ∙ heads-text c k (L .its-left) (L .its-right)
+pub listed-text : (c : Card) (h : Heads) (k : answers.Columns) → Within c → Long k → Listed c h k → headsText h k ≡ cardText c
+listed-text c h k w g L = ap (λ (z : Heads). headsText z k) (L .its-heads) ∙ heads-text c k w g (L .its-left) (L .its-right) ∙ built-text c w
 
 -- the counts of a card that was read, and room in the lists
 pub card-room : (c : Card) (h : Heads) (k : answers.Columns) → h ≡ headsOf c → Within c → Long k → Room h k
-card-room c h k e w g = rw e (fits (w .left-within .few-states) (w .right-within .few-states) (w .left-within .few-transitions) (w .right-within .few-transitions) (g .classes-long) (g .sources-long) (g .labels-long) (g .targets-long) (g .weights-long))
+card-room c h k e w g = rw e (fits (w .left-within .few-states) (w .right-within .few-states) (g .classes-long))
   where
-    fits : length (c .left .classes) ≤ 32 → length (c .right .classes) ≤ 32 → length (c .left .transitions) ≤ 200 → length (c .right .transitions) ≤ 200
-        → 64 ≤ length (k .classes) → 400 ≤ length (k .sources) → 400 ≤ length (k .labels) → 400 ≤ length (k .targets) → 400 ≤ length (k .weights) → Room (headsOf c) k
-    fits p q m n a b d e′ f = record {
-      left-few = p;
-      right-few = q;
-      classes-room = omega arith;
-      sources-room = omega arith;
-      labels-room = omega arith;
-      targets-room = omega arith;
-      weights-room = omega arith;
-    }
-
--- ---- how long a text is
-
-models-fit : (b : Both) (ML MR : Columns) (cl cr : List ℕ) (ε ρ : ℕ) → FewBoth b → length (modelsText b ML MR cl cr ε ρ) ≤ mostReport
-models-fit (boths.Models SL SR) ML MR cl cr ε ρ f = relation-fits SL ML SR MR cl cr ε ρ (f .0) (f .1)
-models-fit (boths.Refused n) ML MR cl cr ε ρ f = line-fits n
-
-pub card-fits : (c : Card) → Within c → length (cardText c) ≤ mostReport
-card-fits c w =
-    models-fit (both ((builtOf (c .left)) .answer) ((builtOf (c .right)) .answer)) ((builtOf (c .left)) .memory) ((builtOf (c .right)) .memory) (c .left .classes) (c .right .classes) (c .epsilon) (c .rho)
-    (both-few ((builtOf (c .left)) .answer) ((builtOf (c .right)) .answer) _ refl
-    (built-few ((builtOf (c .left)) .answer) ((builtOf (c .left)) .memory) _ _ _ _ _ refl (w .left-within .few-states))
-    (built-few ((builtOf (c .right)) .answer) ((builtOf (c .right)) .memory) _ _ _ _ _ refl (w .right-within .few-states)))
+    fits : length (c .left .classes) ≤ 32 → length (c .right .classes) ≤ 32 → 64 ≤ length (k .classes) → Room (headsOf c) k
+    fits p q a = record { left-few = p; right-few = q; classes-room = omega arith }

@@ -1,58 +1,69 @@
--- The two models of a card, built, and what is printed for them.
-use mathlib.Core.List.{List, map}
-use Prim.Native.Nat.{ℕ, min}
-use lib.ListN.{length, replicate}
-use Rattle.numbers.specs.Real.{nought}
-use Rattle.bisim_core.specs.Data.{Transitions, Columns, transitions, columns}
-use Rattle.bisim_core.specs.declared.wlts.Shape.{Shape}
-use Rattle.bisim_core.specs.declared.wlts.Initial.the-variants.{At}
-use Rattle.bisim_build.specs.Build.{Outcome, build}
-use Rattle.bisim_build.specs.declared.builder.Built.{Built}
-use Rattle.bisim_build.specs.declared.builder.Built.the-variants as built
-use Rattle.card_layout.specs.Card.{Side, Card}
+-- What is printed for a card: the line of what refuses it, or the report of the relation of its two models.
+use mathlib.Core.Bool.{Bool, true, false, _&&_, _||_, not}
+use mathlib.Core.List.{List, [], _∷_, _++_, map}
+use Prim.Native.Nat.{ℕ}
+use lib.Dec.{eqb, ltb}
+use lib.ListN.{length}
+use Rattle.numbers.specs.Refuse.{check}
+use Rattle.numbers.specs.Lists.{span, all}
+use Rattle.bisim_core.specs.Data.{Edge, Transitions, transitions}
+use Rattle.bisim_core.specs.Edges.{edges}
+use Rattle.epsdelta_theory.specs.Jumps.{union}
+use Rattle.epsdelta_theory.specs.Epsdelta.{Given, ratesClose, givenRows, epsdelta}
+use Rattle.epsdelta_theory.specs.Refusal.{tolerancesOutside}
+use Rattle.epsdelta_theory.specs.Claim.{final}
+use Rattle.card_layout.specs.Card.{Transition, Side, Card}
 use Rattle.card_layout.specs.Lists.{sourceOf, labelOf, targetOf, weightOf}
-use Rattle.card_report.specs.Report.{refusalLine}
-use Rattle.card_relation.specs.Relating.{relationText}
-use Rattle.card_models.specs.declared.models.Both.{Both}
-use Rattle.card_models.specs.declared.models.Both.the-variants.{Models, Refused}
+use Rattle.card_report.specs.Report.{report}
+use Rattle.card_relation.specs.Relating.{parts, textOf}
 
--- its transitions, column by column
-abbrev pub columnsOf : Side → Transitions
-columnsOf s = transitions (map sourceOf (s .transitions)) (map labelOf (s .transitions)) (map targetOf (s .transitions)) (map weightOf (s .transitions))
+-- ---- a model: the edges of each state
 
--- the stores lent to `build`, for the largest model of a card, of 200 transitions and 32 states
-abbrev pub blank : Columns
-blank = columns (replicate 200 0) (replicate 33 0) (replicate 200 0) (replicate 200 0) (replicate 200 nought)
+-- the transitions given
+abbrev pub givenOf : Side → Transitions
+givenOf s = transitions (map sourceOf (s .transitions)) (map labelOf (s .transitions)) (map targetOf (s .transitions)) (map weightOf (s .transitions))
 
--- a model that has an initial state
-abbrev pub buildFrom : ℕ → ℕ → Transitions → ℕ → Columns → Outcome
-buildFrom states initial C n M = build states (At (record { 0 = initial })) C n M
+-- what `build` makes of them
+abbrev pub edgesOf : Side → List Edge
+edgesOf s = edges (givenOf s) (length (s .transitions))
 
-abbrev pub builtOf : Side → Outcome
-builtOf s = buildFrom (length (s .classes)) (s .initial) (columnsOf s) (length (s .transitions)) blank
+abbrev pub chosen : Bool → Edge → List Edge → List Edge
+chosen true a rest = a ∷ rest
+chosen false a rest = rest
 
--- the left model with the right one, or the number that refuses it
-abbrev pub withLeft : Shape → Built → Both
-withLeft SL (built.Model SR) = Models SL SR
-withLeft SL (built.Refused n) = Refused n
+-- those that leave state s
+unfoldable pub leaving : ℕ → List Edge → List Edge
+leaving s [] = []
+leaving s (a ∷ rest) = chosen (eqb (a .source) s) a (leaving s rest)
 
--- the lower number, where m refuses the left model
-abbrev pub lower : ℕ → Built → ℕ
-lower m (built.Model SR) = m
-lower m (built.Refused n) = min m n
+-- the model
+unfoldable pub modelOf : Side → List (List Edge)
+unfolding leaving edges span
+modelOf s = map (λ x. leaving x (edgesOf s)) (span 0 (length (s .classes)))
 
--- both models, or the lower number that refuses one
-abbrev pub both : Built → Built → Both
-both (built.Model SL) right = withLeft SL right
-both (built.Refused m) right = Refused (lower m right)
+-- ---- what is refused once the card is read
 
--- both models with their classes, ε and ρ, or what refuses one
-abbrev pub modelsText : Both → Columns → Columns → List ℕ → List ℕ → ℕ → ℕ → List ℕ
-modelsText (Models SL SR) ML MR cl cr ε ρ = relationText SL ML SR MR cl cr ε ρ
-modelsText (Refused n) ML MR cl cr ε ρ = refusalLine n
+-- source and target are below the state count n
+abbrev pub inside : ℕ → Transition → Bool
+inside n m = ltb (m .source) n && ltb (m .target) n
 
--- both models built, then their relation
-abbrev pub cardText : Card → List ℕ
-cardText c =
-    modelsText (both ((builtOf (c .left)) .answer) ((builtOf (c .right)) .answer)) ((builtOf (c .left)) .memory) ((builtOf (c .right)) .memory)
-    (c .left .classes) (c .right .classes) (c .epsilon) (c .rho)
+-- 4: a state number that is not below the model's state count
+abbrev pub stray : Side → Bool
+stray s = not (ltb (s .initial) (length (s .classes))) || not (all (inside (length (s .classes))) (s .transitions))
+
+-- the first of checks 4 and 9 that fails, each over the whole card; 0 if neither does
+unfoldable pub cardRefusal : Card → ℕ
+unfolding all
+cardRefusal c = check 4 (stray (c .left) || stray (c .right)) (check 9 (tolerancesOutside (parts (c .epsilon)) (parts (c .rho))) 0)
+
+-- ---- what is printed
+
+-- what `epsdelta` is given: both models, their classes, ε and ρ
+unfoldable pub cardGiven : Card → Given
+unfolding union modelOf ratesClose
+cardGiven c = givenRows (union (modelOf (c .left)) (modelOf (c .right))) (c .left .classes ++ c .right .classes) (parts (c .epsilon)) (parts (c .rho))
+
+-- the line of what refuses the card, or the report of the final relation
+unfoldable pub cardText : Card → List ℕ
+unfolding cardRefusal cardGiven epsdelta report
+cardText c = textOf (cardRefusal c) (report (final (cardGiven c)) (length (c .left .classes)) (length (c .right .classes)))

@@ -2,7 +2,7 @@
 use bisim_build::builder::Built;
 use bisim_core::wlts::Shape;
 ghost use mathlib.Core.Path.{_≡_};
-ghost use Rattle.card_models.specs.Models;
+ghost use Rattle.card_models.specs.Together;
 
 // Both models, or the lower number that refuses one.
 pub enum Both {
@@ -12,7 +12,7 @@ pub enum Both {
 
 // What `both_models` answers where the left model is there.
 fn with_left(a: Shape, right: Built) -> Both
-    ensures { λ r. ⌜ r ≡ Models.withLeft a right ⌝ }
+    ensures { λ r. ⌜ r ≡ Together.withLeft a right ⌝ }
 {
     match right {
         Built::Model(b) => Both::Models(a, b),
@@ -22,7 +22,7 @@ fn with_left(a: Shape, right: Built) -> Both
 
 // The lower number, where m refuses the left model.
 fn lower(m: u32, right: Built) -> u32
-    ensures { λ r. ⌜ r ≡ Models.lower m right ⌝ }
+    ensures { λ r. ⌜ r ≡ Together.lower m right ⌝ }
 {
     match right {
         Built::Model(_) => m,
@@ -32,7 +32,7 @@ fn lower(m: u32, right: Built) -> u32
 
 // Both models, or the lower number that refuses one.
 pub fn both_models(left: Built, right: Built) -> Both
-    ensures { λ r. ⌜ r ≡ Models.both left right ⌝ }
+    ensures { λ r. ⌜ r ≡ Together.both left right ⌝ }
 {
     match left {
         Built::Model(a) => with_left(a, right),

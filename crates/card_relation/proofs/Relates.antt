@@ -1,20 +1,23 @@
 -- The text of what `epsdelta` answered: the relation is read back from its bytes, and a refusal is its line.
 use mathlib.Core.Path.{_≡_, refl, sym, ap, subst, _∙_}
-use mathlib.Core.Bool.{Bool, false}
+use mathlib.Core.Bool.{Bool, false, _||_}
 use mathlib.Core.List.{List, [], _∷_}
 use Prim.Native.Nat.{ℕ, zero, suc, _+_, _*_, _/_, _≤_, _<_}
 use native.Mathlib.Omega.{arith}
+use lib.Dec.{ltb}
 use lib.Ieee.{Float}
 use lib.ListN.{length, drop, List·getD-append}
 use lib.Seq.{ext-getD}
 use borrow.Author.Tests.{le-ltb, lt-ltb}
 use Rattle.numbers.specs.Bits.{packed, bitAt, unpack}
 use Rattle.numbers.specs.Lists.{over}
+use Rattle.numbers.specs.Refuse.{check}
 use Rattle.numbers.proofs.Packed.{packed-bit, packed-length, unpack-at, unpack-length}
 use Rattle.bisim_core.specs.Data.{Columns}
 use Rattle.bisim_core.specs.Model.{model}
 use Rattle.bisim_core.specs.declared.wlts.Shape.{Shape}
-use Rattle.epsdelta_theory.specs.Refusal.{epsdeltaRefusal}
+use Rattle.epsdelta_theory.specs.Relation.{relationBytes}
+use Rattle.epsdelta_theory.specs.Refusal.{tolerancesOutside, modelsRefusal, relationRefusal, epsdeltaRefusal}
 use Rattle.epsdelta_theory.specs.Epsdelta.{given, task, epsdelta}
 use Rattle.epsdelta_theory.specs.Claim.{final}
 use Rattle.epsdelta_theory.proofs.Runs.{run-length}
@@ -26,7 +29,7 @@ use Rattle.card_layout.proofs.Lines.{length-line}
 use Rattle.card_report.specs.Report.{report, refusalLine, mostReport, storeFault, reportFault, relationIn, Printed}
 use Rattle.card_report.specs.declared.report.Text.{Text}
 use Rattle.card_report.specs.declared.report.Text.the-variants as texts
-use Rattle.card_report.proofs.Texts.{square-low, report-room, report-fits}
+use Rattle.card_report.proofs.Texts.{square-low, report-room}
 use Rattle.card_relation.specs.Relating.{parts, textOf, relationText, relationFault}
 
 -- ---- a store with room
@@ -100,22 +103,29 @@ module _ (SL : Shape) (ML : Columns) (SR : Shape) (MR : Columns) (cl cr : List �
       run-length (task (given SL ML SR MR cl cr ε ρ))
       ∙ ap (λ (n : ℕ). n * n) (union-length (model SL ML) (model SR MR) ∙ rw (model-length SL ML, model-length SR MR))
 
-  pub same-relation : {x y : Float} (ε ρ : ℕ) → x ≡ parts ε → y ≡ parts ρ
+  -- more bytes than the relation needs change nothing
+  roomy : (ε ρ : Float) (n : ℕ) → relationBytes (SL .states + SR .states) ≤ n
+      → epsdeltaRefusal SL ML SR MR cl cr ε ρ n ≡ epsdeltaRefusal SL ML SR MR cl cr ε ρ (relationBytes (SL .states + SR .states))
+  unfolding epsdeltaRefusal relationRefusal
+  roomy ε ρ n h =
+      let m = relationBytes (SL .states + SR .states) in
+      ap (λ (b : Bool). modelsRefusal SL ML SR MR (check 7 (ltb (length cl) (SL .states) || (ltb (length cr) (SR .states) || b)) (check 8 false (check 9 (tolerancesOutside ε ρ) (check 10 (ltb 2000 (SL .states + SR .states)) 0)))))
+      (le-ltb n m h ∙ sym (le-ltb m m (omega arith)))
+
+  pub same-relation : {x y : Float} (ε ρ : ℕ) → x ≡ parts ε → y ≡ parts ρ → SL .states ≤ 32 → SR .states ≤ 32
       → textOf (epsdeltaRefusal SL ML SR MR cl cr x y 512) (report (final (given SL ML SR MR cl cr x y)) (SL .states) (SR .states)) ≡ relationText SL ML SR MR cl cr ε ρ
-  same-relation ε ρ e f = rw (e, f)
+  same-relation ε ρ e f h g =
+      let q = square-low (SL .states + SR .states) (omega arith) in
+      rw (e, f, roomy (parts ε) (parts ρ) 512 (omega arith))
 
 -- ---- how long a text is
 
 pub line-fits : (n : ℕ) → length (refusalLine n) ≤ mostReport
 line-fits n = let e = length-line (n ∷ []) in omega arith
 
-text-fits : (n : ℕ) (text : List ℕ) → length text ≤ mostReport → length (textOf n text) ≤ mostReport
+pub text-fits : (n : ℕ) (text : List ℕ) → length text ≤ mostReport → length (textOf n text) ≤ mostReport
 text-fits zero text h = h
 text-fits (suc n) text h = line-fits (suc n)
-
-pub relation-fits : (SL : Shape) (ML : Columns) (SR : Shape) (MR : Columns) (cl cr : List ℕ) (ε ρ : ℕ) → SL .states ≤ 32 → SR .states ≤ 32 → length (relationText SL ML SR MR cl cr ε ρ) ≤ mostReport
-relation-fits SL ML SR MR cl cr ε ρ h g =
-    text-fits (epsdeltaRefusal SL ML SR MR cl cr (parts ε) (parts ρ) 512) _ (report-fits (final (given SL ML SR MR cl cr (parts ε) (parts ρ))) (SL .states) (SR .states) h g)
 
 -- ---- the checks before
 

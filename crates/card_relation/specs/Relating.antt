@@ -1,7 +1,7 @@
 -- The text of the relation of two models: its report, or the line of what is refused.
 use mathlib.Core.Bool.{_||_}
 use mathlib.Core.List.{List}
-use Prim.Native.Nat.{ℕ, zero, suc}
+use Prim.Native.Nat.{ℕ, zero, suc, _+_}
 use lib.Dec.{ltb}
 use lib.IntN.{pos}
 use lib.Ieee.{Float, binary64, ofBits, ofInt, div}
@@ -23,10 +23,10 @@ abbrev pub textOf : ℕ → List ℕ → List ℕ
 textOf zero text = text
 textOf (suc n) text = refusalLine (suc n)
 
--- two models, their classes, ε and ρ in 1,024ths; the bytes lent for the relation are enough for 64 states
+-- two models, their classes, ε and ρ in 1,024ths; the relation has the bytes that it needs
 abbrev pub relationText : Shape → Columns → Shape → Columns → List ℕ → List ℕ → ℕ → ℕ → List ℕ
 relationText SL ML SR MR cl cr ε ρ =
-    textOf (epsdeltaRefusal SL ML SR MR cl cr (parts ε) (parts ρ) (relationBytes 64))
+    textOf (epsdeltaRefusal SL ML SR MR cl cr (parts ε) (parts ρ) (relationBytes (SL .states + SR .states)))
     (report (final (given SL ML SR MR cl cr (parts ε) (parts ρ))) (SL .states) (SR .states))
 
 -- why no text is written: 2, a model has over 32 states; 7, the store has no room; 0 for neither

@@ -176,6 +176,6 @@ module _ (SL : Shape) (ML : Columns) (SR : Shape) (MR : Columns) (E₀ : List Fl
       e ∙ ap (λ (k : ℕ). settled k store ((epsdelta (given SL ML SR MR cl cr ε ρ)) .relation)) (ap (λ (k : ℕ). first k later) number ∙ sym (refusal-split SL ML SR MR fails8 (tolerancesOutside ε ρ) cl cr (length store)))
 
 -- without a need of initial states
-pub plain : (SL : Shape) (ML : Columns) (SR : Shape) (MR : Columns) (cl cr : List ℕ) (ε ρ : Float) (store : List ℕ) → outcomeUnless false SL ML SR MR cl cr ε ρ store ≡ outcome SL ML SR MR cl cr ε ρ store
+pub plain : (SL : Shape) (ML : Columns) (SR : Shape) (MR : Columns) (cl cr : List ℕ) (ε ρ : Float) (store : List ℕ) {o : Outcome} → o ≡ outcomeUnless false SL ML SR MR cl cr ε ρ store → o ≡ outcome SL ML SR MR cl cr ε ρ store
 unfolding epsdeltaRefusal
-plain SL ML SR MR cl cr ε ρ store = refl
+plain SL ML SR MR cl cr ε ρ store e = e

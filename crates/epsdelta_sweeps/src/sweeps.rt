@@ -1,20 +1,21 @@
 // Sweeps over the pairs of a relation, until one without a strike.
+use crate::changes::fade;
+use crate::changes::strike;
+use crate::changes::unchanged;
 use flow_core::rows::Answer;
 use flow_core::test::flow_between;
 use numbers::bit;
-use numbers::clear_bit;
 ghost use mathlib.Core.Path.{_≡_};
 ghost use Prim.Native.Nat.{ℕ, _≤_, _<_, _+_, _*_, _-_};
 ghost use mathlib.Core.Bool.{Bool, false, _&&_};
 ghost use mathlib.Core.List.{List};
-ghost use lib.ListN.{length};
+ghost use lib.ListN.{length, getD};
 ghost use lib.Ieee.{Float, le};
 ghost use Rattle.numbers.specs.Bits.{packed};
 ghost use Rattle.epsdelta_theory.specs.Sweeps;
-ghost use Rattle.epsdelta_theory.specs.Sweeps.{Task, Run};
-ghost use Rattle.epsdelta_theory.proofs.Pairs.{count};
 ghost use Rattle.flow_core.specs.declared.rows.Answer.the-variants.{Flow};
-ghost use Rattle.epsdelta_theory.proofs.TasksIn.{RowsFit, testIn, SweepsIn, Makes};
+ghost use Rattle.epsdelta_theory.proofs.TasksIn.{RowsFit, testIn, Makes, RunsTo};
+ghost use Rattle.epsdelta_theory.proofs.Unchanged.{Settled, Noted};
 
 // Whether a flow test came to what is needed; rows that fit a flow test are never refused.
 fn enough(answer: Answer, need: f64) -> bool
@@ -79,6 +80,27 @@ fn passes_both(
     false
 }
 
+// The same, but without a run where nothing that the tests read was struck since they passed.
+fn still_passes(
+    starts: &[u32],
+    targets: &[u32],
+    probs: &[f64],
+    states: usize,
+    need: f64,
+    relation: &[u8],
+    changed: &[u8],
+    s: usize,
+    t: usize,
+) -> bool
+    requires { ⌜ RowsFit states (now starts) (now targets) (now probs) × (states * 64 ≤ length (now changed)) × (s < states) × (t < states) × Settled states (now starts) (now targets) (now probs) need (now relation) (now changed) s t ⌝ }
+    ensures { λ r. ⌜ ((R : List Bool) → now (relation .entry) ≡ packed R → r ≡ (testIn states (now (starts .entry)) (now (targets .entry)) (now (probs .entry)) need R s t && testIn states (now (starts .entry)) (now (targets .entry)) (now (probs .entry)) need R t s)) ⌝ }
+{
+    if unchanged(starts, targets, states, changed, s, t) {
+        return true;
+    }
+    passes_both(starts, targets, probs, states, need, relation, s, t)
+}
+
 // The turn of (s, t), and whether the sweep has struck then: a pair that stands is tested if s has an exit, and both orders are cleared where a test fails.
 fn turn(
     exits: &[f64],
@@ -88,12 +110,13 @@ fn turn(
     states: usize,
     need: f64,
     relation: &mut [u8],
+    changed: &mut [u8],
     s: usize,
     t: usize,
     struck: bool,
 ) -> bool
-    requires { ⌜ RowsFit states (now starts) (now targets) (now probs) × (states ≤ length (now exits)) × (s < states) × (t < states) ⌝ }
-    ensures { λ r. ⌜ Makes states (now (exits .entry)) (now (starts .entry)) (now (targets .entry)) (now (probs .entry)) need (λ Q. Sweeps.turn Q s t) (now (relation .entry)) struck (now (relation .exit)) r ⌝ }
+    requires { ⌜ RowsFit states (now starts) (now targets) (now probs) × (states ≤ length (now exits)) × (s < t) × (t < states) × Noted states (now exits) (now starts) (now targets) (now probs) need (now relation) (now changed) s t ⌝ }
+    ensures { λ r. ⌜ Makes states (now (exits .entry)) (now (starts .entry)) (now (targets .entry)) (now (probs .entry)) need (λ Q. Sweeps.turn Q s t) (now (relation .entry)) struck (now (relation .exit)) r × Noted states (now (exits .entry)) (now (starts .entry)) (now (targets .entry)) (now (probs .entry)) need (now (relation .exit)) (now (changed .exit)) s (t + 1) ⌝ }
 {
     if !bit(relation, s * states + t) {
         return struck;
@@ -101,11 +124,20 @@ fn turn(
     if exits[s] == 0.0 {
         return struck;
     }
-    if passes_both(starts, targets, probs, states, need, relation, s, t) {
+    if still_passes(
+        starts,
+        targets,
+        probs,
+        states,
+        need,
+        relation,
+        changed,
+        s,
+        t,
+    ) {
         return struck;
     }
-    clear_bit(relation, s * states + t);
-    clear_bit(relation, t * states + s);
+    strike(states, relation, changed, s, t);
     true
 }
 
@@ -118,11 +150,12 @@ fn sweep_row(
     states: usize,
     need: f64,
     relation: &mut [u8],
+    changed: &mut [u8],
     s: usize,
     before: bool,
 ) -> bool
-    requires { ⌜ RowsFit states (now starts) (now targets) (now probs) × (states ≤ length (now exits)) × (s < states) ⌝ }
-    ensures { λ r. ⌜ Makes states (now (exits .entry)) (now (starts .entry)) (now (targets .entry)) (now (probs .entry)) need (λ Q. Sweeps.sweepRow Q (states - (s + 1)) s (s + 1)) (now (relation .entry)) before (now (relation .exit)) r ⌝ }
+    requires { ⌜ RowsFit states (now starts) (now targets) (now probs) × (states ≤ length (now exits)) × (s < states) × Noted states (now exits) (now starts) (now targets) (now probs) need (now relation) (now changed) s (s + 1) ⌝ }
+    ensures { λ r. ⌜ Makes states (now (exits .entry)) (now (starts .entry)) (now (targets .entry)) (now (probs .entry)) need (λ Q. Sweeps.sweepRow Q (states - (s + 1)) s (s + 1)) (now (relation .entry)) before (now (relation .exit)) r × Noted states (now (exits .entry)) (now (starts .entry)) (now (targets .entry)) (now (probs .entry)) need (now (relation .exit)) (now (changed .exit)) (s + 1) (s + 1 + 1) ⌝ }
 {
     let mut struck = before;
     let mut t = s + 1;
@@ -135,6 +168,7 @@ fn sweep_row(
             states,
             need,
             relation,
+            changed,
             s,
             t,
             struck,
@@ -153,9 +187,10 @@ fn sweep(
     states: usize,
     need: f64,
     relation: &mut [u8],
+    changed: &mut [u8],
 ) -> bool
-    requires { ⌜ RowsFit states (now starts) (now targets) (now probs) × (states ≤ length (now exits)) ⌝ }
-    ensures { λ r. ⌜ Makes states (now (exits .entry)) (now (starts .entry)) (now (targets .entry)) (now (probs .entry)) need (λ Q. Sweeps.sweepRows Q states 0) (now (relation .entry)) false (now (relation .exit)) r ⌝ }
+    requires { ⌜ RowsFit states (now starts) (now targets) (now probs) × (states ≤ length (now exits)) × Noted states (now exits) (now starts) (now targets) (now probs) need (now relation) (now changed) 0 1 ⌝ }
+    ensures { λ r. ⌜ Makes states (now (exits .entry)) (now (starts .entry)) (now (targets .entry)) (now (probs .entry)) need (λ Q. Sweeps.sweepRows Q states 0) (now (relation .entry)) false (now (relation .exit)) r × Noted states (now (exits .entry)) (now (starts .entry)) (now (targets .entry)) (now (probs .entry)) need (now (relation .exit)) (now (changed .exit)) states (states + 1) ⌝ }
 {
     let mut struck = false;
     let mut s: usize = 0;
@@ -168,6 +203,7 @@ fn sweep(
             states,
             need,
             relation,
+            changed,
             s,
             struck,
         );
@@ -176,7 +212,67 @@ fn sweep(
     struck
 }
 
-// Sweeps until one without a strike.
+// Sweeps until one without a strike, with levels lent.
+fn run_in(
+    exits: &[f64],
+    starts: &[u32],
+    targets: &[u32],
+    probs: &[f64],
+    states: usize,
+    need: f64,
+    relation: &mut [u8],
+    changed: &mut [u8],
+)
+    requires { ⌜ RowsFit states (now starts) (now targets) (now probs) × (states ≤ length (now exits)) ⌝ }
+    requires { ⌜ ((R : List Bool) × (now relation ≡ packed R) × (length R ≡ states * states)) ⌝ }
+    requires { ⌜ (states * 64 ≤ length (now changed)) × ((i : ℕ) → i < states * 64 → getD (now changed) i 0 ≡ 1) ⌝ }
+    ensures { λ r. ⌜ RunsTo states (now (exits .entry)) (now (starts .entry)) (now (targets .entry)) (now (probs .entry)) need (now (relation .entry)) (now (relation .exit)) ⌝ }
+{
+    let mut struck = true;
+    while struck {
+        struck = sweep(
+            exits,
+            starts,
+            targets,
+            probs,
+            states,
+            need,
+            relation,
+            changed,
+        );
+        fade(changed);
+    }
+}
+
+// The same with levels for 2,000 states.
+fn run_large(
+    exits: &[f64],
+    starts: &[u32],
+    targets: &[u32],
+    probs: &[f64],
+    states: usize,
+    need: f64,
+    relation: &mut [u8],
+)
+    requires { ⌜ RowsFit states (now starts) (now targets) (now probs) × (states ≤ length (now exits)) ⌝ }
+    requires { ⌜ ((R : List Bool) × (now relation ≡ packed R) × (length R ≡ states * states)) ⌝ }
+    ensures { λ r. ⌜ RunsTo states (now (exits .entry)) (now (starts .entry)) (now (targets .entry)) (now (probs .entry)) need (now (relation .entry)) (now (relation .exit)) ⌝ }
+{
+    let mut changed = [1u8; 128000];
+    let levels = 64 * states;
+    run_in(
+        exits,
+        starts,
+        targets,
+        probs,
+        states,
+        need,
+        relation,
+        &mut changed[..levels],
+    );
+}
+
+// The same; 4,096 levels are enough for the states of a card.
 pub(crate) fn run(
     exits: &[f64],
     starts: &[u32],
@@ -188,10 +284,22 @@ pub(crate) fn run(
 )
     requires { ⌜ RowsFit states (now starts) (now targets) (now probs) × (states ≤ length (now exits)) ⌝ }
     requires { ⌜ ((R : List Bool) × (now relation ≡ packed R) × (length R ≡ states * states)) ⌝ }
-    ensures { λ r. ⌜ ((Q : Task) → SweepsIn Q states (now (exits .entry)) (now (starts .entry)) (now (targets .entry)) (now (probs .entry)) need → (x : Run) → now (relation .entry) ≡ packed (x .relation) → (k : ℕ) → count (x .relation) < k → now (relation .exit) ≡ packed ((Sweeps.sweeps Q k x) .relation)) ⌝ }
+    ensures { λ r. ⌜ RunsTo states (now (exits .entry)) (now (starts .entry)) (now (targets .entry)) (now (probs .entry)) need (now (relation .entry)) (now (relation .exit)) ⌝ }
 {
-    let mut struck = true;
-    while struck {
-        struck = sweep(exits, starts, targets, probs, states, need, relation);
+    if states <= 64 {
+        let mut changed = [1u8; 4096];
+        let levels = 64 * states;
+        run_in(
+            exits,
+            starts,
+            targets,
+            probs,
+            states,
+            need,
+            relation,
+            &mut changed[..levels],
+        );
+        return;
     }
+    run_large(exits, starts, targets, probs, states, need, relation);
 }

@@ -16,5 +16,6 @@ pub mod RowsIn
 pub mod RowReads
 pub mod Layings
 pub mod TasksIn
+pub mod Unchanged
 pub mod Halves
 pub mod MinEpsilon

@@ -12,7 +12,7 @@ use Rattle.numbers.specs.Real.{nought, one, isValid}
 use Rattle.bisim_core.specs.Data.{Columns}
 use Rattle.bisim_core.specs.declared.wlts.Shape.{Shape}
 use Rattle.epsdelta_theory.specs.Refusal.{absent, factorOutside, relationRefusal, bisimilarRefusal, minEpsilonRefusal}
-use Rattle.epsdelta_theory.specs.MinEpsilon.{wide, middle, Halving, after, bisect, halving, at, none, Search, search, alikeAt, minEpsilon, Searched}
+use Rattle.epsdelta_theory.specs.MinEpsilon.{wide, middle, Halving, after, bisect, halving, at, none, Search, found, search, alikeAt, minEpsilon, Searched}
 use Rattle.epsdelta_theory.proofs.Halves.{Apart, apart-first, wide-is, still-wide, middle-valid, apart-lower, apart-upper}
 
 and-i : {a b : Bool} → a ≡ true → b ≡ true → (a && b) ≡ true
@@ -81,30 +81,37 @@ module _ (holds : Float → Bool) where
   unfolding halving
   all-halved = halved 64 14 nought one (lit≤ tt) apart-first
 
-  -- the search by what the test gives at 1 and at 0
-  abbrev decided : Bool → Bool → Search
-  decided a b =
+  -- the search by what the test gives at 1 and at 0, and what halvings came to
+  abbrev decided : Bool → Bool → Halving → Search
+  decided a b h =
       elim a [
         | true ↦ elim b [
           | true ↦ record { least = at nought; tried = one ∷ nought ∷ [] }
-          | false ↦ record { least = at ((halving holds) .hi); tried = one ∷ nought ∷ (halving holds) .tried }
+          | false ↦ record { least = at (h .hi); tried = one ∷ nought ∷ h .tried }
         ]
         | false ↦ record { least = none; tried = one ∷ [] }
       ]
 
-  search-is : search holds ≡ decided (holds one) (holds nought)
+  found-is : (h : Halving) → found holds h ≡ decided (holds one) (holds nought) h
+  found-is h = refl
+
+  found-between : (h : Halving) → holds one ≡ true → holds nought ≡ false → found holds h ≡ record { least = at (h .hi); tried = one ∷ nought ∷ h .tried }
+  found-between h e f = rw (e, f, found) refl
+
+  search-is : search holds ≡ decided (holds one) (holds nought) (halving holds)
   unfolding search
-  search-is = refl
+  search-is = found-is (halving holds)
 
   -- how it ends
   pub search-none : holds one ≡ false → search holds ≡ record { least = none; tried = one ∷ [] }
-  search-none e = search-is ∙ ap (λ (a : Bool). decided a (holds nought)) e
+  search-none e = search-is ∙ ap (λ (a : Bool). decided a (holds nought) (halving holds)) e
 
   search-nought : holds one ≡ true → holds nought ≡ true → search holds ≡ record { least = at nought; tried = one ∷ nought ∷ [] }
-  search-nought e f = search-is ∙ ap (λ (a : Bool). decided a (holds nought)) e ∙ ap (decided true) f
+  search-nought e f = search-is ∙ ap (λ (a : Bool). decided a (holds nought) (halving holds)) e ∙ ap (λ (b : Bool). decided true b (halving holds)) f
 
   search-between : holds one ≡ true → holds nought ≡ false → search holds ≡ record { least = at ((halving holds) .hi); tried = one ∷ nought ∷ (halving holds) .tried }
-  search-between e f = search-is ∙ ap (λ (a : Bool). decided a (holds nought)) e ∙ ap (decided true) f
+  unfolding search
+  search-between e f = found-between (halving holds) e f
 
   -- what is found where the test holds at 1
   abbrev pub belowOne : Float

@@ -56,7 +56,7 @@ module _ (Q : Task) where
   pub run-struck : (k : Strike) → In k ((run Q) .strikes) → (k .low < k .high) × (k .high < Q .states) × Struck Q (run Q) (k .low) (k .high) k
   run-struck k i =
       let a : Justified Q k = run-justified k i in
-      (a .apart, a .inside, record { listed = i; low = refl; high = refl; stood = a .stood; exits = a .exits; failed = a .failed; within = trail-within Q strikes relation run-trail k i })
+      (a .apart, a .inside, record { listed = i; low = refl; high = refl; stood = a .stood; exits = a .exits; forth = a .forth; failed = a .failed; within = trail-within Q strikes relation run-trail k i })
 
   pub run-missing : (s t : ℕ) → s < t → t < Q .states → Q .class s ≡ Q .class t → Q .ratesPass s t ≡ true → holds (Q .states) ((run Q) .relation) s t ≡ false
       → (k : Strike) × Struck Q (run Q) s t k
@@ -70,6 +70,7 @@ module _ (Q : Task) where
           high = q;
           stood = subst (λ (x : ℕ). holds n (k .before) s x ≡ true) q (subst (λ (x : ℕ). holds n (k .before) x (k .high) ≡ true) p (a .stood));
           exits = subst (λ (x : ℕ). Q .noExit x ≡ false) p (a .exits);
+          forth = λ b. subst (λ (x : ℕ). Q .test (k .before) s x ≡ true) q (subst (λ (x : ℕ). Q .test (k .before) x (k .high) ≡ true) p (a .forth b));
           within = trail-within Q strikes relation run-trail k i;
           failed = a .failed;
         },

@@ -5,13 +5,13 @@ use mathlib.Core.Path.{_≡_, refl, sym, subst, subst⁻¹, ap, _∙_}
 use Prim.Native.Nat.{ℕ, zero, suc, _≤_, _<_, _+_, _*_, _-_}
 use mathlib.Core.Bool.{Bool, true, false, _&&_, not, cond, true≢false}
 use mathlib.Core.Logic.{_≢_, _⊎_, inl, inr}
-use mathlib.Core.List.{List, [], _∷_}
+use mathlib.Core.List.{List, [], _∷_, _++_}
 use native.Mathlib.Omega.{arith}
 use borrow.Author.Tests.{not-true, not-false}
 use Rattle.numbers.proofs.Bools.{and-t, and-f, eq-or-ne, one-if}
 use Rattle.epsdelta_theory.specs.Relation.{holds}
-use Rattle.epsdelta_theory.specs.Sweeps.{Task, marks, Strike, Run, strike, afterBack, afterForth, testPair, turn, sweepRow, sweepRows, sweep, sweeps, run}
-use Rattle.epsdelta_theory.specs.Claim.{Trail, failedFrom, failedTo, Ended}
+use Rattle.epsdelta_theory.specs.Sweeps.{Task, marks, Strike, Run, strike, afterBack, afterForth, testPair, turn, sweepRow, sweepRows, sweep, sweeps, start, run}
+use Rattle.epsdelta_theory.specs.Claim.{Trail, failedFrom, failedTo, After, InOrder, Sweep, Swept, Ended}
 use Rattle.epsdelta_theory.proofs.Pairs.{count, count-le, clear-count}
 use Rattle.epsdelta_theory.proofs.Marks.{marks-length}
 
@@ -25,6 +25,7 @@ Passing Q R s t = holds (Q .states) R s t ≡ true → Q .noExit s ≡ false →
 pub record Reason (Q : Task) (x : Run) (b : Bool) (s t : ℕ) : Type 0 where
   pub stood : holds (Q .states) (x .relation) s t ≡ true
   pub exits : Q .noExit s ≡ false
+  pub forth : b ≡ true → Q .test (x .relation) s t ≡ true
   pub failed : Q .test (x .relation) (cond b t s) (cond b s t) ≡ false
 
 abbrev pub Turned : Task → ℕ → ℕ → Run → Run → Type 0
@@ -40,12 +41,12 @@ turned Q s t x = pick (holds (Q .states) (x .relation) s t && not (Q .noExit s))
     third : holds (Q .states) (x .relation) s t ≡ true → Q .noExit s ≡ false → Q .test (x .relation) s t ≡ true
         → (b : Bool) → Q .test (x .relation) t s ≡ b → Turned Q s t x (afterBack Q b s t x)
     third h z f true e = inl (refl, λ _ _. (f, e))
-    third h z f false e = inr (true, refl, record { stood = h; exits = z; failed = e })
+    third h z f false e = inr (true, refl, record { stood = h; exits = z; forth = λ _. f; failed = e })
 
     next : holds (Q .states) (x .relation) s t ≡ true → Q .noExit s ≡ false
         → (b : Bool) → Q .test (x .relation) s t ≡ b → Turned Q s t x (afterForth Q b s t x)
     next h z true e = third h z e (Q .test (x .relation) t s) refl
-    next h z false e = inr (false, refl, record { stood = h; exits = z; failed = e })
+    next h z false e = inr (false, refl, record { stood = h; exits = z; forth = λ g. absurd (true≢false (sym g)); failed = e })
 
     pick : (b : Bool) → (holds (Q .states) (x .relation) s t && not (Q .noExit s)) ≡ b → Turned Q s t x (testPair Q b s t x)
     pick true e =
@@ -141,15 +142,79 @@ pub sweep-unstruck : (Q : Task) (x : Run) → (sweep Q x) .struck ≡ false
 unfolding sweep
 sweep-unstruck Q x h = let r = rows-unstruck Q (Q .states) 0 (begun x) h in (r .0, λ u v a b. r .1 u v (omega arith) (omega arith) a b)
 
+-- ---- the strikes of a sweep come in the order of their pairs
+
+-- the turn of (s, t) comes after those of all strikes, the last of which is first
+abbrev Next : ℕ → ℕ → List Strike → Type 0
+Next s t [] = Unit {0}
+Next s t (k ∷ ks) = After s t k
+
+-- the strikes since ks, in order, each before the turn of (s, t)
+record Ordered (ks : List Strike) (s t : ℕ) (x : Run) : Type 0 where
+  own : List Strike
+  strikes : x .strikes ≡ own ++ ks
+  order : InOrder own
+  next : Next s t own
+
+next-later : (s t u v : ℕ) (own : List Strike) → ((k : Strike) → After s t k → After u v k) → Next s t own → Next u v own
+next-later s t u v [] f h = tt
+next-later s t u v (k ∷ ks) f h = f k h
+
+later-column : (s t : ℕ) (k : Strike) → After s t k → After s (suc t) k
+later-column s t k (inl h) = inl h
+later-column s t k (inr (e, h)) = inr (e, omega arith)
+
+later-row : (s t : ℕ) (k : Strike) → After s t k → After (suc s) (suc (suc s)) k
+later-row s t k (inl h) = inl (omega arith)
+later-row s t k (inr (e, h)) = inl (omega arith)
+
+in-front : (k : Strike) (own : List Strike) → Next (k .low) (k .high) own → InOrder own → InOrder (k ∷ own)
+in-front k [] h o = tt
+in-front k (j ∷ own) h o = (h, o)
+
+turn-ordered : (Q : Task) (ks : List Strike) (s t : ℕ) (x : Run) → Ordered ks s t x → Ordered ks s (suc t) (turn Q s t x)
+turn-ordered Q ks s t x p = pick (turned Q s t x)
+  where
+    pick : Turned Q s t x (turn Q s t x) → Ordered ks s (suc t) (turn Q s t x)
+    pick (inl (e, q)) = subst⁻¹ (Ordered ks s (suc t)) e (record { own = p .own; strikes = p .strikes; order = p .order; next = next-later s t s (suc t) (p .own) (later-column s t) (p .next) })
+    pick (inr (b, e, w)) = subst⁻¹ (Ordered ks s (suc t)) e
+        (let k : Strike = record { low = s; high = t; before = x .relation; back = b } in
+        unfold strike in (record { own = k ∷ p .own; strikes = ap (λ (l : List Strike). k ∷ l) (p .strikes); order = in-front k (p .own) (p .next) (p .order); next = inr (refl, omega arith) }))
+
+row-ordered : (Q : Task) (ks : List Strike) (k s t u : ℕ) (x : Run) → u ≡ t + k → Ordered ks s t x → Ordered ks s u (sweepRow Q k s t x)
+unfolding sweepRow
+row-ordered Q ks zero s t u x e p = subst (λ (v : ℕ). Ordered ks s v x) (let r : t ≡ u = omega arith in r) p
+row-ordered Q ks (suc k) s t u x e p = row-ordered Q ks k s (suc t) u (turn Q s t x) (omega arith) (turn-ordered Q ks s t x p)
+
+rows-ordered : (Q : Task) (ks : List Strike) (k s n : ℕ) (x : Run) → n ≡ s + k → Ordered ks s (suc s) x → Ordered ks n (suc n) (sweepRows Q k s x)
+unfolding sweepRows
+rows-ordered Q ks zero s n x e p = subst (λ (m : ℕ). Ordered ks m (suc m) x) (let r : s ≡ n = omega arith in r) p
+rows-ordered Q ks (suc k) s n x e p = rows-ordered Q ks k (suc s) n y (omega arith) (on (row-ordered Q ks (Q .states - suc s) s (suc s) end x refl p))
+  where
+    y : Run
+    y = sweepRow Q (Q .states - suc s) s (suc s) x
+
+    end : ℕ
+    end = suc s + (Q .states - suc s)
+
+    on : Ordered ks s end y → Ordered ks (suc s) (suc (suc s)) y
+    on q = record { own = q .own; strikes = q .strikes; order = q .order; next = next-later s end (suc s) (suc (suc s)) (q .own) (later-row s end) (q .next) }
+
+sweep-ordered : (Q : Task) (x : Run) → Sweep Q x (sweep Q x)
+sweep-ordered Q x = gather (unfold sweep in (rows-ordered Q (x .strikes) (Q .states) 0 (Q .states) (begun x) (omega arith) (record { own = []; strikes = refl; order = tt; next = tt })))
+  where
+    gather : Ordered (x .strikes) (Q .states) (suc (Q .states)) (sweep Q x) → Sweep Q x (sweep Q x)
+    gather p = record { swept = refl; own = p .own; strikes = p .strikes; order = p .order }
+
 -- ---- the run
 
 pub sweeps-more : (Q : Task) (k : ℕ) (x : Run) → (sweep Q x) .struck ≡ true → sweeps Q (suc k) x ≡ sweeps Q k (sweep Q x)
 unfolding sweeps
-sweeps-more Q k x h = ap (λ (b : Bool). elim b as (λ z. Run) [ true ↦ sweeps Q k (sweep Q x) | false ↦ sweep Q x ]) h
+sweeps-more Q k x h = rw (h, sweeps) refl
 
 pub sweeps-end : (Q : Task) (k : ℕ) (x : Run) → (sweep Q x) .struck ≡ false → sweeps Q (suc k) x ≡ sweep Q x
 unfolding sweeps
-sweeps-end Q k x h = ap (λ (b : Bool). elim b as (λ z. Run) [ true ↦ sweeps Q k (sweep Q x) | false ↦ sweep Q x ]) h
+sweeps-end Q k x h = rw (h, sweeps) refl
 
 -- each strike had its reason
 pub record Justified (Q : Task) (k : Strike) : Type 0 where
@@ -157,6 +222,7 @@ pub record Justified (Q : Task) (k : Strike) : Type 0 where
   pub inside : k .high < Q .states
   pub stood : holds (Q .states) (k .before) (k .low) (k .high) ≡ true
   pub exits : Q .noExit (k .low) ≡ false
+  pub forth : k .back ≡ true → Q .test (k .before) (k .low) (k .high) ≡ true
   pub failed : Q .test (k .before) (failedFrom k) (failedTo k) ≡ false
 
 abbrev pub AllJustified : Task → List Strike → Type 0
@@ -176,7 +242,7 @@ turn-kept Q s t x l h p = pick (turned Q s t x)
     pick (inr (b, e, w)) = subst⁻¹ (Kept Q) e
         (unfold strike in (record {
           trail = (refl, p .trail);
-          justified = (record { apart = l; inside = h; stood = w .stood; exits = w .exits; failed = w .failed }, p .justified);
+          justified = (record { apart = l; inside = h; stood = w .stood; exits = w .exits; forth = w .forth; failed = w .failed }, p .justified);
         }))
 
 -- a run at its end: after a sweep without a strike, with every pair passing
@@ -185,22 +251,22 @@ pub record Finished (Q : Task) (x : Run) : Type 0 where
   pub ended : Ended Q x
   pub passing : (u v : ℕ) → u < v → v < Q .states → Passing Q (x .relation) u v
 
-pub swept : (Q : Task) (k : ℕ) (x : Run) → Kept Q x → count (x .relation) < k → Finished Q (sweeps Q k x)
-swept Q zero x p l = absurd (omega arith)
-swept Q (suc k) x p l = pick (λ y q m. swept Q k y q m) ((sweep Q x) .struck) refl
+pub swept : (Q : Task) (k n : ℕ) (x : Run) → Swept Q n x → Kept Q x → count (x .relation) < k → Finished Q (sweeps Q k x)
+swept Q zero n x c p l = absurd (omega arith)
+swept Q (suc k) n x c p l = pick (λ y d q m. swept Q k (suc n) y d q m) ((sweep Q x) .struck) refl
   where
-    pick : ((y : Run) → Kept Q y → count (y .relation) < k → Finished Q (sweeps Q k y)) → (b : Bool) → (sweep Q x) .struck ≡ b → Finished Q (sweeps Q (suc k) x)
+    pick : ((y : Run) → Swept Q (suc n) y → Kept Q y → count (y .relation) < k → Finished Q (sweeps Q k y)) → (b : Bool) → (sweep Q x) .struck ≡ b → Finished Q (sweeps Q (suc k) x)
     pick r true e = subst⁻¹ (Finished Q) (sweeps-more Q k x e)
-        (r (sweep Q x) (sweep-keeps Q (Kept Q) (turn-kept Q) x (record { trail = p .trail; justified = p .justified })) (let f = sweep-falls Q x e in omega arith))
+        (r (sweep Q x) (x, c, sweep-ordered Q x, e) (sweep-keeps Q (Kept Q) (turn-kept Q) x (record { trail = p .trail; justified = p .justified })) (let f = sweep-falls Q x e in omega arith))
     pick r false e = subst⁻¹ (Finished Q) (sweeps-end Q k x e)
         (let q = sweep-unstruck Q x e in
         record {
           kept = sweep-keeps Q (Kept Q) (turn-kept Q) x (record { trail = p .trail; justified = p .justified });
-          ended = record { before = x; last = refl; none = e };
+          ended = record { before = x; earlier = n; came = c; last = refl; none = e };
           passing = subst⁻¹ (λ (y : Run). (u v : ℕ) → u < v → v < Q .states → Passing Q (y .relation) u v) (q .0) (q .1);
         })
 
 pub finished : (Q : Task) → Finished Q (run Q)
 unfolding run
-finished Q = swept Q (suc (Q .states * Q .states)) (record { relation = marks Q; strikes = []; struck = false }) (record { trail = refl; justified = tt })
+finished Q = swept Q (suc (Q .states * Q .states)) 0 (start Q) refl (record { trail = refl; justified = tt })
     (let c = count-le (marks Q) in let m = marks-length Q in omega arith)

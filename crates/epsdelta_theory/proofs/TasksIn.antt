@@ -12,8 +12,9 @@ use Rattle.numbers.specs.Lists.{all}
 use Rattle.numbers.specs.Bits.{packed}
 use Rattle.epsdelta_theory.specs.Jumps.{Jump, jumpsOf}
 use Rattle.epsdelta_theory.specs.FlowTest.{runBetween}
-use Rattle.epsdelta_theory.specs.Sweeps.{Task, Run, marked}
+use Rattle.epsdelta_theory.specs.Sweeps.{Task, Run, marked, sweeps}
 use Rattle.epsdelta_theory.specs.Epsdelta.{ratesClose}
+use Rattle.epsdelta_theory.proofs.Pairs.{count}
 
 -- ---- marks
 
@@ -59,3 +60,8 @@ Stored x store struck = (store ≡ packed (x .relation)) × (struck ≡ x .struc
 -- of whatever task the lists hold, and from whatever run is stored at first, what is stored then is what f makes of it
 abbrev pub Makes : ℕ → List Float → List ℕ → List ℕ → List Float → Float → (Task → Run → Run) → List ℕ → Bool → List ℕ → Bool → Type 0
 Makes n E S T P need f store₀ struck₀ store struck = (Q : Task) → SweepsIn Q n E S T P need → (x : Run) → Stored x store₀ struck₀ → Stored (f Q x) store struck
+
+-- from whatever relation the bytes are at first, sweeps until one without a strike end in these bytes
+abbrev pub RunsTo : ℕ → List Float → List ℕ → List ℕ → List Float → Float → List ℕ → List ℕ → Type 0
+RunsTo n E S T P need store₀ store =
+    (Q : Task) → SweepsIn Q n E S T P need → (x : Run) → store₀ ≡ packed (x .relation) → (k : ℕ) → count (x .relation) < k → store ≡ packed ((sweeps Q k x) .relation)

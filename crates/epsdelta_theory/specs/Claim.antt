@@ -1,14 +1,15 @@
 -- What is claimed of the whole run of `epsdelta` (document 01, demand 3), from the marks to the sweep without a strike, in words of its definition.
 use mathlib.Core.Path.{_≡_}
-use Prim.Native.Nat.{ℕ, _<_}
+use Prim.Native.Nat.{ℕ, zero, suc, _<_}
 use mathlib.Core.Bool.{Bool, true, false, cond}
-use mathlib.Core.List.{List, [], _∷_}
+use mathlib.Core.Logic.{_⊎_}
+use mathlib.Core.List.{List, [], _∷_, _++_}
 use lib.ListN.{length}
 use Rattle.numbers.specs.Lists.{In}
 use Rattle.flow_theory.specs.Network.{nodes}
 use Rattle.flow_theory.specs.Claim.{Traced, Cut, Bounded}
 use Rattle.epsdelta_theory.specs.Relation.{holds, clear}
-use Rattle.epsdelta_theory.specs.Sweeps.{Task, marks, Strike, Run, sweep}
+use Rattle.epsdelta_theory.specs.Sweeps.{Task, marks, Strike, Run, sweep, start}
 use Rattle.epsdelta_theory.specs.FlowTest.{caps, testLinks, testNodes, testNetwork, testRun}
 use Rattle.epsdelta_theory.specs.Epsdelta.{Given, class, task, epsdelta}
 
@@ -47,6 +48,8 @@ pub record Struck (Q : Task) (x : Run) (s t : ℕ) (k : Strike) : Type 0 where
   pub high : k .high ≡ t
   pub stood : holds (Q .states) (k .before) s t ≡ true
   pub exits : Q .noExit s ≡ false
+  -- the test back is made only where the one forth has passed
+  pub forth : k .back ≡ true → Q .test (k .before) s t ≡ true
   pub failed : Q .test (k .before) (failedFrom k) (failedTo k) ≡ false
   pub within : Within (Q .states) (x .relation) (k .before)
 
@@ -55,9 +58,33 @@ abbrev pub Trail : Task → List Strike → List Bool → Type 0
 Trail Q [] R = R ≡ marks Q
 Trail Q (k ∷ ks) R = (R ≡ clear (Q .states) (k .before) (k .low) (k .high)) × Trail Q ks (k .before)
 
--- x is what a sweep without a strike left
+-- the turn of (s, t) comes after that of the pair that k struck
+abbrev pub After : ℕ → ℕ → Strike → Type 0
+After s t k = (k .low < s) ⊎ ((k .low ≡ s) × (k .high < t))
+
+-- the last first, each at a turn after that of the one before it
+abbrev pub InOrder : List Strike → Type 0
+InOrder [] = Unit {0}
+InOrder (k ∷ []) = Unit {0}
+InOrder (k ∷ j ∷ ks) = After (k .low) (k .high) j × InOrder (j ∷ ks)
+
+-- a sweep: its strikes, in the order of their pairs, go before those that there were
+pub record Sweep (Q : Task) (y x : Run) : Type 0 where
+  pub swept : x ≡ sweep Q y
+  pub own : List Strike
+  pub strikes : x .strikes ≡ own ++ y .strikes
+  pub order : InOrder own
+
+-- x comes of the marks by n sweeps, each of which struck a pair
+abbrev pub Swept : Task → ℕ → Run → Type 0
+Swept Q zero x = x ≡ start Q
+Swept Q (suc n) x = (y : Run) × Swept Q n y × Sweep Q y x × (x .struck ≡ true)
+
+-- x is what a sweep without a strike left, and each sweep before it struck a pair
 pub record Ended (Q : Task) (x : Run) : Type 0 where
   pub before : Run
+  pub earlier : ℕ
+  pub came : Swept Q earlier before
   pub last : x ≡ sweep Q before
   pub none : x .struck ≡ false
 

@@ -60,17 +60,20 @@ pub record Search : Type 0 where
   pub least : Least
   pub tried : List Float
 
--- ε = 1, then ε = 0, then the upper bound that halvings come to
-unfoldable pub search : (Float → Bool) → Search
-unfolding halving
-search holds =
+-- ε = 1, then ε = 0, then the upper bound that halvings came to
+abbrev pub found : (Float → Bool) → Halving → Search
+found holds h =
     elim (holds one) [
       | true ↦ elim (holds nought) [
         | true ↦ record { least = at nought; tried = one ∷ nought ∷ [] }
-        | false ↦ let h = halving holds in record { least = at (h .hi); tried = one ∷ nought ∷ h .tried }
+        | false ↦ record { least = at (h .hi); tried = one ∷ nought ∷ h .tried }
       ]
       | false ↦ record { least = none; tried = one ∷ [] }
     ]
+
+unfoldable pub search : (Float → Bool) → Search
+unfolding halving
+search holds = found holds (halving holds)
 
 -- the test of `min_epsilon`: two models, a list of classes for each, ρ, and the ε that is tried
 abbrev pub alikeAt : Shape → Columns → Shape → Columns → List ℕ → List ℕ → Float → Float → Bool

@@ -102,7 +102,11 @@ unfolding sweep
 sweeps Q zero x = x
 sweeps Q (suc k) x = let y = sweep Q x in elim (y .struck) [ true ↦ sweeps Q k y | false ↦ y ]
 
+-- the marks, and no strike yet
+abbrev pub start : Task → Run
+start Q = record { relation = marks Q; strikes = []; struck = false }
+
 -- from the marks to the end: a sweep that strikes leaves fewer pairs, so there is always one without a strike
 unfoldable pub run : Task → Run
 unfolding sweeps marks
-run Q = sweeps Q (suc (Q .states * Q .states)) (record { relation = marks Q; strikes = []; struck = false })
+run Q = sweeps Q (suc (Q .states * Q .states)) (start Q)

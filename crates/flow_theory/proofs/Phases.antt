@@ -135,16 +135,12 @@ unmarked (suc n) (suc x) = unmarked n x
 pub blockingFlow-more : (N : Net) (L : List ℕ) (k : ℕ) (s : PhaseState) → le ((augment N (s .cap) L (s .next)) .amount) eps ≡ false
     → blockingFlow N L (suc k) s ≡ blockingFlow N L k (pushCounted s (augment N (s .cap) L (s .next)))
 unfolding blockingFlow
-blockingFlow-more N L k s h =
-    let r = augment N (s .cap) L (s .next) in
-    ap (λ (b : Bool). elim b as (λ x. PhaseState) [ true ↦ noPush s r | false ↦ blockingFlow N L k (pushCounted s r) ]) h
+blockingFlow-more N L k s h = rw (h, blockingFlow) refl
 
 pub blockingFlow-end : (N : Net) (L : List ℕ) (k : ℕ) (s : PhaseState) → le ((augment N (s .cap) L (s .next)) .amount) eps ≡ true
     → blockingFlow N L (suc k) s ≡ noPush s (augment N (s .cap) L (s .next))
 unfolding blockingFlow
-blockingFlow-end N L k s h =
-    let r = augment N (s .cap) L (s .next) in
-    ap (λ (b : Bool). elim b as (λ x. PhaseState) [ true ↦ noPush s r | false ↦ blockingFlow N L k (pushCounted s r) ]) h
+blockingFlow-end N L k s h = rw (h, blockingFlow) refl
 
 -- since the levels were set, a link came to life only if it leads one level down
 abbrev pub Valid : Net → List Float → List ℕ → List Float → Type 0

@@ -1,12 +1,12 @@
 // The kind `build`: a model from transitions in columns.
 use crate::entries;
-use crate::fronts;
 use crate::outcomes;
 use bisim_build::builder;
 use bisim_core::wlts::Initial;
 use replay_text::answers;
 use replay_text::answers::Answer;
 use replay_text::columns;
+use replay_text::fronts;
 use replay_text::lists;
 use replay_text::tally;
 use replay_text::text;

@@ -1,10 +1,10 @@
 // The kinds `intern` and `label`: the label ids of bisim_core::ids.
 use crate::entries;
-use crate::fronts;
 use crate::outcomes;
 use bisim_core::ids;
 use replay_text::answers;
 use replay_text::answers::Answer;
+use replay_text::fronts;
 use replay_text::lists;
 use replay_text::tally;
 use replay_text::text;

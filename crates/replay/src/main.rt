@@ -2,7 +2,6 @@
 // The names of lines are skipped. A case whose values are not as laid out, or with a list that is too long, differs.
 mod builds; // builds.rt: the kind `build`
 mod entries; // entries.rt: the places of the counts
-mod fronts; // fronts.rt: the first entries of what is lent
 mod labels; // labels.rt: the kinds `intern` and `label`
 mod models; // models.rt: the kind `model`
 mod outcomes; // outcomes.rt: the answers of the entries, as numbers

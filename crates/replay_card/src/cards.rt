@@ -3,6 +3,7 @@ use card::report;
 use card_report::Text;
 use replay_text::answers;
 use replay_text::answers::Answer;
+use replay_text::fronts::bytes_front_mut;
 use replay_text::hex;
 use replay_text::lists;
 use replay_text::tally;
@@ -11,14 +12,6 @@ use replay_text::text::Reader;
 
 // The place of its counts.
 pub const REPORT: usize = 0;
-
-// The first n bytes; all where there are fewer.
-fn front_mut<'a>(xs: &'a mut [u8], n: usize) -> &'a mut [u8] {
-    if n <= xs.len() {
-        return &mut xs[..n];
-    }
-    xs
-}
 
 fn fill(out: &mut [u8], byte: u8) {
     let mut i: usize = 0;
@@ -119,6 +112,6 @@ pub fn run(
         g,
         counts,
         lists::bytes_front(card, g.size),
-        front_mut(out, g.room),
+        bytes_front_mut(out, g.room),
     )
 }

@@ -11,6 +11,7 @@ use min_epsilon::least::Least;
 use min_epsilon::least::min_epsilon;
 use replay_text::answers;
 use replay_text::columns;
+use replay_text::fronts;
 use replay_text::lists;
 use replay_text::tally;
 use replay_text::text;
@@ -361,7 +362,7 @@ fn run_lent(
         lists::front(&left_classes, m.n),
         lists::front(&right_classes, n.n),
         lists::bytes_front(&listed, l.n),
-        store::front_mut(bytes, l.room),
+        fronts::bytes_front_mut(bytes, l.room),
     )
 }
 
@@ -457,7 +458,7 @@ pub fn run_related(
     let l = store::read(buf, right.r, &mut listed, bytes.len());
     let s = text::short_field(buf, l.r);
     let t = text::short_field(buf, s.r);
-    let lent = store::front_mut(bytes, l.room);
+    let lent = fronts::bytes_front_mut(bytes, l.room);
     store::fill(lent, lists::bytes_front(&listed, l.n));
     let answer = outcomes::of_verdict(related(
         left.x as usize,

@@ -52,11 +52,3 @@ pub fn expect(buf: &mut [u8; 65536], r: Reader, store: &[u8], n: usize) -> Reade
     let s = lists::expect_bytes(buf, r, lists::bytes_front(store, n));
     text::compared(s, zero_from(store, n))
 }
-
-// The first n bytes; all where there are fewer.
-pub fn front_mut<'a>(xs: &'a mut [u8], n: usize) -> &'a mut [u8] {
-    if n <= xs.len() {
-        return &mut xs[..n];
-    }
-    xs
-}

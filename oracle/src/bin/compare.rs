@@ -8,7 +8,10 @@ use std::process::ExitCode;
 
 use oracle::args::{FlowArgs, RunArgs};
 use oracle::card::printed;
-use oracle::generate::{Rng, build, card, labels, model, network, related, relation, remainders};
+use oracle::generate::{
+    Rng, build, card, labels, model, network, normalise, rate, related, relation, remainders,
+    transport,
+};
 use oracle::ours::Ours;
 use oracle::pairs::{alike, first_difference, paired};
 use oracle::rows::{PARTS, ROWS, floors, printed_numbers};
@@ -159,6 +162,9 @@ fn samples(tally: &mut Tally) {
     sample::flow::nodes().iter().for_each(|a| tally.check(a));
     sample::flow::edges().iter().for_each(|a| tally.check(a));
     sample::flow::flows().iter().for_each(|a| flow(tally, a));
+    sample::transport::transports()
+        .iter()
+        .for_each(|a| tally.check(a));
     sample::relation::relations()
         .iter()
         .for_each(|a| tally.check(a));
@@ -166,6 +172,9 @@ fn samples(tally: &mut Tally) {
         .iter()
         .for_each(|a| tally.check(a));
     sample::card::cards().iter().for_each(|a| tally.check(a));
+    sample::chain::rates().iter().for_each(|a| tally.check(a));
+    sample::chain::chains().iter().for_each(|a| tally.check(a));
+    sample::chain::pairs().iter().for_each(|a| tally.check(a));
 }
 
 fn reals_and_labels(tally: &mut Tally, rng: &mut Rng, scale: usize) {
@@ -227,6 +236,10 @@ fn networks(tally: &mut Tally, rng: &mut Rng, scale: usize) {
     network::flows(rng, scale, &mut |a| flow(tally, &a));
 }
 
+fn transports(tally: &mut Tally, rng: &mut Rng, scale: usize) {
+    transport::transports(rng, scale, &mut |a| tally.check(&a));
+}
+
 fn relations(tally: &mut Tally, rng: &mut Rng, scale: usize) {
     relation::relations(rng, scale, &mut |a| tally.check(&a));
     relation::runs(rng, scale, &mut |a| tally.check(&RunArgs(a)));
@@ -235,6 +248,12 @@ fn relations(tally: &mut Tally, rng: &mut Rng, scale: usize) {
 
 fn cards(tally: &mut Tally, rng: &mut Rng, scale: usize) {
     card::cards(rng, scale, &mut |a| tally.check(&a));
+}
+
+fn chains(tally: &mut Tally, rng: &mut Rng, scale: usize) {
+    rate::rates(rng, scale, &mut |a| tally.check(&a));
+    rate::chains(rng, scale, &mut |a| tally.check(&a));
+    normalise::pairs(rng, scale, &mut |a| tally.check(&a));
 }
 
 /// Seed and scale.
@@ -266,6 +285,8 @@ fn main() -> ExitCode {
     networks(&mut tally, &mut rng, scale);
     relations(&mut tally, &mut rng, scale);
     cards(&mut tally, &mut rng, scale);
+    transports(&mut tally, &mut rng, scale);
+    chains(&mut tally, &mut rng, scale);
     let entries = ROWS.iter().chain(PARTS);
     let low = entries.filter(|row| tally.report(row.0, row.1)).count();
     let compared: u64 = tally.entries.values().map(|e| e.compared).sum();

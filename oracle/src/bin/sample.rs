@@ -9,6 +9,8 @@ fn text(part: &str) -> Option<String> {
         "networks" => Some(sample::flow::text()),
         "relations" => Some(sample::relation::text()),
         "cards" => Some(sample::card::text()),
+        "transports" => Some(sample::transport::text()),
+        "chains" => Some(sample::chain::text()),
         _ => None,
     }
 }
@@ -17,7 +19,7 @@ fn main() {
     let mut args = std::env::args().skip(1);
     let part = args.next().unwrap_or_default();
     let (Some(text), None) = (text(&part), args.next()) else {
-        eprintln!("one part: models, networks, relations or cards");
+        eprintln!("one part: models, networks, relations, cards, transports or chains");
         std::process::exit(2);
     };
     print!("{text}");

@@ -94,14 +94,6 @@ pub fn masses(rng: &mut Rng, n: usize) -> Vec<f64> {
     rates.into_iter().map(|r| r / total).collect()
 }
 
-/// Masses on both sides (up to `most`) with equal totals, and costs by row.
-pub fn transport(rng: &mut Rng, most: usize) -> (Vec<f64>, Vec<f64>, Vec<Vec<f64>>) {
-    let (m, n) = (1 + rng.below(most), 1 + rng.below(most));
-    let mut cost = || if rng.once_in(4) { 0.0 } else { rng.unit() };
-    let costs = (0..m).map(|_| (0..n).map(|_| cost()).collect()).collect();
-    (masses(rng, m), masses(rng, n), costs)
-}
-
 /// A model and a copy in which some weights are changed slightly and sometimes a target.
 pub fn pair(rng: &mut Rng, size: Size) -> (BuildArgs, BuildArgs) {
     let mut left = build::good(rng, size);
@@ -132,12 +124,14 @@ pub const EPSILONS: &[f64] = &[
     0.25,
     1.0,
     2.0,
+    5e-324,
+    f64::MAX,
     -5e-324,
     f64::INFINITY,
     f64::NAN,
 ];
 /// How many of [`EPSILONS`] are accepted.
-pub const GOOD_EPSILONS: usize = 6;
+pub const GOOD_EPSILONS: usize = 8;
 
 /// Values of ρ: accepted ones first.
 pub const RHOS: &[f64] = &[
@@ -174,7 +168,7 @@ mod tests {
     use crate::answers::built;
     use crate::bisim_core::StateId;
     use crate::bisim_metric::epsdelta::{epsdelta, epsdelta_bisimilar, min_epsilon};
-    use crate::bisim_metric::flow::{self, FlowNetwork};
+    use crate::bisim_metric::flow::FlowNetwork;
     use crate::bisim_metric::kantorovich::{MetricOptions, bisim_distance, distance};
 
     /// At most nodes - 1 phases, at most one push per added link in each, nothing made or lost.
@@ -200,17 +194,6 @@ mod tests {
         for i in 0..2_000 {
             flow_holds(network(&mut rng));
             flow_holds(flow_test(&mut rng, i % 32, i / 2 % 32));
-        }
-    }
-
-    #[test]
-    fn transports_move_all() {
-        let mut rng = Rng::new(2);
-        for _ in 0..300 {
-            let (a, b, costs) = transport(&mut rng, 12);
-            let (total, plan) = flow::transport(&a, &b, &costs);
-            let moved: f64 = plan.iter().map(|cell| cell.2).sum();
-            assert!((moved - 1.0).abs() < 1e-9 && (-1e-9..=1.0 + 1e-9).contains(&total));
         }
     }
 

@@ -1,6 +1,12 @@
 -- `put_built` ensures the numbers for the answer, and `build` the answer and the columns, for the initial state that `initial_of` ensures.
+use mathlib.Core.Path.{ap}
+use Rattle.bisim_core.specs.Data.{transitions, columns}
+use Rattle.bisim_core.specs.declared.wlts.Initial.{Initial}
+use Rattle.bisim_build.specs.Build.{Outcome, build}
+use Rattle.bisim_build.specs.declared.builder.Built.{Built}
+use Rattle.replies.specs.Answers.{initial, ofBuilt}
+use Rattle.replies.proofs.Telling.{tells}
 use borrow.Author.Needs.{needs}
-use mathlib.Core.Path.{refl}
 use Rattle.exports.proofs.tanqesha_build.Statement.{statement}
 use Rattle.exports.proofs.tanqesha_build.Tie as tie
 
@@ -31,7 +37,13 @@ same-length-5 c = search needs
 returns : tie.Need-returns
 returns c =
     let b = c .before .before .before .before .before .before .before .before .before .before .before .before .before in
-    rw (← b .before .before .before .before .before .before .initial-of .ensures, ← b .build .ensures) (c .put-built .ensures, refl)
+    let i = b .before .before .before .before .before .before in
+    let a = i .before .before .before .before .before .before .before .before .before .before .args in
+    let s = initial (a .present) (a .start) in
+    let T = transitions (a .sources .now) (a .labels .now) (a .targets .now) (a .weights .now) in
+    let M = columns (a .label-values .now) (a .offsets .now) (a .edge-labels .now) (a .edge-targets .now) (a .edge-weights .now) in
+    let o = tells (λ (x : Initial). build (a .states) x T (a .given) M) _ (i .initial-of .result) s (b .build .ensures) (i .initial-of .ensures) in
+    (tells (λ (x : Built). ofBuilt x (a .edges .now) (a .distinct .now)) _ (b .build .result) ((build (a .states) s T (a .given) M) .answer) (c .put-built .ensures) (ap (λ (x : Outcome). x .answer) o), ap (λ (x : Outcome). x .memory) o)
 
 pub tanqesha-build-spec : {M : Type 1} → statement M
 tanqesha-build-spec =

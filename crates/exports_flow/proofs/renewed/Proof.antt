@@ -6,7 +6,7 @@ use borrow.Author.Needs.{needs}
 use borrow.Author.Tests.{ne-eqb}
 use Rattle.flow.specs.declared.network.FlowNetwork.{FlowNetwork}
 use Rattle.flow.specs.declared.network.Made.{Made}
-use Rattle.flow.specs.Network.{leaves}
+use Rattle.flow.specs.Network.{leaves, made}
 use Rattle.exports_flow.specs.Networks.{kept}
 use Rattle.exports_flow.proofs.renewed.Statement.{statement}
 use Rattle.exports_flow.proofs.renewed.Tie as tie
@@ -21,10 +21,10 @@ new-requires : tie.Need-new-requires
 new-requires c κs = search needs
 
 returns : tie.Need-returns
-returns c = took _ _ _ (c .before .new .ensures) (c .if1 .taken)
+returns c = let a = c .before .before .args in took (made (a .nodes)) (c .before .new .result) (a .old) (c .before .new .ensures) (c .if1 .taken)
 
 returns-2 : tie.Need-returns-2
-returns-2 c = kept-as-was _ _ _ (c .before .new .ensures) (ne-eqb _ _ (c .if1 .left))
+returns-2 c = let a = c .before .before .args in kept-as-was (made (a .nodes)) (c .before .new .result) (a .old) (c .before .new .ensures) (ne-eqb _ _ (c .if1 .left))
 
 pub renewed-spec : {M : Type 1} → statement M
 renewed-spec = tie.close (tie.spec new-requires returns returns-2)

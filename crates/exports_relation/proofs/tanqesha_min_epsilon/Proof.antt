@@ -1,8 +1,12 @@
 -- `put_least` ensures the numbers for the answer, and `min_epsilon` the answer and the bytes, for the two shapes that `shape_of` ensures.
-use borrow.Author.Needs.{needs}
 use mathlib.Core.Path.{ap}
-use Rattle.min_epsilon.specs.Outcome.{Outcome}
-use Rattle.replies.specs.Relations.{searched}
+use Rattle.bisim_core.specs.Data.{columns}
+use Rattle.bisim_core.specs.declared.wlts.Shape.{Shape}
+use Rattle.min_epsilon.specs.Outcome.{Outcome, outcome}
+use Rattle.replies.specs.Answers.{initial, shape}
+use Rattle.replies.specs.Relations.{Sought, leaves, searched}
+use Rattle.replies.proofs.Telling.{tells, tells-both}
+use borrow.Author.Needs.{needs}
 use Rattle.exports_relation.proofs.tanqesha_min_epsilon.Statement.{statement}
 use Rattle.exports_relation.proofs.tanqesha_min_epsilon.Tie as tie
 
@@ -33,8 +37,17 @@ returns c =
     let right = e .before .before in
     let left = right .before .before in
     let a = left .before .before .before .before .before .before .before .before .before .before .before .before .before .before .before .args in
-    rw (c .put-least .ensures, ← left .before .initial-of .ensures, ← left .shape-from .ensures, ← right .before .initial-of2 .ensures, ← right .shape-from2 .ensures)
-    (ap (λ (o : Outcome). searched o (a .present .now) (a .epsilon .now)) (e .min-epsilon .ensures .0))
+    let ML = columns (a .left-label-values .now) (a .left-offsets .now) (a .left-edge-labels .now) (a .left-edge-targets .now) (a .left-edge-weights .now) in
+    let MR = columns (a .right-label-values .now) (a .right-offsets .now) (a .right-edge-labels .now) (a .right-edge-targets .now) (a .right-edge-weights .now) in
+    let bytes = e .min-epsilon .last .1 .1 .1 .1 .1 .1 .1 .1 .1 .1 .1 .1 .1 .1 .1 .0 in
+    tells-both
+    (λ (o : Outcome). searched o (a .present .now) (a .epsilon .now))
+    (λ (x y : Shape). outcome x ML y MR (a .left-classes .now) (a .right-classes .now) (a .rho) (a .relation .now))
+    _ _ (left .shape-from .result) (shape (a .left-states) (a .left-edges) (a .left-labels) (initial (a .left-present) (a .left-start))) (right .shape-from2 .result) (shape (a .right-states) (a .right-edges) (a .right-labels) (initial (a .right-present) (a .right-start)))
+    (ap (λ (s : Sought). leaves s bytes) (c .put-least .ensures))
+    (e .min-epsilon .ensures .0)
+    (tells (shape (a .left-states) (a .left-edges) (a .left-labels)) (left .shape-from .result) (left .before .initial-of .result) (initial (a .left-present) (a .left-start)) (left .shape-from .ensures) (left .before .initial-of .ensures))
+    (tells (shape (a .right-states) (a .right-edges) (a .right-labels)) (right .shape-from2 .result) (right .before .initial-of2 .result) (initial (a .right-present) (a .right-start)) (right .shape-from2 .ensures) (right .before .initial-of2 .ensures))
 
 pub tanqesha-min-epsilon-spec : {M : Type 1} → statement M
 tanqesha-min-epsilon-spec =

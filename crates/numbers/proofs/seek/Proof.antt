@@ -11,7 +11,7 @@ place-in-requires : tie.Need-place-in-requires
 place-in-requires c κs = search needs
 
 returns : tie.Need-returns
-returns c = search needs
+returns c = c .place-in .ensures
 
 place-in-requires-2 : tie.Need-place-in-requires-2
 place-in-requires-2 c κs = search needs

@@ -3,11 +3,13 @@
 //! Prints `NAME rust_ns A ours_ns B ratio A/B`, medians over the samples. The Rust side is a new builder, each
 //! transition added, `build` and the release of the model. Our side is `build` into stores that are allocated once and
 //! not cleared between calls. The readers are left out. The flow is in `flow`, whole runs of `epsdelta` in `relation`, reports
-//! of cards in `card`.
+//! of cards in `card`, `transport` in `transport`, `uniformise` and `normalise` in `chain`.
 
 mod card;
+mod chain;
 mod flow;
 mod relation;
+mod transport;
 
 use std::hint::black_box;
 use std::time::Instant;
@@ -22,7 +24,7 @@ const SAMPLES: usize = 31;
 /// A sample lasts at least this long.
 const SAMPLE_NS: u128 = 2_000_000;
 
-fn input(states: usize, given: usize, labels: usize) -> BuildArgs {
+pub(crate) fn input(states: usize, given: usize, labels: usize) -> BuildArgs {
     let size = Size {
         states,
         given,
@@ -129,5 +131,14 @@ fn main() {
     }
     for (name, case) in card::cases().iter().filter(|case| chosen(case.0)) {
         card::measure(name, case);
+    }
+    for (name, case) in transport::cases().iter().filter(|case| chosen(case.0)) {
+        transport::measure(name, case);
+    }
+    for (name, case) in chain::models().iter().filter(|case| chosen(case.0)) {
+        chain::measure_uniformise(name, case);
+    }
+    for (name, case) in chain::pairs().iter().filter(|case| chosen(case.0)) {
+        chain::measure_normalise(name, case);
     }
 }

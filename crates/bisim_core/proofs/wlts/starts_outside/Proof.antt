@@ -24,7 +24,7 @@ returns c =
     ap (λ (k : ℕ). not (ltb k (a .states))) (c .wide .ensures) ∙ ap (λ (i : Initial). startsOutside i (a .states)) (sym (c .before .before .initial .given .1))
 
 returns-2 : tie.Need-returns-2
-returns-2 c = search needs
+returns-2 c = ap (λ (i : Initial). startsOutside i (c .before .before .args .states)) (sym (c .enum-told .given .1))
 
 pub starts-outside-spec : {M : Type 1} → statement M
 starts-outside-spec =

@@ -42,7 +42,8 @@ slice-aggregate-print-right-5 c = search needs
 print-right-requires : tie.Need-print-right-requires
 print-right-requires c κs =
     let p = c .before .before .before .before .before .before .before .before .before .before .before .before .before .before .before .before .before .before .before .before .before .before .before .pre in
-    (built-few _ _ _ _ _ _ _ (c .before .before .before .before .before .before .before .before .before .before .before .build-side .ensures) (p .0 .left-few), p .0, p .1)
+    let a = c .before .before .before .before .before .before .before .before .before .before .before .before .before .before .before .before .before .before .before .before .before .before .before .args in
+    (built-few _ _ (a .heads .left) 0 (lists.columns (a .classes .now) (a .sources .now) (a .labels .now) (a .targets .now) (a .weights .now)) (c .before .before .before .before .before .before .before .before .before .before .before .build-side .ensures) (p .0 .left-few), p .0, p .1)
 
 same-length : tie.Need-same-length
 same-length c = search needs

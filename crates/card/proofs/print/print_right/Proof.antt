@@ -49,7 +49,8 @@ slice-aggregate-print-both-5 c = search needs
 print-both-requires : tie.Need-print-both-requires
 print-both-requires c κs =
     let p = c .before .before .before .before .before .before .before .before .before .before .before .before .before .before .before .before .before .before .before .before .before .before .before .before .before .before .before .before .before .before .pre in
-    (both-few (c .before .before .before .before .before .before .before .before .before .before .before .before .before .before .before .before .before .before .before .before .before .before .before .before .before .before .before .before .before .before .args .left) (c .before .before .before .before .before .before .before .before .before .before .before .before .build-side .result) _ (c .before .before .before .before .before .before .both-models .ensures) (p .0) (built-few _ _ _ _ _ _ _ (c .before .before .before .before .before .before .before .before .before .before .before .before .build-side .ensures) (p .1 .right-few)), p .1 .classes-room, p .2)
+    let a = c .before .before .before .before .before .before .before .before .before .before .before .before .before .before .before .before .before .before .before .before .before .before .before .before .before .before .before .before .before .before .args in
+    (both-few (a .left) (c .before .before .before .before .before .before .before .before .before .before .before .before .build-side .result) _ (c .before .before .before .before .before .before .both-models .ensures) (p .0) (built-few _ _ (a .heads .right) (a .heads .left .transitions) (lists.columns (a .classes .now) (a .sources .now) (a .labels .now) (a .targets .now) (a .weights .now)) (c .before .before .before .before .before .before .before .before .before .before .before .before .build-side .ensures) (p .1 .right-few)), p .1 .classes-room, p .2)
 
 same-length : tie.Need-same-length
 same-length c = search needs

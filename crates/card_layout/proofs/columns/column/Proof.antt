@@ -1,5 +1,5 @@
 -- `columns::column` meets its contract.
-use Rattle.card_layout.specs.Layout.{column}
+use Rattle.card_layout.proofs.Steps.{column-of}
 use borrow.Author.Needs.{needs}
 use Rattle.card_layout.proofs.columns.column.Statement.{statement}
 use Rattle.card_layout.proofs.columns.column.Tie as tie
@@ -26,14 +26,9 @@ add-t9 : tie.Need-add-t9
 add-t9 c = search needs
 
 returns : tie.Need-returns
-unfolding column
 returns c =
-    let a = c .before .before .before .before .place .ensures in
-    let b = c .before .before .before .place2 .ensures in
-    let d = c .before .before .place3 .ensures in
-    let e = c .before .place4 .ensures in
-    let f = c .place5 .ensures in
-    rw (a, b, d, e, f)
+    column-of (c .before .before .before .before .before .args .n) _ _ _ _ _ (c .before .before .before .before .place .ensures) (c .before .before .before .place2 .ensures) (c .before .before .place3 .ensures)
+    (c .before .place4 .ensures) (c .place5 .ensures)
 
 pub column-spec : {M : Type 1} → statement M
 column-spec =

@@ -1,6 +1,6 @@
 -- `columns::number` meets its contract.
 use native.Mathlib.Omega.{arith}
-use Rattle.card_layout.proofs.Steps.{value-drop, value-past}
+use Rattle.card_layout.proofs.Steps.{number-of, value-past}
 use borrow.Author.Needs.{needs}
 use Rattle.card_layout.proofs.columns.number.Statement.{statement}
 use Rattle.card_layout.proofs.columns.number.Tie as tie
@@ -72,7 +72,12 @@ add-result-3 : tie.Need-add-result-3
 add-result-3 c = search needs
 
 returns-2 : tie.Need-returns-2
-returns-2 c = let e = value-drop (c .before .before .before .before .before .before .before .before .args .s .now) (c .before .before .before .before .before .before .before .before .args .at) in omega arith
+returns-2 c =
+    let a = c .before .before .before .before .before .before .before .before .args in (
+      number-of (a .s .now) (a .at) _ _ _ _ _ _ (c .before .before .before .before .before .digit .ensures .0) (c .before .before .before .before .digit2 .ensures .0) (c .before .before .before .digit3 .ensures .0)
+          (c .before .before .digit4 .ensures .0) (c .before .digit5 .ensures .0) (c .digit6 .ensures .0),
+      omega arith,
+    )
 
 pub number-spec : {M : Type 1} → statement M
 number-spec =

@@ -33,6 +33,7 @@ same-length c = search needs
 returns : tie.Need-returns
 returns c =
     let a = c .before .before .before .before .before .before .before .before .before .before .before .before .before .before .before .before .before .before .before .before .before .before .before .args in
+    let p = c .before .before .before .before .before .before .before .before .before .before .before .before .before .before .before .before .before .before .before .before .before .before .before .pre in
     let SL = a .left in
     let ML = columns (a .left-values .now) (a .left-offsets .now) (a .left-labels .now) (a .left-targets .now) (a .left-weights .now) in
     let SR = a .right in
@@ -41,7 +42,7 @@ returns c =
     let cr = a .right-classes .now in
     let x = c .before .before .before .before .before .before .before .before .before .parts .result in
     let y = c .before .before .before .before .before .before .before .before .parts2 .result in
-    retold (same-relation SL ML SR MR cl cr (a .epsilon) (a .rho) (c .before .before .before .before .before .before .before .before .before .parts .ensures) (c .before .before .before .before .before .before .before .before .parts2 .ensures))
+    retold (same-relation SL ML SR MR cl cr (a .epsilon) (a .rho) (c .before .before .before .before .before .before .before .before .before .parts .ensures) (c .before .before .before .before .before .before .before .before .parts2 .ensures) (p .0) (p .1))
     (c .before .before .finish .ensures (epsdeltaRefusal SL ML SR MR cl cr x y 512) (replicate 512 0) (final (given SL ML SR MR cl cr x y)) (c .before .before .before .before .before .before .epsdelta .ensures .0) (final-length SL ML SR MR cl cr x y))
 
 pub print-models-spec : {M : Type 1} → statement M

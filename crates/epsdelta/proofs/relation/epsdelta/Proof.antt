@@ -1,5 +1,4 @@
 -- `relation::epsdelta` meets its contract: it asks for no initial state, and the claim is epsdelta_theory's theorem.
-use mathlib.Core.Path.{_∙_}
 use lib.ListN.{length}
 use Rattle.bisim_core.specs.Data.{columns}
 use Rattle.epsdelta_theory.proofs.Theorem.{epsdelta-sound}
@@ -24,7 +23,7 @@ returns c =
     let cl = a .left-classes .now in
     let cr = a .right-classes .now in
     let store = a .relation .now in
-    (c .before .before .epsdelta-unless .ensures ∙ plain SL ML SR MR cl cr (a .epsilon) (a .rho) store, λ e. epsdelta-sound SL ML SR MR cl cr (a .epsilon) (a .rho) (length store) e)
+    (plain SL ML SR MR cl cr (a .epsilon) (a .rho) store (c .before .before .epsdelta-unless .ensures), λ e. epsdelta-sound SL ML SR MR cl cr (a .epsilon) (a .rho) (length store) e)
 
 pub epsdelta-spec : {M : Type 1} → statement M
 epsdelta-spec = tie.close (tie.spec epsdelta-unless-requires same-length returns)

@@ -1,8 +1,9 @@
 -- The sum is that of the first m rates, and `divide` divides these by it.
-use mathlib.Core.Path.{sym, ap, _∙_}
-use mathlib.Core.List.{_++_}
+use mathlib.Core.Path.{_≡_, sym, ap, _∙_}
+use mathlib.Core.List.{List}
+use Prim.Native.Nat.{ℕ}
 use lib.Ieee.{Float}
-use lib.ListN.{length, drop}
+use Rattle.numbers.specs.Lists.{over}
 use lib.Seq.{length-take-le}
 use Rattle.epsdelta_jumps.proofs.Edges.{quotients}
 use borrow.Author.Needs.{needs}
@@ -27,6 +28,10 @@ divide-requires c κs = search needs
 same-length : tie.Need-same-length
 same-length c = search needs
 
+-- the first m rates, divided by x, where x is y
+divided : (P Q : List Float) (m : ℕ) (x y : Float) → Q ≡ over (quotients x m P) P → x ≡ y → Q ≡ over (quotients y m P) P
+divided P Q m x y d e = d ∙ ap (λ (z : Float). over (quotients z m P) P) e
+
 returns : tie.Need-returns
 returns c =
     let d = c .before .before in
@@ -35,7 +40,7 @@ returns c =
     let m = s .args .m in
     let P = s .args .probs .now in
     let e = v .value .ensures ∙ v .before .sum .ensures in
-    (e, d .divide .ensures ∙ ap (λ (x : Float). quotients x m P ++ drop (length (quotients x m P)) P) e)
+    (e, divided P (d .divide .last .0) m (v .value .result) _ (d .divide .ensures) e)
 
 pub finish-spec : {M : Type 1} → statement M
 finish-spec =

@@ -16,7 +16,14 @@ marked-requires : tie.Need-marked-requires
 marked-requires c κs = search needs
 
 returns-2 : tie.Need-returns-2
-returns-2 c = search needs
+returns-2 c =
+    let u = c .before .raised .ensures in
+    let m = c .marked .ensures in
+    let one = u .0 in
+    let more = u .1 in
+    let faults = m .1 in
+    let differences = m .2 in
+    ((λ e. omega arith), (omega arith, omega arith))
 
 pub compared-spec : {M : Type 1} → statement M
 compared-spec = tie.close (tie.spec returns raised-requires marked-requires returns-2)

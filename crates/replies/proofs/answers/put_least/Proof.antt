@@ -1,4 +1,7 @@
 -- The arm says which variant the answer is, so that `ofLeast` computes.
+use mathlib.Core.Path.{sym, ap}
+use Rattle.min_epsilon.specs.declared.least.Least.{Least}
+use Rattle.replies.specs.Relations.{ofLeast}
 use borrow.Author.Needs.{needs}
 use Rattle.replies.proofs.answers.put_least.Statement.{statement}
 use Rattle.replies.proofs.answers.put_least.Tie as tie
@@ -13,13 +16,13 @@ enum-known-answer-2 : tie.Need-enum-known-answer-2
 enum-known-answer-2 c = search needs
 
 returns : tie.Need-returns
-returns c = search needs
+returns c = let a = c .before .before .before .args in ap (λ (x : Least). ofLeast x (a .any .now) (a .epsilon .now)) (sym (c .before .answer .given .1))
 
 returns-2 : tie.Need-returns-2
-returns-2 c = rw (c .enum-told .given .1)
+returns-2 c = let a = c .before .before .args in ap (λ (x : Least). ofLeast x (a .any .now) (a .epsilon .now)) (sym (c .enum-told .given .1))
 
 returns-3 : tie.Need-returns-3
-returns-3 c = rw (c .before .answer2 .given .1)
+returns-3 c = let a = c .before .before .before .args in ap (λ (x : Least). ofLeast x (a .any .now) (a .epsilon .now)) (sym (c .before .answer2 .given .1))
 
 pub put-least-spec : {M : Type 1} → statement M
 put-least-spec =

@@ -1,0 +1,2 @@
+pub mod Ascents
+pub mod Checks

@@ -1,0 +1,5 @@
+pub mod Exits
+pub mod Entries
+pub mod RowsLaid
+pub mod Rowing
+pub mod Answers

@@ -1,0 +1,82 @@
+// The index of the pairs: each pair with its number as one code, the codes rising, searched by halves.
+use bisim_core::ids::StateId;
+ghost use mathlib.Core.Path.{_≡_};
+ghost use Prim.Native.Nat.{_+_, _-_, _≤_, _<_};
+ghost use lib.ListN.{length};
+ghost use Rattle.epsdelta_theory.proofs.RowsIn;
+ghost use Rattle.distance_theory.specs.Pairs.{pair};
+ghost use Rattle.distance_theory.proofs.Index.{goesTo, lookUp};
+ghost use Rattle.distance_theory.proofs.Index;
+
+// A value below 2^32, as a wider number.
+fn wider(x: u32) -> u64
+    ensures { λ r. ⌜ (r ≡ x) × (r < 4294967296) ⌝ }
+{
+    x as u64
+}
+
+// A pair as one number.
+fn key(x: u32, y: u32) -> u64
+    ensures { λ r. ⌜ (r ≡ Index.key (pair x y)) × (r < 8800387989504) ⌝ }
+{
+    wider(x) * 2048 + wider(y)
+}
+
+// Pair number n.
+pub(crate) fn code(x: u32, y: u32, n: usize) -> u64
+    requires { ⌜ n < 4096 ⌝ }
+    ensures { λ r. ⌜ r ≡ Index.code (pair x y) n ⌝ }
+{
+    key(x, y) * 4096 + n as u64
+}
+
+// Where x goes in a list that rises.
+pub(crate) fn goes_to(list: &[u64], x: u64) -> usize
+    ensures { λ r. ⌜ (r ≡ goesTo (now (list .entry)) x) × (r ≤ length (now (list .entry))) ⌝ }
+{
+    let mut lo = 0;
+    let mut hi = list.len();
+    while lo < hi {
+        let middle = lo + (hi - lo) / 2;
+        if list[middle] < x {
+            lo = middle + 1;
+        } else {
+            hi = middle;
+        }
+    }
+    lo
+}
+
+// A code put in at a place; those from there up to m move on by one.
+pub(crate) fn insert(codes: &mut [u64], at: usize, m: usize, code: u64)
+    requires { ⌜ (at ≤ m) × (m < length (now codes)) ⌝ }
+    ensures { λ r. ⌜ now (codes .exit) ≡ RowsIn.put at (m - at) (now (codes .entry)) code ⌝ }
+{
+    let mut moved = code;
+    let mut i = at;
+    while i < m {
+        let next = codes[i];
+        codes[i] = moved;
+        moved = next;
+        i += 1;
+    }
+    codes[m] = moved;
+}
+
+// The number of a pair of states, by the codes of all pairs; how many these are if it is none of them.
+pub fn place_of(codes: &[u64], left: StateId, right: StateId) -> usize
+    ensures { λ r. ⌜ r ≡ lookUp (now (codes .entry)) (pair (left .0) (right .0)) ⌝ }
+{
+    let n = codes.len();
+    if right.0 < 2048 {
+        let pair = key(left.0, right.0);
+        let at = goes_to(codes, pair * 4096);
+        if at < n {
+            let code = codes[at];
+            if code / 4096 == pair {
+                return (code % 4096) as usize;
+            }
+        }
+    }
+    n
+}

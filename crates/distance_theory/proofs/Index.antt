@@ -1,0 +1,307 @@
+-- The index of the pairs, as the code has it: each pair with its number as one code, the codes rising, searched by halves.
+use mathlib.Core.Path.{_≡_, refl, sym, subst, subst⁻¹, ap, ap₂, _∙_}
+use mathlib.Core.Logic.{_⊎_, inl, inr, _≢_}
+use Prim.Native.Nat.{ℕ, zero, suc, _≤_, _<_, _+_, _*_, _-_, _/_, _%_}
+use mathlib.Core.Bool.{Bool, true, false, _&&_, true≢false}
+use mathlib.Core.List.{List, [], _∷_, _++_, append-nil}
+use native.Mathlib.Omega.{arith}
+use native.Mathlib.Nat.{le-of-suc-le-suc, not-suc-le-zero}
+use lib.Dec.{eqb, ltb}
+use lib.ListN.{length, getD}
+use borrow.Author.Tests.{ltb-true, ltb-false, lt-ltb, le-ltb, eqb-true, eq-eqb, ne-eqb}
+use Rattle.numbers.specs.Lists.{In}
+use Rattle.numbers.specs.Sort.{put, insert, sort}
+use Rattle.numbers.proofs.Bools.{and-t, lt-or-ge, eq-or-ne}
+use Rattle.numbers.proofs.Members.{Apart, in-at, at-in}
+use Rattle.numbers.proofs.Sorts.{All, Sorted, sort-sorted, sort-length, sort-mid, all-sort, all-at, sorted-at}
+use Rattle.distance_theory.specs.Pairs.{Pair, pair, pairAt, place, most}
+use Rattle.distance_theory.proofs.Inside.{Of, AllOf}
+use Rattle.distance_theory.proofs.Explore.{place-in, place-at, place-of, place-none}
+
+-- ---- codes
+
+-- a pair as one number; its right state is below 2,048
+abbrev pub key : Pair → ℕ
+key p = p .left * 2048 + p .right
+
+-- pair p, which is number k
+abbrev pub code : Pair → ℕ → ℕ
+code p k = key p * 4096 + k
+
+-- pairs from number k on
+unfoldable pub codes : ℕ → List Pair → List ℕ
+codes k [] = []
+codes k (p ∷ ps) = code p k ∷ codes (suc k) ps
+
+-- the codes of some pairs, rising
+unfoldable pub index : List Pair → List ℕ
+unfolding codes sort
+index found = sort (codes 0 found)
+
+-- ---- the search
+
+abbrev pub middle : ℕ → ℕ → ℕ
+middle lo hi = lo + (hi - lo) / 2
+
+-- where x goes in a list that rises, between lo and hi: the half that it goes to, at most k times
+unfoldable pub halves : ℕ → List ℕ → ℕ → ℕ → ℕ → ℕ
+halves zero l x lo hi = lo
+halves (suc k) l x lo hi =
+    elim (ltb lo hi) [ true ↦ elim (ltb (getD l (middle lo hi) 0) x) [ true ↦ halves k l x (suc (middle lo hi)) hi | false ↦ halves k l x lo (middle lo hi) ] | false ↦ lo ]
+
+unfoldable pub goesTo : List ℕ → ℕ → ℕ
+unfolding halves
+goesTo l x = halves (length l) l x 0 (length l)
+
+-- code c is that of pair p
+abbrev pub isOf : Pair → ℕ → Bool
+isOf p c = eqb (c / 4096) (key p)
+
+abbrev pub numberIf : Bool → ℕ → ℕ → ℕ
+numberIf true c n = c % 4096
+numberIf false c n = n
+
+-- the number of a pair: how many codes there are if none is its own
+unfoldable pub lookUp : List ℕ → Pair → ℕ
+unfolding goesTo
+lookUp l p = let at = goesTo l (code p 0) in numberIf (ltb (p .right) 2048 && (ltb at (length l) && isOf p (getD l at 0))) (getD l at 0) (length l)
+
+-- ---- the search goes on, or ends
+
+module _ (l : List ℕ) (x : ℕ) where
+  halves-low : (k lo hi : ℕ) → lo < hi → getD l (middle lo hi) 0 < x → halves (suc k) l x lo hi ≡ halves k l x (suc (middle lo hi)) hi
+  unfolding halves
+  halves-low k lo hi h i = rw (lt-ltb lo hi h, lt-ltb (getD l (middle lo hi) 0) x i, halves)
+
+  halves-high : (k lo hi : ℕ) → lo < hi → x ≤ getD l (middle lo hi) 0 → halves (suc k) l x lo hi ≡ halves k l x lo (middle lo hi)
+  unfolding halves
+  halves-high k lo hi h i = rw (lt-ltb lo hi h, le-ltb (getD l (middle lo hi) 0) x i, halves)
+
+  halves-end : (k lo hi : ℕ) → hi ≤ lo → halves k l x lo hi ≡ lo
+  unfolding halves
+  halves-end zero lo hi h = refl
+  halves-end (suc k) lo hi h = rw (le-ltb lo hi h, halves)
+
+-- ---- what a look-up answers
+
+module _ (l : List ℕ) (p : Pair) (k at : ℕ) (ek : k ≡ key p) (ea : at ≡ goesTo l (k * 4096)) where
+  abbrev answer : ℕ → ℕ
+  answer j = numberIf (ltb (p .right) 2048 && (ltb j (length l) && isOf p (getD l j 0))) (getD l j 0) (length l)
+
+  answered : answer at ≡ lookUp l p
+  unfolding lookUp
+  answered = ap answer (ea ∙ ap (goesTo l) (let e : k * 4096 ≡ code p 0 = omega arith in e))
+
+  pub look-hit : p .right < 2048 → at < length l → getD l at 0 / 4096 ≡ k → getD l at 0 % 4096 ≡ lookUp l p
+  look-hit h i e = rw (lt-ltb (p .right) 2048 h, lt-ltb at (length l) i, eq-eqb (getD l at 0 / 4096) (key p) (e ∙ ek)) at answered
+
+  pub look-other : p .right < 2048 → at < length l → (getD l at 0 / 4096 ≡ k → ⊥) → length l ≡ lookUp l p
+  look-other h i e = rw (lt-ltb (p .right) 2048 h, lt-ltb at (length l) i, ne-eqb (getD l at 0 / 4096) (key p) (λ q. e (q ∙ sym ek))) at answered
+
+  pub look-end : p .right < 2048 → length l ≤ at → length l ≡ lookUp l p
+  look-end h i = rw (lt-ltb (p .right) 2048 h, le-ltb at (length l) i) at answered
+
+pub look-high : (l : List ℕ) (p : Pair) → 2048 ≤ p .right → length l ≡ lookUp l p
+unfolding lookUp
+look-high l p h = rw (le-ltb (p .right) 2048 h)
+
+-- ---- the search, turn by turn
+
+-- the search is between lo and hi, and will come to r
+abbrev pub Halving : List ℕ → ℕ → ℕ → ℕ → ℕ → Type 0
+Halving l x r lo hi = (k : ℕ) × (hi ≤ lo + k) × (halves k l x lo hi ≡ r)
+
+module _ (l : List ℕ) (x r : ℕ) where
+  pub halving-start : goesTo l x ≡ r → Halving l x r 0 (length l)
+  unfolding goesTo
+  halving-start e = (length l, omega arith, e)
+
+  pub halving-low : (lo hi m : ℕ) → lo < hi → m ≡ middle lo hi → getD l m 0 < x → Halving l x r lo hi → Halving l x r (m + 1) hi
+  halving-low lo hi m h e i (zero, f, g) = absurd (omega arith)
+  halving-low lo hi m h e i (suc k, f, g) =
+      let j : getD l (middle lo hi) 0 < x = subst (λ (n : ℕ). getD l n 0 < x) e i in
+      (k, omega arith, ap (λ (n : ℕ). halves k l x n hi) (let q : m + 1 ≡ suc (middle lo hi) = omega arith in q) ∙ sym (halves-low l x k lo hi h j) ∙ g)
+
+  pub halving-high : (lo hi m : ℕ) → lo < hi → m ≡ middle lo hi → x ≤ getD l m 0 → Halving l x r lo hi → Halving l x r lo m
+  halving-high lo hi m h e i (zero, f, g) = absurd (omega arith)
+  halving-high lo hi m h e i (suc k, f, g) =
+      let j : x ≤ getD l (middle lo hi) 0 = subst (λ (n : ℕ). x ≤ getD l n 0) e i in
+      (k, omega arith, ap (λ (n : ℕ). halves k l x lo n) e ∙ sym (halves-high l x k lo hi h j) ∙ g)
+
+  pub halving-end : (lo hi : ℕ) → hi ≤ lo → Halving l x r lo hi → lo ≡ r
+  halving-end lo hi h (k, f, g) = sym (halves-end l x k lo hi h) ∙ g
+
+-- ---- in a list that rises
+
+-- what stands before r is below x, and nothing behind is
+pub record Splits (l : List ℕ) (x r : ℕ) : Type 0 where
+  pub within : r ≤ length l
+  pub before : (i : ℕ) → i < r → getD l i 0 < x
+  pub behind : (i : ℕ) → r ≤ i → i < length l → x ≤ getD l i 0
+
+module _ (l : List ℕ) (x : ℕ) (s : Sorted l) where
+  halves-splits : (k lo hi : ℕ) → lo ≤ hi → hi ≤ length l → hi ≤ lo + k → ((i : ℕ) → i < lo → getD l i 0 < x) → ((i : ℕ) → hi ≤ i → i < length l → x ≤ getD l i 0) → Splits l x (halves k l x lo hi)
+  halves-splits zero lo hi a b f p q = subst⁻¹ (Splits l x) (halves-end l x zero lo hi (omega arith)) (record { within = omega arith; before = p; behind = λ i h j. q i (omega arith) j })
+  halves-splits (suc k) lo hi a b f p q = pick (λ c d u v. halves-splits k c d u v) (lt-or-ge lo hi) (lt-or-ge (getD l (middle lo hi) 0) x)
+    where
+      pick : ((c d : ℕ) → c ≤ d → d ≤ length l → d ≤ c + k → ((i : ℕ) → i < c → getD l i 0 < x) → ((i : ℕ) → d ≤ i → i < length l → x ≤ getD l i 0) → Splits l x (halves k l x c d))
+          → (lo < hi) ⊎ (hi ≤ lo) → (getD l (middle lo hi) 0 < x) ⊎ (x ≤ getD l (middle lo hi) 0) → Splits l x (halves (suc k) l x lo hi)
+      pick r (inr h) t = subst⁻¹ (Splits l x) (halves-end l x (suc k) lo hi h) (record { within = omega arith; before = p; behind = λ i j n. q i (omega arith) n })
+      pick r (inl h) (inl t) = subst⁻¹ (Splits l x) (halves-low l x k lo hi h t) (r (suc (middle lo hi)) hi (omega arith) b (omega arith) (λ i j. below i j (eq-or-ne i (middle lo hi))) q)
+        where
+          below : (i : ℕ) → i < suc (middle lo hi) → (i ≡ middle lo hi) ⊎ (i ≢ middle lo hi) → getD l i 0 < x
+          below i j (inl e) = subst⁻¹ (λ (n : ℕ). getD l n 0 < x) e t
+          below i j (inr d) = let g : i < middle lo hi = omega arith in let u = sorted-at l s i (middle lo hi) g (omega arith) in omega arith
+      pick r (inl h) (inr t) = subst⁻¹ (Splits l x) (halves-high l x k lo hi h t) (r lo (middle lo hi) (omega arith) (omega arith) (omega arith) p (λ i j n. above i j n (eq-or-ne i (middle lo hi))))
+        where
+          above : (i : ℕ) → middle lo hi ≤ i → i < length l → (i ≡ middle lo hi) ⊎ (i ≢ middle lo hi) → x ≤ getD l i 0
+          above i j n (inl e) = subst⁻¹ (λ (m : ℕ). x ≤ getD l m 0) e t
+          above i j n (inr d) = let g : middle lo hi < i = omega arith in let u = sorted-at l s (middle lo hi) i g n in omega arith
+
+  pub goes-splits : Splits l x (goesTo l x)
+  unfolding goesTo
+  goes-splits = halves-splits (length l) 0 (length l) (omega arith) (omega arith) (omega arith) (λ i h. absurd (not-suc-le-zero h)) (λ i h j. absurd (omega arith))
+
+-- ---- the index of some pairs
+
+pub codes-length : (k : ℕ) (ps : List Pair) → length (codes k ps) ≡ length ps
+unfolding codes
+codes-length k [] = refl
+codes-length k (p ∷ ps) = ap suc (codes-length (suc k) ps)
+
+pub codes-append : (k : ℕ) (ps qs : List Pair) → codes k (ps ++ qs) ≡ codes k ps ++ codes (k + length ps) qs
+unfolding codes
+codes-append k [] qs = ap (λ (n : ℕ). codes n qs) (let e : k ≡ k + 0 = omega arith in e)
+codes-append k (p ∷ ps) qs = ap (λ (l : List ℕ). code p k ∷ l) (codes-append (suc k) ps qs ∙ ap (λ (n : ℕ). codes (suc k) ps ++ codes n qs) (let e : suc k + length ps ≡ k + suc (length ps) = omega arith in e))
+
+pub index-length : (ps : List Pair) → length (index ps) ≡ length ps
+unfolding index
+index-length ps = sort-length (codes 0 ps) ∙ codes-length 0 ps
+
+pub index-sorted : (ps : List Pair) → Sorted (index ps)
+unfolding index
+index-sorted ps = sort-sorted (codes 0 ps)
+
+-- one pair more: its code is put in
+pub index-more : (ps : List Pair) (p : Pair) → index (ps ++ (p ∷ [])) ≡ insert (code p (length ps)) (index ps)
+unfolding index codes
+index-more ps p =
+    ap sort (codes-append 0 ps (p ∷ []) ∙ ap (λ (n : ℕ). codes 0 ps ++ (code p n ∷ [])) (let e : 0 + length ps ≡ length ps = omega arith in e))
+    ∙ sort-mid (codes 0 ps) (code p (length ps)) [] ∙ ap (λ (l : List ℕ). insert (code p (length ps)) (sort l)) (append-nil (codes 0 ps))
+
+-- c is the code of pair j
+abbrev Coded : List Pair → ℕ → ℕ → Type 0
+Coded ps k c = (j : ℕ) × (j < length ps) × (c ≡ code (pairAt ps j) (k + j))
+
+codes-all : (k : ℕ) (ps : List Pair) (P : ℕ → Type 0) → ((c : ℕ) → Coded ps k c → P c) → All P (codes k ps)
+unfolding codes
+codes-all k [] P f = tt
+codes-all k (p ∷ ps) P f = (
+  f (code p k) (0, omega arith, ap (code p) (let e : k ≡ k + 0 = omega arith in e)),
+  codes-all (suc k) ps P (λ c (j, h, e). f c (suc j, omega arith, e ∙ ap (code (pairAt ps j)) (let q : suc k + j ≡ k + suc j = omega arith in q))),
+)
+
+codes-in : (k : ℕ) (ps : List Pair) (j : ℕ) → j < length ps → In (code (pairAt ps j) (k + j)) (codes k ps)
+unfolding codes
+codes-in k [] j h = absurd (not-suc-le-zero h)
+codes-in k (p ∷ ps) zero h = inl (ap (code p) (let e : k + 0 ≡ k = omega arith in e))
+codes-in k (p ∷ ps) (suc j) h = inr (subst (λ (n : ℕ). In (code (pairAt ps j) n) (codes (suc k) ps)) (let q : suc k + j ≡ k + suc j = omega arith in q) (codes-in (suc k) ps j (le-of-suc-le-suc h)))
+
+in-insert : (x y : ℕ) (l : List ℕ) → In x (y ∷ l) → In x (insert y l)
+unfolding insert put
+in-insert x y [] i = i
+in-insert x y (z ∷ l) i = pick (in-insert x y l) (ltb z y) i
+  where
+    swap : In x (y ∷ (z ∷ l)) → (x ≡ z) ⊎ In x (y ∷ l)
+    swap (inl e) = inr (inl e)
+    swap (inr (inl e)) = inl e
+    swap (inr (inr j)) = inr (inr j)
+
+    more : (In x (y ∷ l) → In x (insert y l)) → (x ≡ z) ⊎ In x (y ∷ l) → In x (z ∷ insert y l)
+    more r (inl e) = inl e
+    more r (inr j) = inr (r j)
+
+    pick : (In x (y ∷ l) → In x (insert y l)) → (b : Bool) → In x (y ∷ (z ∷ l)) → In x (put b y z l (insert y l))
+    pick r true j = more r (swap j)
+    pick r false j = j
+
+pub in-sort : (x : ℕ) (l : List ℕ) → In x l → In x (sort l)
+unfolding sort
+in-sort x (y ∷ l) (inl e) = in-insert x y (sort l) (inl e)
+in-sort x (y ∷ l) (inr i) = in-insert x y (sort l) (inr (in-sort x l i))
+
+index-coded : (ps : List Pair) (i : ℕ) → i < length ps → Coded ps 0 (getD (index ps) i 0)
+unfolding index
+index-coded ps i h = all-at (Coded ps 0) (sort (codes 0 ps)) (all-sort (Coded ps 0) (codes 0 ps) (codes-all 0 ps (Coded ps 0) (λ c z. z))) i (let n = index-length ps in omega arith)
+
+index-in : (ps : List Pair) (j : ℕ) → j < length ps → In (code (pairAt ps j) j) (index ps)
+unfolding index
+index-in ps j h = in-sort (code (pairAt ps j) j) (codes 0 ps) (subst (λ (n : ℕ). In (code (pairAt ps j) n) (codes 0 ps)) (let e : 0 + j ≡ j = omega arith in e) (codes-in 0 ps j h))
+
+-- ---- a look-up
+
+key-same : (p q : Pair) → p .right < 2048 → q .right < 2048 → key p ≡ key q → p ≡ q
+key-same p q a b e = ap₂ pair (omega arith) (omega arith)
+
+-- where the code of p goes, if p is not there
+abbrev spot : List Pair → Pair → ℕ
+spot found p = goesTo (index found) (code p 0)
+
+module _ (m : ℕ) (found : List Pair) (a : Apart found) (w : AllOf m 2048 found) (f : length found ≤ most) (p : Pair) where
+  n-is : length (index found) ≡ length found
+  n-is = index-length found
+
+  splits : Splits (index found) (code p 0) (spot found p)
+  splits = goes-splits (index found) (code p 0) (index-sorted found)
+
+  -- a code with the key of p is that of p
+  own : (c : ℕ) → p .right < 2048 → Coded found 0 c → c / 4096 ≡ key p → (In p found) × (c % 4096 ≡ place p found)
+  own c r (j, h, e) q =
+      let o = w (pairAt found j) (in-at found j (pair 0 0) h) in
+      let k : key (pairAt found j) ≡ key p = omega arith in
+      let s : pairAt found j ≡ p = key-same (pairAt found j) p (o .1) r k in
+      let z : place p found ≡ j = ap (λ (x : Pair). place x found) (sym s) ∙ place-of found j a h in
+      (subst (λ (x : Pair). In x found) s (in-at found j (pair 0 0) h), (let d = f in omega arith))
+
+  known : In p found → lookUp (index found) p ≡ place p found
+  unfolding lookUp
+  known i =
+      let r = w p i .1 in
+      let j = place-in p found i in
+      let (t, h, e) = at-in (code p (place p found)) (index found) 0 (subst (λ (x : Pair). In (code x (place p found)) (index found)) (place-at p found j .1) (index-in found (place p found) j)) in
+      let n = n-is in
+      let g : spot found p ≤ t = ge t h e (lt-or-ge t (spot found p)) in
+      let u : getD (index found) (spot found p) 0 ≤ getD (index found) t 0 = up t h g (eq-or-ne (spot found p) t) in
+      let v = splits .behind (spot found p) (omega arith) (omega arith) in
+      let o = own (getD (index found) (spot found p) 0) r (index-coded found (spot found p) (omega arith)) (omega arith) in
+      rw (lt-ltb (p .right) 2048 r, lt-ltb (spot found p) (length (index found)) (omega arith), eq-eqb (getD (index found) (spot found p) 0 / 4096) (key p) (omega arith)) (o .1)
+    where
+      ge : (t : ℕ) → t < length (index found) → getD (index found) t 0 ≡ code p (place p found) → (t < spot found p) ⊎ (spot found p ≤ t) → spot found p ≤ t
+      ge t h e (inl x) = absurd (let z = splits .before t x in omega arith)
+      ge t h e (inr x) = x
+
+      up : (t : ℕ) → t < length (index found) → spot found p ≤ t → (spot found p ≡ t) ⊎ (spot found p ≢ t) → getD (index found) (spot found p) 0 ≤ getD (index found) t 0
+      up t h g (inl e) = let z = ap (λ (x : ℕ). getD (index found) x 0) e in omega arith
+      up t h g (inr d) = sorted-at (index found) (index-sorted found) (spot found p) t (omega arith) h
+
+  unknown : (In p found → ⊥) → lookUp (index found) p ≡ place p found
+  unfolding lookUp
+  unknown h = pick (ltb (p .right) 2048 && (ltb (spot found p) (length (index found)) && isOf p (getD (index found) (spot found p) 0))) refl
+    where
+      pick : (b : Bool) → (ltb (p .right) 2048 && (ltb (spot found p) (length (index found)) && isOf p (getD (index found) (spot found p) 0))) ≡ b
+          → numberIf b (getD (index found) (spot found p) 0) (length (index found)) ≡ place p found
+      pick true e =
+          let (x, y) = and-t (ltb (p .right) 2048) _ e in
+          let (y₁, y₂) = and-t (ltb (spot found p) (length (index found))) _ y in
+          let n = n-is in
+          let k : spot found p < length (index found) = ltb-true _ _ y₁ in
+          absurd (h (own (getD (index found) (spot found p) 0) (ltb-true (p .right) 2048 x) (index-coded found (spot found p) (omega arith)) (eqb-true _ _ y₂) .0))
+      pick false e = n-is ∙ sym (place-none p found h)
+
+  -- the code's look-up is the definition's
+  pub look-up-is : lookUp (index found) p ≡ place p found
+  look-up-is = pick (lt-or-ge (place p found) (length found))
+    where
+      pick : (place p found < length found) ⊎ (length found ≤ place p found) → lookUp (index found) p ≡ place p found
+      pick (inl h) = known (place-at p found h .0)
+      pick (inr h) = unknown (λ i. let k = place-in p found i in omega arith)

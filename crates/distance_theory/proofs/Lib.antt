@@ -1,0 +1,15 @@
+pub mod Figures
+pub mod Crossings
+pub mod Explore
+pub mod Turns
+pub mod Lengths
+pub mod Rank
+pub mod Store
+pub mod Inside
+pub mod Checks
+pub mod Runs
+pub mod Made
+pub mod Held
+pub mod ValueRows
+pub mod Index
+pub mod Discovery

@@ -1,0 +1,6 @@
+pub mod Pairs
+pub mod Couplings
+pub mod Rounds
+pub mod Contributions
+pub mod Refusal
+pub mod Outcome

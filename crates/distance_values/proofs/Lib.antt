@@ -1,0 +1,5 @@
+mod Reading
+mod Sweeping
+mod Visiting
+mod Answers
+pub mod Uses

@@ -1,0 +1,5 @@
+pub mod Earlier
+pub mod Inserts
+pub mod Laid
+pub mod Lent
+pub mod Models

@@ -1,0 +1,2 @@
+pub mod Earlier
+pub mod Laid

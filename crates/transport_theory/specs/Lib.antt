@@ -1,0 +1,4 @@
+pub mod Links
+pub mod Shortest
+pub mod Transport
+pub mod Refusal
