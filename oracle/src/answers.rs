@@ -136,22 +136,9 @@ fn lay_out(model: &Model, stores: &mut Columns) {
     }
 }
 
-/// DECIDED (docs/DECISIONS.md, "The transitions that are there"): what a column has past the end of the shortest one is
-/// no part of a transition, and is not checked. The refusals, left to themselves, check it (POINTS.md, P6).
-fn whole(a: &BuildArgs) -> BuildArgs {
-    let columns = [&a.sources, &a.labels, &a.targets].map(Vec::len);
-    let there = columns.into_iter().fold(a.weights.len(), usize::min);
-    let mut args = a.clone();
-    args.sources.truncate(there);
-    args.labels.truncate(there);
-    args.targets.truncate(there);
-    args.weights.truncate(there);
-    args
-}
-
 impl Oracle for BuildArgs {
     fn oracle(&self) -> Vec<Field> {
-        let refusal = build_refusal(&whole(self));
+        let refusal = build_refusal(self);
         let mut stores = self.stores.clone();
         let mut values = vec![Value::Number(0); 2];
         if refusal == 0 {

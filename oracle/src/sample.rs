@@ -145,6 +145,19 @@ fn build_figures(rng: &mut Rng) -> Vec<BuildArgs> {
     list
 }
 
+/// Columns that are shorter than the count given: a fault that another column has is still met before 7.
+fn short_columns(rng: &mut Rng) -> [BuildArgs; 3] {
+    let mut source = from_transitions(1, None, &[(0, 1, 0, 1.0), (9, 1, 0, 1.0)]);
+    source.weights.pop();
+    let mut labels = without_stores(distinct_labels(257));
+    labels.sources.clear();
+    labels.targets.clear();
+    labels.weights.clear();
+    let mut targets = without_stores(build::star(rng, 32));
+    targets.labels.clear();
+    [source, labels, targets]
+}
+
 /// Inputs of `build`.
 pub fn builds() -> Vec<BuildArgs> {
     let rng = &mut Rng::new(4);
@@ -157,6 +170,7 @@ pub fn builds() -> Vec<BuildArgs> {
         size.given = size.given.min(4);
         list.push(build::random(rng, size));
     }
+    list.extend(short_columns(rng));
     list
 }
 

@@ -8,15 +8,16 @@ use native.Mathlib.Omega.{arith}
 use native.Mathlib.Nat.{le-of-suc-le-suc, not-suc-le-zero}
 use lib.Dec.{ltb}
 use lib.Ieee.{nan}
-use lib.ListN.{length, getD, take, drop, List·getD-append, take-append-drop}
+use lib.ListN.{length, getD, take, drop, take-append-drop}
 use lib.Seq.{slice, slice-cons, slice-empty, take-length, take-take}
 use borrow.Author.Tests.{lt-ltb, le-ltb, eq-eqb}
 use Rattle.numbers.proofs.Bools.{lt-or-ge}
 use Rattle.bisim_core.specs.Data.{Edge, Columns}
-use Rattle.bisim_core.specs.Edges.{one, below}
-use Rattle.numbers.specs.Lists.{span, over}
+use Rattle.build_theory.specs.Edges.{one, below}
+use Rattle.numbers.specs.Lists.{span}
 use Rattle.bisim_core.specs.Model.{begins, edgeAt, row, rows, follows, rises}
-use Rattle.bisim_core.proofs.Ranks.{AllE, all-map, Small, rank, Strict}
+use Rattle.build_theory.proofs.Steps.{rank}
+use Rattle.build_theory.proofs.Ranks.{AllE, all-map, Small, Strict}
 
 -- ---- how many edges have a source below s
 
@@ -107,10 +108,6 @@ slice-join a b c E h k = ap (λ (l : List Edge). drop a l ++ slice b c E) (sym (
     dropped (suc a) zero l h = absurd (omega arith)
     dropped (suc a) (suc b) [] h = refl
     dropped (suc a) (suc b) (x ∷ l) h = dropped a b l (le-of-suc-le-suc h)
-
-module _ {A : Type 0} (new old : List A) where
-  pub over-at : (i : ℕ) (d : A) → i < length new → getD (over new old) i d ≡ getD new i d
-  over-at i d h = List·getD-append new (drop (length new) old) d i h
 
 -- the columns holds the edges E of so many states
 pub record Holds (M : Columns) (E : List Edge) (states : ℕ) : Type 0 where

@@ -1,37 +1,66 @@
--- How `build` ends. What is planned decides checks 3 to 6, so the outcome is a refusal of the plan's number, or what check 7 leaves of the model: `finished` says that the columns
--- then hold it.
+-- How `build` ends, by the plan: a refusal of the plan is its own, and else the columns are written from what the plan left.
 use mathlib.Core.Path.{_≡_, refl, sym, subst, ap, _∙_}
 use mathlib.Core.Bool.{Bool, true, false, _||_}
-use mathlib.Core.Logic.{_≢_}
-use Prim.Native.Nat.{ℕ, zero, suc, _+_, _≤_, _<_, min}
+use mathlib.Core.Logic.{_⊎_, inl, inr, _≢_}
+use Prim.Native.Nat.{ℕ, zero, suc, min, _+_, _≤_, _<_}
 use mathlib.Core.List.{List, map}
 use native.Mathlib.Omega.{arith}
 use lib.Dec.{ltb}
 use lib.Ieee.{Float}
-use lib.ListN.{length, take}
-use lib.Seq.{length-take-le}
+use lib.ListN.{length, drop, length-append, length-map}
 use borrow.Author.Tests.{lt-ltb, le-ltb, ltb-false}
 use Rattle.numbers.specs.Lists.{over}
 use Rattle.numbers.specs.Refuse.{check}
-use Rattle.numbers.proofs.Bools.{or-f}
-use Rattle.numbers.proofs.Refuses.{check-hit, check-skip, check-none, first, first-hit, first-skip, hit, none}
+use Rattle.numbers.proofs.Bools.{lt-or-ge, or-f}
+use Rattle.numbers.proofs.Refuses.{check-same, hit, skip, none}
 use Rattle.bisim_core.specs.Data.{Edge, Transitions, Columns, columns}
-use Rattle.bisim_core.specs.Edges.{edges, offsets}
+use Rattle.build_theory.specs.Edges.{edges, offsets}
 use Rattle.bisim_core.specs.declared.wlts.Initial.{Initial}
-use Rattle.bisim_core.specs.declared.wlts.Shape.{Shape}
-use Rattle.bisim_core.proofs.Steps.{Rising, edgesIn, Planned, Written}
-use Rattle.bisim_core.proofs.Distinct.{distinct-length}
-use Rattle.bisim_core.proofs.Rows.{edges-length}
-use Rattle.bisim_edges.specs.Checks.{present, labelsOf, oversized, outside, unweighed, crowded}
-use Rattle.bisim_edges.specs.Plan as plans
-use Rattle.bisim_edges.specs.Plan.{planned, plan}
+use Rattle.build_theory.specs.Checks.{labelsOf, oversized, outside, unweighed, crowded, missing, refusal}
+use Rattle.build_theory.proofs.Steps.{rank, weightOf, Rising, edgesIn, Space, space, laid, shortest, Ending, ending, outcome, planned, Writable, Written}
 use Rattle.bisim_edges.specs.declared.planner.Planned as answers
 use Rattle.bisim_edges.specs.declared.planner.Planned.the-variants as answer
-use Rattle.bisim_edges.proofs.Plans.{number-is, none-is, never-short, cramped}
-use Rattle.bisim_build.specs.Build.{short, refusal, Outcome, ends, modelled, made, settled, build}
+use Rattle.bisim_build.specs.Build.{short, Outcome, ends, made, settled, build}
 use Rattle.bisim_build.specs.declared.builder.Built.the-variants.{Model, Refused}
+use Rattle.bisim_build.proofs.Made.{Passed, passes, sizes, small, strict, edges-few}
+use Rattle.bisim_build.proofs.Stored.{stored-edges, stored-rising}
 
--- the outcome of a refusal, and of none
+-- ---- check 7, in two parts
+
+-- a list that has room for the transitions given does not matter
+room-of : (l t w given : ℕ) → given ≤ t → ltb (min l (min t w)) given ≡ (ltb l given || ltb w given)
+room-of l t w given h = pick (lt-or-ge l given) (lt-or-ge w given)
+  where
+    pick : (l < given) ⊎ (given ≤ l) → (w < given) ⊎ (given ≤ w) → ltb (min l (min t w)) given ≡ (ltb l given || ltb w given)
+    pick (inl a) b = lt-ltb (min l (min t w)) given (omega arith) ∙ hit _ _ (sym (lt-ltb l given a))
+    pick (inr a) (inl b) = lt-ltb (min l (min t w)) given (omega arith) ∙ skip _ _ _ (le-ltb l given a) (sym (lt-ltb w given b))
+    pick (inr a) (inr b) = le-ltb (min l (min t w)) given (omega arith) ∙ sym (none _ _ (le-ltb l given a) (le-ltb w given b))
+
+reorder : (o e t l w : Bool) → ((o || (e || t)) || (l || w)) ≡ (o || (l || (e || (t || w))))
+reorder true e t l w = refl
+reorder false true t true w = refl
+reorder false true t false w = refl
+reorder false false true true w = refl
+reorder false false true false w = refl
+reorder false false false true w = refl
+reorder false false false false w = refl
+
+-- ---- the outcome of a plan
+
+abbrev answered : Ending answers.Planned → answers.Planned
+answered o = o .answer
+
+abbrev left : Ending answers.Planned → Space
+left o = o .memory
+
+refused-ends : (x a b r : ℕ) (old new last : Space) → ending (answer.Refused r) last ≡ outcome x answer.Refused (answer.Edges a b) old new → (x ≡ r) × (r ≢ 0) × (last ≡ old)
+refused-ends zero a b r old new last e = let y = ap answered e in let z : _≡_ {A = ℕ} 0 1 = cc in absurd (omega arith)
+refused-ends (suc x) a b r old new last e = let y = ap answered e in let z : suc x ≡ r = cc in (z, λ y. omega arith, ap left e)
+
+edges-end : (x a b m d : ℕ) (old new last : Space) → ending (answer.Edges m d) last ≡ outcome x answer.Refused (answer.Edges a b) old new → (x ≡ 0) × (m ≡ a) × (d ≡ b) × (last ≡ new)
+edges-end zero a b m d old new last e = let y = ap answered e in (refl, (cc), (cc), ap left e)
+edges-end (suc x) a b m d old new last e = let y = ap answered e in let z : _≡_ {A = ℕ} 0 1 = cc in absurd (omega arith)
+
 refused-is : (k r : ℕ) (M : Columns) (done : Outcome) → r ≡ k → k ≢ 0 → ends (Refused k) M ≡ settled r M done
 refused-is zero r M done e h = absurd (h refl)
 refused-is (suc k) r M done e h = subst (λ (x : ℕ). ends (Refused (suc k)) M ≡ settled x M done) (sym e) refl
@@ -39,157 +68,122 @@ refused-is (suc k) r M done e h = subst (λ (x : ℕ). ends (Refused (suc k)) M 
 done-is : (r : ℕ) (M : Columns) (done : Outcome) → r ≡ 0 → done ≡ settled r M done
 done-is r M done e = subst (λ (x : ℕ). done ≡ settled x M done) (sym e) refl
 
--- four checks, then those that come later
-four-first : (a b c d : Bool) (later : ℕ) → check 3 a (check 4 b (check 5 c (check 6 d later))) ≡ first (check 3 a (check 4 b (check 5 c (check 6 d 0)))) later
-four-first true b c d later = refl
-four-first false true c d later = refl
-four-first false false true d later = refl
-four-first false false false true later = refl
-four-first false false false false later = refl
+-- a call of `build`
+pub record Call : Type 0 where
+  pub states : ℕ
+  pub initial : Initial
+  pub C : Transitions
+  pub given : ℕ
+  pub M : Columns
+  pub T : List ℕ
 
-pub n-below : (C : Transitions) (given n : ℕ) → n ≡ present C given → n ≤ given
-n-below C given n e = omega arith
+module _ (Z : Call) (few : Z .given ≤ 4096 → Z .given ≤ length (Z .T)) {s : Bool}
+    (e : s ≡ (ltb (length (Z .M .offsets)) (Z .states + 1) || (ltb (length (Z .M .edgeLabels)) (Z .given) || ltb (length (Z .M .edgeTargets)) (Z .given)))) where
+  abbrev states : ℕ
+  states = Z .states
 
-pub n-most : (C : Transitions) (given n : ℕ) → given ≤ 4096 → n ≡ present C given → n ≤ 4096
-n-most C given n h e = omega arith
+  abbrev initial : Initial
+  initial = Z .initial
 
-pub n-there : (C : Transitions) (given n : ℕ) → n ≡ present C given → n ≡ present C n
-n-there C given n e = omega arith
+  abbrev C : Transitions
+  C = Z .C
 
--- ---- what check 7 says
+  abbrev given : ℕ
+  given = Z .given
 
-pub record Room (states given n : ℕ) (M : Columns) : Type 0 where
-  pub all-there : given ≤ n
-  pub o-room : states < length (M .offsets)
-  pub l-room : given ≤ length (M .labels)
-  pub el-room : given ≤ length (M .edgeLabels)
-  pub et-room : given ≤ length (M .edgeTargets)
-  pub ew-room : given ≤ length (M .edgeWeights)
+  abbrev M : Columns
+  M = Z .M
 
-module _ (states given n : ℕ) (M : Columns) where
-  pub room : short states given n M ≡ false → Room states given n M
-  room h =
-      let (a, h2) = or-f (ltb n given) (ltb (length (M .offsets)) (states + 1) || (ltb (length (M .labels)) given || (ltb (length (M .edgeLabels)) given || (ltb (length (M .edgeTargets)) given || ltb (length (M .edgeWeights)) given)))) h in
-      let (b, h3) = or-f (ltb (length (M .offsets)) (states + 1)) (ltb (length (M .labels)) given || (ltb (length (M .edgeLabels)) given || (ltb (length (M .edgeTargets)) given || ltb (length (M .edgeWeights)) given))) h2 in
-      let (d, h4) = or-f (ltb (length (M .labels)) given) (ltb (length (M .edgeLabels)) given || (ltb (length (M .edgeTargets)) given || ltb (length (M .edgeWeights)) given)) h3 in
-      let (e, h5) = or-f (ltb (length (M .edgeLabels)) given) (ltb (length (M .edgeTargets)) given || ltb (length (M .edgeWeights)) given) h4 in
-      let (f, g) = or-f (ltb (length (M .edgeTargets)) given) (ltb (length (M .edgeWeights)) given) h5 in
-      record {
-        all-there = ltb-false _ _ a;
-        o-room = let z : states + 1 ≤ length (M .offsets) = ltb-false _ _ b in omega arith;
-        l-room = ltb-false _ _ d;
-        el-room = ltb-false _ _ e;
-        et-room = ltb-false _ _ f;
-        ew-room = ltb-false _ _ g;
-      }
+  abbrev S : Space
+  S = space (M .labels) (Z .T) (M .edgeWeights)
 
-  pub refused-7 : (done : Outcome) → short states given n M ≡ true → ends (Refused 7) M ≡ settled (check 7 (short states given n M) 0) M done
-  refused-7 done h = refused-is 7 (check 7 (short states given n M) 0) M done (check-hit 7 (short states given n M) 0 h) (λ z. omega arith)
+  abbrev number : ℕ
+  number = refusal states initial C given (short states given M)
 
-  pub passed-7 : (done : Outcome) → short states given n M ≡ false → done ≡ settled (check 7 (short states given n M) 0) M done
-  passed-7 done h = done-is (check 7 (short states given n M) 0) M done (check-skip 7 (short states given n M) 0 0 h refl)
+  shorts : given ≤ 4096 → (s || ltb (shortest S) given) ≡ short states given M
+  shorts h =
+      ap (λ (b : Bool). b || ltb (shortest S) given) e
+      ∙ ap (λ (b : Bool). (ltb (length (M .offsets)) (states + 1) || (ltb (length (M .edgeLabels)) given || ltb (length (M .edgeTargets)) given)) || b) (room-of (length (M .labels)) (length (Z .T)) (length (M .edgeWeights)) given (few h))
+      ∙ reorder (ltb (length (M .offsets)) (states + 1)) (ltb (length (M .edgeLabels)) given) (ltb (length (M .edgeTargets)) given) (ltb (length (M .labels)) given) (ltb (length (M .edgeWeights)) given)
 
--- ---- the columns, once everything is written
+  number-is : refusal states initial C given (s || ltb (shortest S) given) ≡ number
+  number-is = check-same 3 (oversized states C given) _ _ (λ h.
+      let (a, b) = or-f (ltb 2000 states) (ltb 4096 given || ltb 256 (length (labelsOf C given))) h in
+      let (p, q) = or-f (ltb 4096 given) (ltb 256 (length (labelsOf C given))) b in
+      ap (λ (b : Bool). check 4 (outside states initial C given) (check 5 (unweighed C given) (check 6 (crowded states C given) (check 7 (missing C given || b) 0)))) (shorts (ltb-false _ _ p)))
 
-module _ (S : Shape) (M : Columns) (store T : List ℕ) (U : List Float) {l o el et : List ℕ} {ew : List Float} where
-  pub finished : S .labels ≤ length store → l ≡ over (take (S .labels) store) (M .labels) → ((X : List Float) → o ≡ over (offsets (S .states) (edgesIn T X (S .edges))) (M .offsets))
-      → Written T U (S .edges) (M .edgeLabels) (M .edgeTargets) (M .edgeWeights) el et ew
-      → ends (Model S) (columns l o el et ew) ≡ modelled (S .states) (S .initial) (take (S .labels) store) (edgesIn T U (S .edges)) M
-  finished h a b w =
-      put (S .edges) (S .labels) l o el et ew (length (edgesIn T U (S .edges))) (length (take (S .labels) store)) _ _ _ _ _ (sym (edges-length T U (S .edges))) (sym (length-take-le (S .labels) store h)) a (b U) (w .labels) (w .targets) (w .weights)
-    where
-      put : (m c : ℕ) (l o el et : List ℕ) (ew : List Float) (m' c' : ℕ) (l' o' el' et' : List ℕ) (ew' : List Float)
-          → m ≡ m' → c ≡ c' → l ≡ l' → o ≡ o' → el ≡ el' → et ≡ et' → ew ≡ ew'
-          → ends (Model (record { states = S .states; edges = m; labels = c; initial = S .initial })) (columns l o el et ew)
-          ≡ ends (Model (record { states = S .states; edges = m'; labels = c'; initial = S .initial })) (columns l' o' el' et' ew')
-      put m c l o el et ew m' c' l' o' el' et' ew' p q r s t u v = cc
+  module _ {p : answers.Planned} {L T : List ℕ} {W : List Float} (f : ending p (space L T W) ≡ planned answer.Refused answer.Edges states initial C given s S) where
+    plan-is : (q : answers.Planned) → p ≡ q
+        → ending q (space L T W) ≡ outcome number answer.Refused (answer.Edges (length (edges C given)) (length (labelsOf C given))) S (laid (labelsOf C given) (edges C given) S)
+    unfolding planned
+    plan-is q g =
+        ap (λ (x : answers.Planned). ending x (space L T W)) (sym g) ∙ f
+        ∙ ap (λ (x : ℕ). outcome x answer.Refused (answer.Edges (length (edges C given)) (length (labelsOf C given))) S (laid (labelsOf C given) (edges C given) S)) number-is
 
--- ---- the outcome by the plan
-
-module _ (states : ℕ) (initial : Initial) (C : Transitions) (given : ℕ) (M : Columns) where
-  pub too-many : 4096 < given → ends (Refused 3) M ≡ build states initial C given M
-  unfolding build
-  too-many h =
-      refused-is 3 (refusal states initial C given (present C given) M) M (made states initial C (present C given) M)
-      (check-hit 3 (oversized states C given (present C given)) _ (over (ltb 2000 states) (ltb 4096 given) (ltb 256 (length (labelsOf C (present C given)))) (lt-ltb 4096 given h))) (λ z. omega arith)
-    where
-      over : (a b d : Bool) → b ≡ true → (a || (b || d)) ≡ true
-      over true b d e = refl
-      over false b d e = sym (hit b d (sym e))
-
-  module _ (n : ℕ) (most : given ≤ 4096) (there : n ≡ present C given) where
-    abbrev number : ℕ
-    number = plans.refusal states initial C n
-
-    few : n ≤ 4096
-    few = let h = n-below C given n there in omega arith
-
-    sizes : oversized states C given n ≡ oversized states C n n
-    sizes = ap (λ (b : Bool). ltb 2000 states || (b || ltb 256 (length (labelsOf C n)))) (le-ltb 4096 given most ∙ sym (le-ltb 4096 n few))
-
-    -- check 7 comes after those of the plan
-    build-is : build states initial C given M ≡ settled (first number (check 7 (short states given n M) 0)) M (made states initial C n M)
+    pub plan-refused : (r : ℕ) → p ≡ answer.Refused r → ends (Refused r) (columns L (M .offsets) (M .edgeLabels) (M .edgeTargets) W) ≡ build states initial C given M
     unfolding build
-    build-is =
-        ap (λ (k : ℕ). settled (refusal states initial C given k M) M (made states initial C k M)) (sym there)
-        ∙ ap (λ (r : ℕ). settled r M (made states initial C n M))
-        (ap (λ (b : Bool). check 3 b (check 4 (outside states initial C n) (check 5 (unweighed C n) (check 6 (crowded states C n) (check 7 (short states given n M) 0))))) sizes
-        ∙ four-first (oversized states C n n) (outside states initial C n) (unweighed C n) (crowded states C n) (check 7 (short states given n M) 0))
+    plan-refused r g =
+        let (x, y, z) = refused-ends number _ _ r S _ (space L T W) (plan-is (answer.Refused r) g) in
+        same L W (M .labels) (M .edgeWeights) (ap (λ (m : Space). m .labels) z) (ap (λ (m : Space). m .weights) z) ∙ refused-is r number M (made states initial C given M) x y
+      where
+        same : (l : List ℕ) (w : List Float) (l' : List ℕ) (w' : List Float) → l ≡ l' → w ≡ w'
+            → ends (Refused r) (columns l (M .offsets) (M .edgeLabels) (M .edgeTargets) w) ≡ ends (Refused r) (columns l' (M .offsets) (M .edgeLabels) (M .edgeTargets) w')
+        same l w l' w' a b = cc
 
-    module _ (room : ℕ) (n-in : n ≤ room) {p : answers.Planned} (e : p ≡ plan (cramped C n 256 room) states initial C n) where
-      roomy : cramped C n 256 room ≡ false
-      roomy = none _ _ refl (none _ _ (le-ltb room n n-in) (le-ltb (present C n) n (let h = n-there C given n there in omega arith)))
+    module _ (m d : ℕ) (g : p ≡ answer.Edges m d) where
+      abbrev E : List Edge
+      E = edges C given
 
-      plan-is : plans.settled number (answer.Edges (length (edges C n)) (length (labelsOf C n))) ≡ p
-      unfolding plan planned
-      plan-is = sym (e ∙ ap (λ (b : Bool). plan b states initial C n) roomy)
+      ended : (number ≡ 0) × (m ≡ length E) × (d ≡ length (labelsOf C given)) × (space L T W ≡ laid (labelsOf C given) E S)
+      ended = edges-end number _ _ m d S _ (space L T W) (plan-is (answer.Edges m d) g)
 
-      -- the lists are long enough
-      pub plan-not-short : {P : Type 0} → p ≡ answer.Short → P
-      plan-not-short f = never-short number _ _ (plan-is ∙ f)
+      passed : Passed states initial C given × (short states given M ≡ false)
+      passed = passes states initial C given (short states given M) (ended .0)
 
-      pub plan-refused : (r : ℕ) → p ≡ answer.Refused r → ends (Refused r) M ≡ build states initial C given M
-      plan-refused r f =
-          let (x, y) = number-is number _ _ r (plan-is ∙ f) in
-          refused-is r (first number (check 7 (short states given n M) 0)) M (made states initial C n M) (first-hit number _ (λ z. y (sym x ∙ z)) ∙ x) y ∙ sym build-is
+      triples-are : T ≡ over (map rank E) (Z .T)
+      triples-are = ap (λ (x : Space). x .triples) (ended .3)
 
-      module _ (m d : ℕ) (f : p ≡ answer.Edges m d) where
-        passed : number ≡ 0
-        passed = none-is number _ _ m d (plan-is ∙ f) .0
+      stored : edgesIn T W m ≡ E
+      stored =
+          ap (λ (x : List ℕ). edgesIn x W m) triples-are ∙ ap (λ (x : List Float). edgesIn (over (map rank E) (Z .T)) x m) (ap (λ (x : Space). x .weights) (ended .3))
+          ∙ ap (edgesIn (over (map rank E) (Z .T)) (over (map weightOf E) (M .edgeWeights))) (ended .1) ∙ stored-edges E (Z .T) (M .edgeWeights) (small (passed .0))
 
-        states-few : states ≤ 2000
-        states-few =
-            let (a, b) = check-none 2 (oversized states C n n) _ passed in
-            ltb-false _ _ (or-f (ltb 2000 states) (ltb 4096 n || ltb 256 (length (labelsOf C n))) a .0)
+      rooms : (states < length (M .offsets)) × (given ≤ length (M .edgeLabels)) × (given ≤ length (M .edgeTargets))
+      rooms =
+          let (a, b) = or-f (ltb (length (M .offsets)) (states + 1)) (ltb (length (M .labels)) given || (ltb (length (M .edgeLabels)) given || (ltb (length (M .edgeTargets)) given || ltb (length (M .edgeWeights)) given))) (passed .1) in
+          let (c, h) = or-f (ltb (length (M .labels)) given) (ltb (length (M .edgeLabels)) given || (ltb (length (M .edgeTargets)) given || ltb (length (M .edgeWeights)) given)) b in
+          let (k, i) = or-f (ltb (length (M .edgeLabels)) given) (ltb (length (M .edgeTargets)) given || ltb (length (M .edgeWeights)) given) h in
+          let (n, o) = or-f (ltb (length (M .edgeTargets)) given) (ltb (length (M .edgeWeights)) given) i in
+          let z : states + 1 ≤ length (M .offsets) = ltb-false _ _ a in
+          (omega arith, ltb-false _ _ k, ltb-false _ _ n)
 
-        labels-few : d ≤ n
-        labels-few =
-            let x = none-is number _ _ m d (plan-is ∙ f) .2 in
-            let a = distinct-length (take n (C .labels)) in
-            let b = length-take-le n (C .labels) (omega arith) in
-            omega arith
+      -- what the columns are then written from
+      pub fillable : Writable T m (M .edgeLabels) (M .edgeTargets) × (m ≤ 4096) × (states ≤ 2000) × (states < length (M .offsets)) × Rising T m
+      fillable =
+          let (a, b, c) = sizes (passed .0) in
+          let h = edges-few (passed .0) in
+          let q = ended .1 in
+          let (x, y, z) = rooms in
+          let t = ap length triples-are ∙ length-append (map rank E) (drop (length (map rank E)) (Z .T)) in
+          let u = length-map E rank in (
+            record { t-in = omega arith; l-room = omega arith; g-room = omega arith },
+            omega arith,
+            a,
+            x,
+            subst (λ (l : List ℕ). Rising l m) (sym triples-are) (subst (Rising (over (map rank E) (Z .T))) (sym q) (stored-rising E (Z .T) (M .edgeWeights) (strict (passed .0)))),
+          )
 
-        labels-in : d ≤ 256
-        labels-in =
-            let (a, b) = check-none 2 (oversized states C n n) _ passed in
-            let (g, h) = or-f (ltb 2000 states) (ltb 4096 n || ltb 256 (length (labelsOf C n))) a in
-            let k : length (labelsOf C n) ≤ 256 = ltb-false _ _ (or-f (ltb 4096 n) (ltb 256 (length (labelsOf C n))) h .1) in
-            let x = none-is number _ _ m d (plan-is ∙ f) .2 in
-            omega arith
-
-        -- what the columns are then written from
-        pub finishable : {store T : List ℕ} {U : List Float} {t u : ℕ} → Planned C n store T U m d → length store ≡ 256 → length T ≡ t → length U ≡ u → n ≤ t → n ≤ u
-            → (states ≤ 2000) × (given ≤ 4096) × (m ≤ given) × (d ≤ given) × (d ≤ length store) × (m ≤ length T) × (m ≤ length U) × Rising T m
-        finishable Q a b e g h =
-            let k = n-below C given n there in
-            let x = Q .few in
-            let y = labels-few in
-            let z = labels-in in
-            (states-few, most, omega arith, omega arith, omega arith, omega arith, omega arith, Q .rising)
-
-        pub plan-passed : {store T : List ℕ} {U : List Float} → Planned C n store T U m d
-            → settled (check 7 (short states given n M) 0) M (modelled states initial (take d store) (edgesIn T U m) M) ≡ build states initial C given M
-        plan-passed {store} {T} {U} Q =
-            ap (λ (x : List ℕ). settled (check 7 (short states given n M) 0) M (modelled states initial x (edgesIn T U m) M)) (Q .labels)
-            ∙ ap (λ (x : List Edge). settled (check 7 (short states given n M) 0) M (modelled states initial (labelsOf C n) x M)) (Q .edges)
-            ∙ ap (λ (r : ℕ). settled r M (made states initial C n M)) (sym (first-skip number (check 7 (short states given n M) 0) _ passed refl)) ∙ sym build-is
+      pub plan-passed : {O EL ET : List ℕ} → Written T m (M .edgeLabels) (M .edgeTargets) EL ET → ((U : List Float) → O ≡ over (offsets states (edgesIn T U m)) (M .offsets))
+          → ends (Model (record { states = states; edges = m; labels = d; initial = initial })) (columns L O EL ET W) ≡ build states initial C given M
+      unfolding build
+      plan-passed {O} {EL} {ET} w o =
+          put m d L O EL ET W _ _ _ _ _ _ _ (ended .1) (ended .2) (ap (λ (x : Space). x .labels) (ended .3)) (o W ∙ ap (λ (x : List Edge). over (offsets states x) (M .offsets)) stored)
+          (w .labels W ∙ ap (λ (x : List Edge). over (map (λ (a : Edge). a .label) x) (M .edgeLabels)) stored)
+          (w .targets W ∙ ap (λ (x : List Edge). over (map (λ (a : Edge). a .target) x) (M .edgeTargets)) stored) (ap (λ (x : Space). x .weights) (ended .3))
+          ∙ done-is number M (made states initial C given M) (ended .0)
+        where
+          put : (m c : ℕ) (l o el et : List ℕ) (ew : List Float) (m' c' : ℕ) (l' o' el' et' : List ℕ) (ew' : List Float)
+              → m ≡ m' → c ≡ c' → l ≡ l' → o ≡ o' → el ≡ el' → et ≡ et' → ew ≡ ew'
+              → ends (Model (record { states = states; edges = m; labels = c; initial = initial })) (columns l o el et ew)
+              ≡ ends (Model (record { states = states; edges = m'; labels = c'; initial = initial })) (columns l' o' el' et' ew')
+          put m c l o el et ew m' c' l' o' el' et' ew' p q r s t u v = cc

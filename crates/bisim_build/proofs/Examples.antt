@@ -9,7 +9,8 @@ use Rattle.bisim_core.specs.declared.wlts.Initial.the-variants.{At, Absent}
 use Rattle.bisim_core.specs.Data.{Transitions, Columns, transitions, columns}
 use Rattle.bisim_build.specs.Build.{ends, build}
 use Rattle.bisim_core.specs.Ids.{intern}
-use Rattle.bisim_core.specs.Edges.{others, below}
+use Rattle.bisim_core.specs.Edges.{others}
+use Rattle.build_theory.specs.Edges.{below}
 
 abbrev half : Float
 half = fin false 1 (negsuc 0)

@@ -1,4 +1,6 @@
 pub mod Writes
+pub mod Made
+pub mod Stored
 pub mod Builds
 pub mod Backs
 pub mod Accepts

@@ -4,33 +4,20 @@ use mathlib.Core.Bool.{Bool, _||_}
 use mathlib.Core.List.{List, map}
 use lib.ListN.{length}
 use lib.Dec.{ltb}
-use Rattle.numbers.specs.Refuse.{check}
 use Rattle.numbers.specs.Lists.{span, all, over}
 use Rattle.bisim_core.specs.Data.{Edge, Transitions, Columns, columns}
-use Rattle.bisim_core.specs.Edges.{edges, offsets, crowdedIn}
+use Rattle.bisim_core.specs.Edges.{crowdedIn}
+use Rattle.build_theory.specs.Edges.{nonzero, edges, offsets}
 use Rattle.bisim_core.specs.declared.wlts.Initial.{Initial}
-use Rattle.bisim_edges.specs.Checks.{present, labelsOf, oversized, outside, unweighed, crowded}
+use Rattle.build_theory.specs.Checks.{labelsOf, refusal}
 use Rattle.bisim_build.specs.declared.builder.Built.{Built}
 use Rattle.bisim_build.specs.declared.builder.Built.the-variants.{Model, Refused}
 
--- ---- the checks, each true where it fails; 3 to 6 are those of the edges, and n transitions of those given are there
-
--- 7: a column or a store that is short: each needs the transitions given, the offsets states + 1
-abbrev pub short : ℕ → ℕ → ℕ → Columns → Bool
-short states given n M =
-    ltb n given
-    || (ltb (length (M .offsets)) (states + 1)
-    || (ltb (length (M .labels)) given || (ltb (length (M .edgeLabels)) given || (ltb (length (M .edgeTargets)) given || ltb (length (M .edgeWeights)) given))))
-
--- the first check that fails, in the list's order; 0 if none does
-abbrev pub refusal : ℕ → Initial → Transitions → ℕ → ℕ → Columns → ℕ
-refusal states initial C given n M =
-    check 3 (oversized states C given n)
-    (check 4 (outside states initial C n)
-    (check 5 (unweighed C n)
-    (check 6 (crowded states C n)
-    (check 7 (short states given n M)
-    0))))
+-- 7: a store that is short: each needs an entry for each transition given, the offsets states + 1
+abbrev pub short : ℕ → ℕ → Columns → Bool
+short states given M =
+    ltb (length (M .offsets)) (states + 1)
+    || (ltb (length (M .labels)) given || (ltb (length (M .edgeLabels)) given || (ltb (length (M .edgeTargets)) given || ltb (length (M .edgeWeights)) given)))
 
 -- ---- the outcome: the answer, and what is then in the columns lent
 
@@ -50,9 +37,9 @@ modelled states initial D E M =
     (over (map (λ (a : Edge). a .target) E) (M .edgeTargets))
     (over (map (λ (a : Edge). a .weight) E) (M .edgeWeights)))
 
--- the model of the first n transitions
+-- the model of the transitions given
 abbrev pub made : ℕ → Initial → Transitions → ℕ → Columns → Outcome
-made states initial C n M = modelled states initial (labelsOf C n) (edges C n) M
+made states initial C given M = modelled states initial (labelsOf C given) (edges C given) M
 
 -- a refusal returns its number only, and leaves the columns as they were
 abbrev pub settled : ℕ → Columns → Outcome → Outcome
@@ -60,5 +47,5 @@ settled zero M done = done
 settled (suc r) M done = ends (Refused (suc r)) M
 
 unfoldable pub build : ℕ → Initial → Transitions → ℕ → Columns → Outcome
-unfolding all crowdedIn edges span
-build states initial C given M = settled (refusal states initial C given (present C given) M) M (made states initial C (present C given) M)
+unfolding all nonzero crowdedIn edges span
+build states initial C given M = settled (refusal states initial C given (short states given M)) M (made states initial C given M)

@@ -1,10 +1,4 @@
-pub mod Steps
 pub mod Distinct
-pub mod Rows
-pub mod Offsets
-pub mod Orders
-pub mod Ranks
-pub mod Weights
 pub mod Interning
 pub mod IdsExamples
 pub mod Models

@@ -1,7 +1,7 @@
 -- The turns of `intern_all`: a value that is known, or a new one, which goes to the end of the store; and what holds at the end.
 use mathlib.Core.Path.{_≡_, refl, sym, subst, ap, _∙_}
 use mathlib.Core.Logic.{_⊎_, inl, inr, _≢_}
-use Prim.Native.Nat.{ℕ, suc, _+_, _≤_, _<_}
+use Prim.Native.Nat.{ℕ, suc, min, _+_, _≤_, _<_}
 use mathlib.Core.List.{List, [], _∷_, _++_}
 use native.Mathlib.Omega.{arith}
 use native.Mathlib.Numerals.{add-one}
@@ -9,7 +9,8 @@ use lib.ListN.{length, getD, take, set, length-set, length-append}
 use lib.Seq.{slice, slice-cons, slice-empty, take-suc-set, length-take-le, getD-set-same, getD-set-other, getD-take}
 use Rattle.numbers.specs.Search.{seek}
 use Rattle.bisim_core.specs.Ids.{intern, distinct}
-use Rattle.bisim_core.proofs.Steps.{Interned}
+use Rattle.build_theory.proofs.Steps.{Interned}
+use Rattle.build_theory.proofs.Fronts.{take-least}
 use Rattle.numbers.proofs.Bools.{eq-or-ne}
 use Rattle.numbers.proofs.Seeks.{seek-le, seek-new}
 use Rattle.bisim_core.proofs.Distinct.{intern-old, intern-new, intern-seek, intern-longer, Single, single-intern}
@@ -22,9 +23,10 @@ pub record Interning (values : List ℕ) (n : ℕ) (store₀ ids₀ store ids : 
   pub single : Single (take count store)
   pub same : intern (take count store) (slice i n values) ≡ distinct (take n values)
   pub found : (j : ℕ) → j < i → getD ids j 0 ≡ seek (getD values j 0) (distinct (take n values))
+  pub rest : (j : ℕ) → n ≤ j → getD ids j 0 ≡ getD ids₀ j 0
 
 pub interning : (values : List ℕ) (n : ℕ) (store ids : List ℕ) → Interning values n store ids store ids 0 0
-interning values n store ids = record { i-in = omega arith; store-size = refl; ids-size = refl; room = omega arith; single = λ j h. absurd (omega arith); same = refl; found = λ j h. absurd (omega arith) }
+interning values n store ids = record { i-in = omega arith; store-size = refl; ids-size = refl; room = omega arith; single = λ j h. absurd (omega arith); same = refl; found = λ j h. absurd (omega arith); rest = λ j h. refl }
 
 module _ {values : List ℕ} {n : ℕ} {store₀ ids₀ store ids : List ℕ} {i count : ℕ} (I : Interning values n store₀ ids₀ store ids i count) (h : i < n) (w : n ≤ length values) where
   abbrev x : ℕ
@@ -45,6 +47,9 @@ module _ {values : List ℕ} {n : ℕ} {store₀ ids₀ store ids : List ℕ} {i
           (getD-set-same ids i k 0 (let a = I .ids-size in omega arith) ∙ e)
       pick (inr p) = getD-set-other ids i j k 0 p ∙ I .found j (omega arith)
 
+  next-rest : (k j : ℕ) → n ≤ j → getD (set ids i k) j 0 ≡ getD ids₀ j 0
+  next-rest k j l = getD-set-other ids i j k 0 (λ e. omega arith) ∙ I .rest j l
+
   -- the value is known: its place is k
   pub turn-old : (k : ℕ) → n ≤ length ids₀ → k ≡ seek x (take count store) → k ≢ count
       → (store' : List ℕ) (count' : ℕ) → store' ≡ store → count' ≡ count → Interning values n store₀ ids₀ store' (set ids i k) (i + 1) count'
@@ -61,6 +66,7 @@ module _ {values : List ℕ} {n : ℕ} {store₀ ids₀ store ids : List ℕ} {i
         single = I .single;
         same = rw (add-one i) go;
         found = next-found k r (e ∙ sym (intern-seek x (take count store) (slice (suc i) n values) old) ∙ ap (seek x) go);
+        rest = next-rest k;
       })
 
   module _ (k : ℕ) (e : k ≡ seek x (take count store)) (d : k ≡ count) where
@@ -97,22 +103,35 @@ module _ {values : List ℕ} {n : ℕ} {store₀ ids₀ store ids : List ℕ} {i
           same = rw (add-one i, known) after;
           found = next-found k r (d ∙ sym (at ∙ known-length) ∙ sym (intern-seek x (take count store ++ (x ∷ [])) (slice (suc i) n values)
               (let g = grown in let l = known-length in omega arith)) ∙ ap (seek x) after);
+          rest = next-rest k;
         })
 
-pub interned : {values : List ℕ} {n : ℕ} {store₀ ids₀ store ids : List ℕ} {i count : ℕ} → Interning values n store₀ ids₀ store ids i count → n ≤ i
-    → Interned values n store₀ store ids count
-unfolding intern
-interned {values} {n} {store₀} {ids₀} {store} {ids} {i} {count} I h =
-    let a = I .i-in in
-    let e : i ≡ n = omega arith in
-    record {
-      count = λ l. ap (intern (take count store)) (sym (ap (λ (j : ℕ). slice j n values) e ∙ slice-empty n values)) ∙ I .same;
-      more = λ l. let b = I .room in absurd (omega arith);
-      ids = λ l j k. I .found j (omega arith);
-    }
+-- ---- the values given, as far as they go
 
-pub overfull : (values : List ℕ) (n : ℕ) (store₀ store ids : List ℕ) (count : ℕ) → count ≡ length store₀ → length store₀ < length (distinct (take n values)) → Interned values n store₀ store ids (count + 1)
-overfull values n store₀ store ids count e h = record { count = λ l. absurd (omega arith); more = λ l. h; ids = λ l. absurd (omega arith) }
+module _ (values : List ℕ) (given : ℕ) {n : ℕ} (e : n ≡ min given (length values)) where
+  given-is : distinct (take n values) ≡ distinct (take given values)
+  given-is = ap (λ (k : ℕ). distinct (take k values)) e ∙ ap distinct (sym (take-least given values))
+
+  module _ {store₀ ids₀ store ids : List ℕ} {i count : ℕ} (I : Interning values n store₀ ids₀ store ids i count) where
+    pub interned : n ≤ i → Interned values given store₀ store ids₀ ids count
+    unfolding intern
+    interned h =
+        let a = I .i-in in
+        let f : i ≡ n = omega arith in
+        record {
+          count = λ l. ap (intern (take count store)) (sym (ap (λ (j : ℕ). slice j n values) f ∙ slice-empty n values)) ∙ I .same ∙ given-is;
+          more = λ l. let b = I .room in absurd (omega arith);
+          ids = λ l j k m. I .found j (omega arith) ∙ ap (seek (getD values j 0)) given-is;
+          rest = λ j l. I .rest j (omega arith);
+        }
+
+    pub overfull : count ≡ length store₀ → length store₀ < length (distinct (take n values)) → Interned values given store₀ store ids₀ ids (count + 1)
+    overfull f h = record {
+      count = λ l. absurd (omega arith);
+      more = λ l. subst (λ (d : List ℕ). length store₀ < length d) given-is h;
+      ids = λ l. absurd (omega arith);
+      rest = λ j l. I .rest j (omega arith);
+    }
 
 pub place-small : {values : List ℕ} {n : ℕ} {store₀ ids₀ store ids : List ℕ} {i count : ℕ} → Interning values n store₀ ids₀ store ids i count → (x k : ℕ) → k ≡ seek x (take count store) → k ≤ length store₀
 place-small {values} {n} {store₀} {ids₀} {store} {ids} {i} {count} I x k e =

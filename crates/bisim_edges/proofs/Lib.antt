@@ -3,4 +3,5 @@ pub mod Notes
 pub mod Crowds
 pub mod Joins
 pub mod Makes
+pub mod Arranges
 pub mod Plans

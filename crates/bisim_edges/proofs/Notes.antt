@@ -8,7 +8,7 @@ use lib.ListN.{length, take, set, length-append}
 use lib.Seq.{length-take-le, take-suc-set}
 use Rattle.numbers.specs.Search.{seek}
 use Rattle.bisim_core.specs.Ids.{intern}
-use Rattle.bisim_core.proofs.Steps.{Noted}
+use Rattle.build_theory.proofs.Steps.{Noted}
 use Rattle.bisim_core.proofs.Distinct.{intern-old, intern-new}
 
 module _ (seen : List ℕ) (count t k : ℕ) (w : count ≤ length seen) (e : k ≡ seek t (take count seen)) where

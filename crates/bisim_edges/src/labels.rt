@@ -1,11 +1,13 @@
 // Labels interned: ids by first appearance.
+use numbers::lesser;
 use numbers::seek;
 ghost use mathlib.Core.Path.{_≡_};
 ghost use Prim.Native.Nat.{_≤_};
 ghost use lib.ListN.{length, take};
+ghost use Rattle.numbers.specs.Lists.{over};
 ghost use Rattle.numbers.specs.Search;
-ghost use Rattle.bisim_core.proofs.Steps.{Interned};
 ghost use Rattle.bisim_core.proofs.Distinct.{Single};
+ghost use Rattle.build_theory.proofs.Steps.{Interned};
 
 // Where x stands among the first `count` of distinct values; a good guess spares the search.
 fn place(store: &[u32], count: usize, guess: usize, x: u32) -> usize
@@ -24,12 +26,13 @@ fn wide(x: u8) -> usize {
     x as usize
 }
 
-// The distinct values of values[..n] go into the store, and the id of each into ids. One more than the store holds is the answer where there are more.
+// The distinct values of those given go into the store, and the id of each into ids. One more than the store holds is the answer where there are more.
 // An entry of `guesses` is the id of the last value with that remainder.
-pub(crate) fn intern_all(values: &[u32], n: usize, store: &mut [u32], ids: &mut [u32]) -> usize
-    requires { ⌜ (n ≤ length (now values)) × (n ≤ length (now ids)) × (length (now store) ≤ 4096) ⌝ }
-    ensures { λ r. ⌜ Interned (now (values .entry)) n (now (store .entry)) (now (store .exit)) (now (ids .exit)) r ⌝ }
+pub(crate) fn intern_all(values: &[u32], given: usize, store: &mut [u32], ids: &mut [u64]) -> usize
+    requires { ⌜ (given ≤ length (now ids)) × (length (now store) ≤ 4096) ⌝ }
+    ensures { λ r. ⌜ Interned (now (values .entry)) given (now (store .entry)) (now (store .exit)) (now (ids .entry)) (now (ids .exit)) r ⌝ }
 {
+    let n = lesser(given, values.len());
     let mut guesses = [0u8; 1024];
     let mut i = 0;
     let mut count = 0;
@@ -45,8 +48,20 @@ pub(crate) fn intern_all(values: &[u32], n: usize, store: &mut [u32], ids: &mut 
             count += 1;
         }
         guesses[g] = (k % 256) as u8;
-        ids[i] = k as u32;
+        ids[i] = k as u64;
         i += 1;
     }
     count
+}
+
+// The first n values of the store, over the front of a list.
+pub(crate) fn write_labels(store: &[u32], n: usize, to: &mut [u32])
+    requires { ⌜ (n ≤ length (now store)) × (n ≤ length (now to)) ⌝ }
+    ensures { λ r. ⌜ now (to .exit) ≡ over (take n (now (store .entry))) (now (to .entry)) ⌝ }
+{
+    let mut i = 0;
+    while i < n {
+        to[i] = store[i];
+        i += 1;
+    }
 }

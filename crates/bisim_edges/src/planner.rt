@@ -1,62 +1,127 @@
-// `plan`: the edges of transitions in columns, in work space that the caller lends.
-use crate::checks;
-use crate::edges::make_edges;
+// `plan`: the edges of transitions in columns, or what is refused of them.
+use crate::crowd::crowded;
+use crate::edges::join_runs;
+use crate::keys::arrange;
 use crate::labels::intern_all;
+use crate::labels::write_labels;
 use bisim_core::wlts::Initial;
+use build_theory::fault;
 use numbers::least;
+use numbers::lesser;
 ghost use mathlib.Core.Path.{_≡_};
-ghost use mathlib.Core.Bool.{_||_, not};
-ghost use mathlib.Core.Logic.{_≢_};
-ghost use Prim.Native.Nat.{ℕ, min};
-ghost use lib.Dec.{eqb, ltb};
-ghost use lib.ListN.{length};
-ghost use Rattle.numbers.specs.Refuse.{check};
+ghost use mathlib.Core.Bool.{_||_};
+ghost use mathlib.Core.List.{[]};
+ghost use Prim.Native.Nat.{ℕ, _≤_, _<_};
+ghost use lib.Dec.{ltb};
+ghost use lib.ListN.{length, getD};
 ghost use Rattle.bisim_core.specs.Data.{transitions};
-ghost use Rattle.bisim_core.proofs.Steps;
-ghost use Rattle.bisim_edges.specs.Checks.{present};
-ghost use Rattle.bisim_edges.specs.Plan;
+ghost use Rattle.build_theory.proofs.Steps.{Arrangeable, Arranged, space, ending, planned};
+ghost use Rattle.bisim_edges.specs.declared.planner.Planned.the-variants.{Edges, Refused};
 
-// How many edges and how many labels there are, or the number of the first check that fails, or that a list lent is short.
+// How many edges and how many labels there are, or the number of the first check that fails.
 pub enum Planned {
     Edges(usize, usize),
     Refused(u32),
-    Short,
 }
 
-// What the counts rule out: 7 by those of label values, of the shortest list lent and of the shortest column, 3 by those of states and transitions; 0 if nothing.
-fn unready(states: usize, n: usize, values: usize, room: usize, there: usize) -> u32
-    ensures { λ r. ⌜ r ≡ check 7 (not (eqb values 256) || (ltb room n || ltb (min n there) n)) (check 3 (ltb 2000 states || ltb 4096 n) 0) ⌝ }
+// 7, by the counts: of transitions given, of those that all columns have, of the places in each list; or because the caller has a list that is short.
+fn cramped(given: usize, there: usize, room: usize, short: bool) -> bool
+    ensures { λ r. ⌜ r ≡ (ltb there given || (short || ltb room given)) ⌝ }
 {
-    if values != 256 {
-        return 7;
+    if there < given {
+        return true;
     }
-    if room < n {
-        return 7;
+    if short {
+        return true;
     }
-    if there < n {
-        return 7;
-    }
+    room < given
+}
+
+// The number of the first check that fails, 0 if none does: `count` distinct labels are given, or too many, and the keys hold the label ids. The keys are then sorted.
+fn arranged(
+    states: usize,
+    initial: Initial,
+    sources: &[u32],
+    targets: &[u32],
+    weights: &[f64],
+    given: usize,
+    count: usize,
+    full: bool,
+    keys: &mut [u64],
+) -> u32
+    requires { ⌜ Arrangeable given count (now keys) ⌝ }
+    ensures { λ r. ⌜ Arranged states initial (transitions (now (sources .entry)) [] (now (targets .entry)) (now (weights .entry))) given count full (now (keys .entry)) (now (keys .exit)) r ⌝ }
+{
     if states > 2000 {
         return 3;
     }
-    if n > 4096 {
+    if count > 256 {
         return 3;
+    }
+    let number = fault(states, initial, sources, targets, weights, given);
+    if number != 0 {
+        return number;
+    }
+    let n = least(given, sources.len(), targets.len(), weights.len());
+    arrange(sources, targets, n, keys);
+    if crowded(keys, n, weights) {
+        return 6;
+    }
+    if full {
+        return 7;
     }
     0
 }
 
-// What a plan answers where the counts rule something out: 7 is said in a word of its own, since here it comes before the others.
-fn unplanned(number: u32) -> Planned
-    ensures { λ r. ⌜ (number ≡ 7 → r ≡ Planned.Short) × (number ≢ 7 → r ≡ Planned.Refused number) ⌝ }
+// `plan` of at most 4,096 transitions; the keys are work space, all zero.
+fn plan_in(
+    states: usize,
+    initial: Initial,
+    sources: &[u32],
+    labels: &[u32],
+    targets: &[u32],
+    weights: &[f64],
+    given: usize,
+    short: bool,
+    label_values: &mut [u32],
+    triples: &mut [u64],
+    edge_weights: &mut [f64],
+    keys: &mut [u64],
+) -> Planned
+    requires { ⌜ (given ≤ 4096) × (given ≤ length (now keys)) × ((j : ℕ) → j < given → getD (now keys) j 0 ≡ 0) ⌝ }
+    ensures { λ r. ⌜ ending r (space (now («label_values» .exit)) (now (triples .exit)) (now («edge_weights» .exit)))
+        ≡ planned Refused Edges states initial (transitions (now (sources .entry)) (now (labels .entry)) (now (targets .entry)) (now (weights .entry))) given short
+        (space (now («label_values» .entry)) (now (triples .entry)) (now («edge_weights» .entry))) ⌝ }
 {
-    if number == 7 {
-        return Planned::Short;
+    let there = least(sources.len(), labels.len(), targets.len(), weights.len());
+    let room = lesser(
+        label_values.len(),
+        lesser(triples.len(), edge_weights.len()),
+    );
+    let full = cramped(given, there, room, short);
+    let mut known = [0u32; 256];
+    let count = intern_all(labels, given, &mut known, keys);
+    let number = arranged(
+        states,
+        initial,
+        sources,
+        targets,
+        weights,
+        given,
+        count,
+        full,
+        keys,
+    );
+    if number != 0 {
+        return Planned::Refused(number);
     }
-    Planned::Refused(number)
+    write_labels(&known, count, label_values);
+    let m = join_runs(keys, given, weights, triples, edge_weights);
+    Planned::Edges(m, count)
 }
 
-// The edges of the first n transitions, or the number of the first of checks 3 to 6 that fails, or that `store` has other than 256 places or another list under n.
-// The label values by their ids are then in `store`, and the edges in `triples` and `sums`. What else the last five lists hold is left free, and all of it after a refusal.
+// The edges of the transitions given, in order: label values by id, triples of source, label id and target, and weights go over the front of the last three lists, each of which needs as many entries as there are transitions.
+// Or the number of the first of checks 3 to 7 that fails, 7 also where the caller has a short list: then the lists are left as they were.
 pub fn plan(
     states: usize,
     initial: Initial,
@@ -64,37 +129,49 @@ pub fn plan(
     labels: &[u32],
     targets: &[u32],
     weights: &[f64],
-    n: usize,
-    store: &mut [u32],
-    ids: &mut [u32],
-    keys: &mut [u64],
+    given: usize,
+    short: bool,
+    label_values: &mut [u32],
     triples: &mut [u64],
-    sums: &mut [f64],
+    edge_weights: &mut [f64],
 ) -> Planned
-    ensures { λ r. ⌜ (r ≡ Plan.plan (not (eqb (length (now (store .entry))) 256)
-        || (ltb (min (length (now (ids .entry))) (min (length (now (keys .entry))) (min (length (now (triples .entry))) (length (now (sums .entry)))))) n
-        || ltb (present (transitions (now (sources .entry)) (now (labels .entry)) (now (targets .entry)) (now (weights .entry))) n) n))
-        states initial (transitions (now (sources .entry)) (now (labels .entry)) (now (targets .entry)) (now (weights .entry))) n)
-        × (((m d : ℕ) → r ≡ Planned.Edges m d
-        → Steps.Planned (transitions (now (sources .entry)) (now (labels .entry)) (now (targets .entry)) (now (weights .entry))) n (now (store .exit)) (now (triples .exit)) (now (sums .exit)) m d)) ⌝ }
+    ensures { λ r. ⌜ ending r (space (now («label_values» .exit)) (now (triples .exit)) (now («edge_weights» .exit)))
+        ≡ planned Refused Edges states initial (transitions (now (sources .entry)) (now (labels .entry)) (now (targets .entry)) (now (weights .entry))) given short
+        (space (now («label_values» .entry)) (now (triples .entry)) (now («edge_weights» .entry))) ⌝ }
 {
-    let room = least(ids.len(), keys.len(), triples.len(), sums.len());
-    let there = least(sources.len(), labels.len(), targets.len(), weights.len());
-    let first = unready(states, n, store.len(), room, there);
-    if first != 0 {
-        return unplanned(first);
-    }
-    let count = intern_all(labels, n, store, ids);
-    if count > 256 {
+    if given > 4096 {
         return Planned::Refused(3);
     }
-    let fault = checks::fault(states, initial, sources, targets, weights, n);
-    if fault != 0 {
-        return Planned::Refused(fault);
+    if given <= 256 {
+        let mut keys = [0u64; 256];
+        return plan_in(
+            states,
+            initial,
+            sources,
+            labels,
+            targets,
+            weights,
+            given,
+            short,
+            label_values,
+            triples,
+            edge_weights,
+            &mut keys,
+        );
     }
-    let m = make_edges(sources, ids, targets, weights, n, keys, triples, sums);
-    if checks::crowded(triples, m) {
-        return Planned::Refused(6);
-    }
-    Planned::Edges(m, count)
+    let mut keys = [0u64; 4096];
+    plan_in(
+        states,
+        initial,
+        sources,
+        labels,
+        targets,
+        weights,
+        given,
+        short,
+        label_values,
+        triples,
+        edge_weights,
+        &mut keys,
+    )
 }

@@ -63,7 +63,7 @@ only bs = pick (read bs) refl
 
 pub laws : Laws
 laws = record {
-  first-bytes = λ bs h. same-printed (take 10500 bs) bs (cards.laws .first-bytes bs h);
+  first-bytes = λ bs. same-printed (take 10500 bs) bs (cards.laws .first-bytes bs);
   fits = printed-fits;
   no-card = λ bs n e. sym (printed-refused bs n e);
   refused-card = λ bs c n e f. card-text bs c e (suc n) f;

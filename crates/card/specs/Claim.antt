@@ -27,7 +27,7 @@ pub record Refuses (bs : List ℕ) : Type 0 where
 
 pub record Laws : Type 0 where
   -- the first 10,500 bytes decide what is printed
-  pub first-bytes : (bs : List ℕ) → 10500 ≤ length bs → printed (take 10500 bs) ≡ printed bs
+  pub first-bytes : (bs : List ℕ) → printed (take 10500 bs) ≡ printed bs
   -- what is printed fits the store
   pub fits : (bs : List ℕ) → length (printed bs) ≤ mostReport
   -- bytes that are no card: the line of 1 or 2

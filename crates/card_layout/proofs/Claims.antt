@@ -26,7 +26,7 @@ laws = record {
   refuses = which;
   too-large = too-large;
   greatest = layout-length;
-  first-bytes = λ bs h. read-take 10500 bs (omega arith);
+  first-bytes = λ bs. read-take 10500 bs (omega arith);
   exact = λ m h. unsigned-back binary64 32 (m .weight) (whole (m .weight) h) (let l : 1000000 < 2 ^ 32 = lit< tt in omega arith);
 }
 

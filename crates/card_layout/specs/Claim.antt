@@ -28,6 +28,6 @@ pub record Laws : Type 0 where
   pub too-large : (bs : List ℕ) → largeFirst bs ≡ true → read bs ≡ refused 2
   -- no card takes more than 10,499 bytes, and the first 10,500 bytes of an input decide
   pub greatest : (c : Card) → Within c → length (layout c) ≤ 10499
-  pub first-bytes : (bs : List ℕ) → 10500 ≤ length bs → read (take 10500 bs) ≡ read bs
+  pub first-bytes : (bs : List ℕ) → read (take 10500 bs) ≡ read bs
   -- a weight of a card is the same whole number as binary64
   pub exact : (m : Transition) → m .weight < 1000000 → T (inUnsigned binary64 32 (weightOf m)) × (toUnsigned 32 (weightOf m) ≡ m .weight)

@@ -2,7 +2,7 @@
 use mathlib.Core.Path.{_≡_, refl, sym, subst, ap, _∙_}
 use mathlib.Core.Bool.{Bool, true, false, _&&_, _||_, not}
 use mathlib.Core.List.{List, [], _∷_, _++_, map}
-use Prim.Native.Nat.{ℕ, zero, suc, _+_, _≤_, _<_}
+use Prim.Native.Nat.{ℕ, zero, suc, min, _+_, _≤_, _<_}
 use native.Mathlib.Omega.{arith}
 use lib.Dec.{ltb}
 use lib.Ieee.{Float}
@@ -16,16 +16,16 @@ use Rattle.numbers.proofs.Alls.{all-front}
 use Rattle.numbers.proofs.Bools.{or-f}
 use Rattle.numbers.proofs.Refuses.{check-hit, check-skip, check-none, check-same, none}
 use Rattle.bisim_core.specs.Data.{Edge, Transitions, Columns}
-use Rattle.bisim_core.specs.Edges.{sortEdges, join, numberedAt, numbered, edges}
 use Rattle.bisim_core.specs.Model as models
 use Rattle.bisim_core.specs.Model.{large, unfit, weighs, weightsOutside, model, modelRefusal}
 use Rattle.bisim_core.specs.declared.wlts.Shape.{Shape}
 use Rattle.bisim_core.specs.declared.wlts.Initial.{Initial}
 use Rattle.bisim_core.specs.declared.wlts.Initial.the-variants.{At}
 use Rattle.bisim_core.proofs.Distinct.{distinct-length}
-use Rattle.bisim_core.proofs.Ranks.{AllE, Of, all-span, all-sorted, all-join, all-nonzero}
-use Rattle.bisim_edges.specs.Checks.{present, labelsOf, oversized, outside, unweighed, crowded}
-use Rattle.bisim_build.specs.Build.{short, refusal, Outcome, ends, made, settled, build}
+use Rattle.build_theory.specs.Edges.{nonzero, edges}
+use Rattle.build_theory.specs.Checks.{labelsOf, oversized, outside, unweighed, jumpAt, reach, jumps, crowded, missing, refusal}
+use Rattle.build_theory.proofs.Ranks.{AllE, all-span, all-nonzero}
+use Rattle.bisim_build.specs.Build.{short, Outcome, ends, made, settled, build}
 use Rattle.bisim_build.specs.declared.builder.Built.{Built}
 use Rattle.bisim_build.specs.declared.builder.Built.the-variants as built
 use Rattle.bisim_build.proofs.Accepts.{built-accepted, read-back}
@@ -92,15 +92,7 @@ module _ (s : Side) (w : SideWithin s) where
   whole : {A : Type 0} (f : Transition → A) → take n (map f (s .transitions)) ≡ map f (s .transitions)
   whole f = take-all n (map f (s .transitions)) (let e = length-map (s .transitions) f in omega arith)
 
-  all-present : present C n ≡ n
-  all-present =
-      let a = length-map (s .transitions) sourceOf in
-      let b = length-map (s .transitions) labelOf in
-      let d = length-map (s .transitions) targetOf in
-      let e = length-map (s .transitions) weightOf in
-      omega arith
-
-  not-oversized : oversized states C n n ≡ false
+  not-oversized : oversized states C n ≡ false
   not-oversized =
       let a = w .few-states in
       let b = w .few-transitions in
@@ -125,41 +117,43 @@ module _ (s : Side) (w : SideWithin s) where
         let e = length-map (s .transitions) targetOf in
         ltb-true _ _ (all-front (λ x. ltb x states) (C .targets) 0 n (omega arith) (not-false _ (b .1)) j k)
 
-    targets-low : AllE (λ a. a .target < states) (edgesOf s)
-    unfolding edges
-    targets-low =
-        let A = numbered C n in
-        all-nonzero (λ a. a .target < states) (join (sortEdges A))
-        (all-join (λ _ _ t. t < states) (sortEdges A)
-        (all-sorted (λ a. a .target < states) A (all-span (λ a. a .target < states) (numberedAt (labelsOf C n) C) 0 n (λ j a b. target-low j (omega arith)))))
+    targets-low : AllE (λ a. a .target < states) (nonzero (jumps C n))
+    targets-low = all-nonzero (λ a. a .target < states) (jumps C n) (all-span (λ a. a .target < states) (jumpAt C) 0 (reach C n) (λ j a b. target-low j (omega arith)))
 
     not-crowded : crowded states C n ≡ false
-    not-crowded = uncrowded states (edgesOf s) (w .few-states) targets-low
+    not-crowded = uncrowded states (nonzero (jumps C n)) (w .few-states) targets-low
 
-  not-short : short states n n blank ≡ false
+  none-missing : missing C n ≡ false
+  none-missing =
+      let a = length-map (s .transitions) sourceOf in
+      let b = length-map (s .transitions) labelOf in
+      let d = length-map (s .transitions) targetOf in
+      let e = length-map (s .transitions) weightOf in
+      le-ltb (min (length (C .sources)) (min (length (C .labels)) (min (length (C .targets)) (length (C .weights))))) n (omega arith)
+
+  not-short : short states n blank ≡ false
   not-short =
       let a = w .few-states in
       let b = w .few-transitions in
       let o = length-replicate {A = ℕ} 33 0 in
       let l = length-replicate {A = ℕ} 200 0 in
       let f = length-replicate {A = Float} 200 nought in
-      none _ _ (le-ltb n n (omega arith))
-      (none _ _ (le-ltb (length (blank .offsets)) (states + 1) (omega arith))
+      none _ _ (le-ltb (length (blank .offsets)) (states + 1) (omega arith))
       (none _ _ (le-ltb (length (blank .labels)) n (omega arith))
       (none _ _ (le-ltb (length (blank .edgeLabels)) n (omega arith))
-      (none _ _ (le-ltb (length (blank .edgeTargets)) n (omega arith)) (le-ltb (length (blank .edgeWeights)) n (omega arith))))))
+      (none _ _ (le-ltb (length (blank .edgeTargets)) n (omega arith)) (le-ltb (length (blank .edgeWeights)) n (omega arith)))))
 
   -- `build` refuses only with 4
-  refusal-is : refusal states initial C n (present C n) blank ≡ check 4 (stray s) 0
+  refusal-is : refusal states initial C n (short states n blank) ≡ check 4 (stray s) 0
   refusal-is =
-      ap (λ (k : ℕ). refusal states initial C n k blank) all-present
-      ∙ check-skip 3 (oversized states C n n) _ _ not-oversized
-      (ap (λ (b : Bool). check 4 b (check 5 (unweighed C n) (check 6 (crowded states C n) (check 7 (short states n n blank) 0)))) outside-is
-      ∙ check-same 4 (stray s) _ 0 (λ h. check-skip 5 (unweighed C n) _ 0 all-weighed (check-skip 6 (crowded states C n) _ 0 (not-crowded h) (check-skip 7 (short states n n blank) 0 0 not-short refl))))
+      check-skip 3 (oversized states C n) _ _ not-oversized
+      (ap (λ (b : Bool). check 4 b (check 5 (unweighed C n) (check 6 (crowded states C n) (check 7 (missing C n || short states n blank) 0)))) outside-is
+      ∙ check-same 4 (stray s) _ 0 (λ h. check-skip 5 (unweighed C n) _ 0 all-weighed (check-skip 6 (crowded states C n) _ 0 (not-crowded h)
+      (check-skip 7 (missing C n || short states n blank) 0 0 (none _ _ none-missing not-short) refl))))
 
   pub built-stray : stray s ≡ true → builtOf s ≡ ends (built.Refused 4) blank
   unfolding build
-  built-stray h = ap (λ (r : ℕ). settled r blank (made states initial C (present C n) blank)) (refusal-is ∙ ap (λ (b : Bool). check 4 b 0) h)
+  built-stray h = ap (λ (r : ℕ). settled r blank (made states initial C n blank)) (refusal-is ∙ ap (λ (b : Bool). check 4 b 0) h)
 
   abbrev pub shape : Shape
   shape = record { states = states; edges = length (edgesOf s); labels = length (labelsOf C n); initial = initial }
@@ -167,9 +161,7 @@ module _ (s : Side) (w : SideWithin s) where
   module _ (h : stray s ≡ false) where
     pub built-model : (builtOf s) .answer ≡ built.Model shape
     unfolding build
-    built-model =
-        ap (λ (r : ℕ). (settled r blank (made states initial C (present C n) blank)) .answer) (refusal-is ∙ ap (λ (b : Bool). check 4 b 0) h)
-        ∙ ap (λ (k : ℕ). (made states initial C k blank) .answer) all-present
+    built-model = ap (λ (r : ℕ). (settled r blank (made states initial C n blank)) .answer) (refusal-is ∙ ap (λ (b : Bool). check 4 b 0) h)
 
     pub accepted : modelRefusal shape ((builtOf s) .memory) ≡ 0
     accepted = built-accepted states initial C n blank shape built-model

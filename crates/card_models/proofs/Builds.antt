@@ -15,7 +15,7 @@ use Rattle.bisim_build.specs.Build as builds
 use Rattle.bisim_build.specs.Build.{build}
 use Rattle.bisim_build.specs.declared.builder.Built.{Built}
 use Rattle.bisim_build.specs.declared.builder.Built.the-variants as built
-use Rattle.bisim_edges.specs.Checks.{present}
+use Rattle.build_theory.specs.Checks.{refusal}
 use Rattle.card_layout.specs.Card.{Side, Card, Within}
 use Rattle.card_layout.specs.Lists as answers
 use Rattle.card_reader.specs.Answer.{headOf, headsOf}
@@ -57,9 +57,9 @@ statesOf (built.Refused n) = 0
 -- a model that is built has the states that it was given
 built-states : (s : ℕ) (i : Initial) (C : Transitions) (n : ℕ) (M : Columns) → statesOf ((build s i C n M) .answer) ≤ s
 unfolding build statesOf
-built-states s i C n M = pick (builds.refusal s i C n (present C n) M)
+built-states s i C n M = pick (refusal s i C n (builds.short s n M))
   where
-    pick : (r : ℕ) → statesOf ((builds.settled r M (builds.made s i C (present C n) M)) .answer) ≤ s
+    pick : (r : ℕ) → statesOf ((builds.settled r M (builds.made s i C n M)) .answer) ≤ s
     pick zero = omega arith
     pick (suc r) = omega arith
 

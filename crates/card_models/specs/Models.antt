@@ -7,7 +7,7 @@ use lib.ListN.{length}
 use Rattle.numbers.specs.Refuse.{check}
 use Rattle.numbers.specs.Lists.{span, all}
 use Rattle.bisim_core.specs.Data.{Edge, Transitions, transitions}
-use Rattle.bisim_core.specs.Edges.{edges}
+use Rattle.build_theory.specs.Edges.{edges}
 use Rattle.epsdelta_theory.specs.Jumps.{union}
 use Rattle.epsdelta_theory.specs.Epsdelta.{Given, ratesClose, givenRows, epsdelta}
 use Rattle.epsdelta_theory.specs.Refusal.{tolerancesOutside}

@@ -1,18 +1,27 @@
--- The checks of `distance` out of what each chain is refused for by itself: `chain_refusal` of both is enough.
+-- The checks of `distance` out of what each chain is refused for by itself: `chain_refusal` of both is enough. And what a refusal says: the first check of the list that fails.
 use mathlib.Core.Path.{_≡_, refl, ap, ap₂, _∙_}
 use Prim.Native.Nat.{ℕ}
-use mathlib.Core.Bool.{Bool, true, false, _||_}
-use mathlib.Core.List.{List}
-use lib.Dec.{eqb}
-use lib.Ieee.{Float}
-use Rattle.numbers.specs.Real.{nought, one}
+use mathlib.Core.Bool.{Bool, true, false, not, _&&_, _||_}
+use mathlib.Core.Logic.{_⊎_, inl, inr}
+use mathlib.Core.List.{List, [], _∷_}
+use lib.Dec.{eqb, ltb, leb}
+use lib.ListN.{length}
+use lib.Ieee.{Float, lt}
+use Rattle.numbers.specs.Real.{nought, one, eps, leastObservation, greatestWeight}
 use Rattle.numbers.specs.Refuse.{check}
+use Rattle.numbers.specs.Lists.{all}
 use Rattle.numbers.proofs.Bools.{or-f}
 use Rattle.numbers.proofs.Refuses.{check-same}
+use Rattle.bisim_core.specs.Data.{Columns}
+use Rattle.bisim_core.specs.Model.{large, unfit, weightsOutside, crowded}
+use Rattle.bisim_core.specs.declared.wlts.Shape.{Shape}
+use Rattle.epsdelta_theory.specs.Refusal.{absent}
 use Rattle.chain_theory.specs.Columns.{ChainColumns}
-use Rattle.chain_theory.specs.Check.{discountOutside, misshapen, unobserved, unfitting, improper, chainRefusal}
+use Rattle.chain_theory.specs.Check.{discountOutside, misshapen, unobserved, unfitting, improper, cramped, chainRefusal}
 use Rattle.chain_theory.specs.declared.ChainShape.{ChainShape}
-use Rattle.distance_theory.specs.Refusal.{short, excessive, distanceRefusal}
+use Rattle.distance_theory.specs.Pairs.{most}
+use Rattle.distance_theory.specs.Couplings.{Metric, room, even}
+use Rattle.distance_theory.specs.Refusal.{short, excessive, distanceRefusal, runRefusal, bisimRefusal}
 use Rattle.distance_theory.specs.declared.MetricOptions.{MetricOptions}
 
 -- ---- the first of four checks tells each of them, as long as those before it pass
@@ -76,3 +85,69 @@ unfolding distanceRefusal chainRefusal
 distance-refusal-is HL CL HR CR γ o lists records =
     combine (misshapen HL CL) (unobserved HL CL) (unfitting nought one (HL .states) (CL .observations)) (improper HL CL)
     (misshapen HR CR) (unobserved HR CR) (unfitting nought one (HR .states) (CR .observations)) (improper HR CR) (short lists records) (discountOutside γ) (excessive o)
+
+-- ---- what a refusal says
+
+-- the number of the first check of a list that fails, and 0 if none does
+abbrev pub firstOf : List (ℕ × Bool) → ℕ
+firstOf [] = 0
+firstOf (c ∷ cs) = check (c .0) (c .1) (firstOf cs)
+
+-- r is that number
+abbrev pub First : ℕ → List (ℕ × Bool) → Type 0
+First r [] = r ≡ 0
+First r (c ∷ cs) = ((c .1 ≡ true) × (r ≡ c .0)) ⊎ ((c .1 ≡ false) × First r cs)
+
+first-check : (n : ℕ) (b : Bool) (later : ℕ) (cs : List (ℕ × Bool)) → First later cs → First (check n b later) ((n, b) ∷ cs)
+first-check n true later cs f = inl (refl, refl)
+first-check n false later cs f = inr (refl, f)
+
+first-is : (cs : List (ℕ × Bool)) → First (firstOf cs) cs
+first-is [] = refl
+first-is (c ∷ cs) = first-check (c .0) (c .1) (firstOf cs) cs (first-is cs)
+
+module _ (HL : ChainShape) (CL : ChainColumns) (HR : ChainShape) (CR : ChainColumns) (γ : Float) (o : MetricOptions) (lists : List ℕ) (records : ℕ) where
+  abbrev pub distanceChecks : List (ℕ × Bool)
+  distanceChecks =
+      (4, misshapen HL CL || misshapen HR CR)
+      ∷ (7, unobserved HL CL || (unobserved HR CR || short lists records))
+      ∷ (11, discountOutside γ)
+      ∷ (12, unfitting nought one (HL .states) (CL .observations) || unfitting nought one (HR .states) (CR .observations))
+      ∷ (13, improper HL CL || improper HR CR)
+      ∷ (14, excessive o)
+      ∷ []
+
+  pub distance-refusal-first : First (distanceRefusal HL CL HR CR γ o lists records) distanceChecks
+  unfolding distanceRefusal
+  distance-refusal-first = first-is distanceChecks
+
+module _ (G : Metric) (o : MetricOptions) (store : ℕ) (mass : Float) where
+  abbrev pub runChecks : List (ℕ × Bool)
+  runChecks =
+      (17, ltb most (length (G .found)))
+      ∷ (18, ltb store (room G (G .found)))
+      ∷ (16, ltb 0 (o .«max_rounds») && not (all (even G) (G .found)))
+      ∷ (19, lt eps mass)
+      ∷ []
+
+  pub run-refusal-first : First (runRefusal G o store mass) runChecks
+  unfolding runRefusal
+  run-refusal-first = first-is runChecks
+
+module _ (SL : Shape) (ML : Columns) (s : ℕ) (seenL : List Float) (CL : ChainColumns) (SR : Shape) (MR : Columns) (t : ℕ) (seenR : List Float) (CR : ChainColumns) (γ : Float) (o : MetricOptions) (lists : List ℕ) (records : ℕ) where
+  abbrev pub bisimChecks : List (ℕ × Bool)
+  bisimChecks =
+      (3, large SL || large SR)
+      ∷ (4, unfit SL ML || (unfit SR MR || (leb (SL .states) s || leb (SR .states) t)))
+      ∷ (5, weightsOutside SL ML || weightsOutside SR MR)
+      ∷ (6, crowded SL ML || crowded SR MR)
+      ∷ (7, cramped (SL .states) (SL .edges) (length seenL) CL || (cramped (SR .states) (SR .edges) (length seenR) CR || short lists records))
+      ∷ (8, absent (SL .initial) || absent (SR .initial))
+      ∷ (11, discountOutside γ)
+      ∷ (12, unfitting leastObservation greatestWeight (SL .states) seenL || unfitting leastObservation greatestWeight (SR .states) seenR)
+      ∷ (14, excessive o)
+      ∷ []
+
+  pub bisim-refusal-first : First (bisimRefusal SL ML s seenL CL SR MR t seenR CR γ o lists records) bisimChecks
+  unfolding bisimRefusal
+  bisim-refusal-first = first-is bisimChecks

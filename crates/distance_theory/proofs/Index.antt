@@ -105,6 +105,15 @@ pub look-high : (l : List ℕ) (p : Pair) → 2048 ≤ p .right → length l ≡
 unfolding lookUp
 look-high l p h = rw (le-ltb (p .right) 2048 h)
 
+-- an answer is small
+pub look-few : (l : List ℕ) (p : Pair) (n : ℕ) → length l ≤ n → 4096 ≤ n → lookUp l p ≤ n
+unfolding lookUp
+look-few l p n h k = pick (ltb (p .right) 2048 && (ltb (goesTo l (code p 0)) (length l) && isOf p (getD l (goesTo l (code p 0)) 0)))
+  where
+    pick : (b : Bool) → numberIf b (getD l (goesTo l (code p 0)) 0) (length l) ≤ n
+    pick true = omega arith
+    pick false = h
+
 -- ---- the search, turn by turn
 
 -- the search is between lo and hi, and will come to r

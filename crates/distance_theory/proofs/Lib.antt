@@ -11,5 +11,9 @@ pub mod Runs
 pub mod Made
 pub mod Held
 pub mod ValueRows
+pub mod Choosing
 pub mod Index
 pub mod Discovery
+pub mod Bests
+pub mod PairRows
+pub mod Stored

@@ -22,7 +22,7 @@ pub struct PairContribution {
     pub contribution: f64,
 }
 
-// The distance, how far it may be off, the discount, the number of pairs explored, of contributions listed and of rounds made.
+// The value of the first pair, the error bound as the Rust has it, the discount, the number of pairs explored, of contributions listed and of rounds made.
 pub struct Distance {
     pub value: f64,
     pub error_bound: f64,

@@ -18,7 +18,7 @@ use Rattle.epsdelta_theory.specs.FlowTest.{runBetween}
 use Rattle.epsdelta_theory.specs.Sweeps.{Task, Run, strike, afterBack, afterForth, testPair, turn}
 use Rattle.epsdelta_theory.proofs.Pairs.{packed-holds, packed-cleared}
 use Rattle.epsdelta_theory.proofs.TasksIn.{rowIn, testIn, RowsFit, SweepsIn, Stored}
-use Rattle.flow_links.specs.Fits.{rowFits}
+use Rattle.flow_links.specs.Fits.{rowFits, fits}
 use Rattle.flow_links.proofs.Fitting.{all-fit}
 use Rattle.epsdelta_theory.specs.Relation.{relationOf}
 use Rattle.flow_core.specs.Test.{flowBetween}
@@ -27,6 +27,8 @@ use Rattle.flow_core.specs.Outcome.{settled}
 use Rattle.flow_theory.specs.Run.{allPushes}
 use Rattle.flow_core.specs.declared.rows.Answer.{Answer}
 use Rattle.flow_core.specs.declared.rows.Answer.the-variants.{Flow}
+use Rattle.flow_direct.specs.Reaches.{reaches, atLeast}
+use Rattle.flow_direct.proofs.Beginning.{answer-reaches}
 
 -- ---- a flow test
 
@@ -67,7 +69,7 @@ module _ {n : ℕ} {S T : List ℕ} {P : List Float} (F : RowsFit n S T P) where
       ap (λ (b : Bool). settled b (runBetween n R (jumpsOf us vs) (jumpsOf ts ws)) [] .answer) (all-fit us vs ts ws n (F .few) (row-fits s h) (row-fits t k))
 
   -- the same of the parts that code takes, against the bytes of a packed relation
-  pub passed-in : (store : List ℕ) (R : List Bool) → store ≡ packed R → (s t : ℕ) → s < n → t < n
+  passed-in : (store : List ℕ) (R : List Bool) → store ≡ packed R → (s t : ℕ) → s < n → t < n
       → flowBetween (partOf S s T) (partOf S s P) (partOf S t T) (partOf S t P) n (relationOf store) ≡ answerTo R s t
   passed-in store R z s t h k =
       between-packed (partOf S s T) (partOf S s P) (partOf S t T) (partOf S t P) n store R z
@@ -76,6 +78,16 @@ module _ {n : ℕ} {S T : List ℕ} {P : List Float} (F : RowsFit n S T P) where
       ∙ ap (λ (l : List ℕ). flowBetween (slice (getD S s 0) (getD S (s + 1) 0) T) (slice (getD S s 0) (getD S (s + 1) 0) P) l (partOf S t P) n R) (part (getD S t 0) (getD S (t + 1) 0) T)
       ∙ ap (λ (l : List Float). flowBetween (slice (getD S s 0) (getD S (s + 1) 0) T) (slice (getD S s 0) (getD S (s + 1) 0) P) (slice (getD S t 0) (getD S (t + 1) 0) T) l n R) (part (getD S t 0) (getD S (t + 1) 0) P)
       ∙ answered R s t h k
+
+  -- whether it is enough is the definition's test
+  pub reached-in : (need : Float) (store : List ℕ) (R : List Bool) → store ≡ packed R → (s t : ℕ) → s < n → t < n
+      → reaches (partOf S s T) (partOf S s P) (partOf S t T) (partOf S t P) n (relationOf store) need ≡ testIn n S T P need R s t
+  reached-in need store R z s t h k =
+      let us = partOf S s T in
+      let vs = partOf S s P in
+      let ts = partOf S t T in
+      let ws = partOf S t P in
+      sym (answer-reaches need (fits us vs ts ws n) (runBetween n (relationOf store) (jumpsOf us vs) (jumpsOf ts ws))) ∙ ap (atLeast need) (passed-in store R z s t h k)
 
 pub first-fails : (a b : Bool) → a ≡ false → false ≡ (a && b)
 first-fails a b h = ap (λ (x : Bool). x && b) (sym h)

@@ -2,34 +2,17 @@
 use crate::changes::fade;
 use crate::changes::strike;
 use crate::changes::unchanged;
-use flow_core::rows::Answer;
-use flow_core::test::flow_between;
+use flow_direct::reach::flow_reaches;
 use numbers::bit;
 ghost use mathlib.Core.Path.{_≡_};
 ghost use Prim.Native.Nat.{ℕ, _≤_, _<_, _+_, _*_, _-_};
 ghost use mathlib.Core.Bool.{Bool, false, _&&_};
 ghost use mathlib.Core.List.{List};
 ghost use lib.ListN.{length, getD};
-ghost use lib.Ieee.{Float, le};
 ghost use Rattle.numbers.specs.Bits.{packed};
 ghost use Rattle.epsdelta_theory.specs.Sweeps;
-ghost use Rattle.flow_core.specs.declared.rows.Answer.the-variants.{Flow};
 ghost use Rattle.epsdelta_theory.proofs.TasksIn.{RowsFit, testIn, Makes, RunsTo};
 ghost use Rattle.epsdelta_theory.proofs.Unchanged.{Settled, Noted};
-
-// Whether a flow test came to what is needed; rows that fit a flow test are never refused.
-fn enough(answer: Answer, need: f64) -> bool
-    ensures { λ r. ⌜ ((flow : Float) (phases pushes : ℕ) → answer ≡ Flow flow phases pushes → r ≡ le need flow) ⌝ }
-{
-    match answer {
-        Answer::Flow {
-            flow: f,
-            phases: _,
-            pushes: _,
-        } => need <= f,
-        Answer::Refused(_) => false,
-    }
-}
 
 // Whether the flow test from s to t passes.
 fn passes(
@@ -49,15 +32,15 @@ fn passes(
     let b = starts[s + 1] as usize;
     let c = starts[t] as usize;
     let d = starts[t + 1] as usize;
-    let answer = flow_between(
+    flow_reaches(
         &targets[a..b],
         &probs[a..b],
         &targets[c..d],
         &probs[c..d],
         states,
         relation,
-    );
-    enough(answer, need)
+        need,
+    )
 }
 
 // Whether the flow test passes both ways; the one back is made only if the other passed.

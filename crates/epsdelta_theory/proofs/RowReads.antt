@@ -39,7 +39,7 @@ jumps-length (t ∷ T) (p ∷ P) e = ap suc (jumps-length T P (omega arith))
 abbrev pub noJump : Jump
 noJump = record { target = 0; rate = nan }
 
-jumps-at : (T : List ℕ) (P : List Float) (k : ℕ) → length T ≡ length P → getD (jumpsOf T P) k noJump ≡ record { target = getD T k 0; rate = getD P k nan }
+pub jumps-at : (T : List ℕ) (P : List Float) (k : ℕ) → length T ≡ length P → getD (jumpsOf T P) k noJump ≡ record { target = getD T k 0; rate = getD P k nan }
 unfolding jumpsOf
 jumps-at [] [] k e = refl
 jumps-at [] (p ∷ P) k e = absurd (omega arith)

@@ -1,4 +1,4 @@
-// An optimal coupling of two lists of masses for C and Rust.
+// `transport` of two lists of masses for C and Rust.
 use replies::transports;
 use transport::entry;
 ghost use mathlib.Core.Path.{_≡_};

@@ -83,13 +83,14 @@ module _ (us : List ℕ) (vs : List Float) (ts : List ℕ) (ws : List Float) (n 
   abbrev fitting : Fit us vs ts ws n
   fitting = fit us vs ts ws n f
 
-  lefts : length (jumpsOf us vs) ≡ length us
+  pub lefts : length (jumpsOf us vs) ≡ length us
   lefts = jumps-length us vs (sym (fitting .left .rates))
 
-  rights : length (jumpsOf ts ws) ≡ length ts
+  pub rights : length (jumpsOf ts ws) ≡ length ts
   rights = jumps-length ts ws (sym (fitting .right .rates))
 
-  between : (R : List Bool) → Accepted (networkBetween n R (jumpsOf us vs) (jumpsOf ts ws)) (caps (linksOf n R (jumpsOf us vs) (jumpsOf ts ws))) (length (linksOf n R (jumpsOf us vs) (jumpsOf ts ws)))
+  -- their network is accepted
+  pub between : (R : List Bool) → Accepted (networkBetween n R (jumpsOf us vs) (jumpsOf ts ws)) (caps (linksOf n R (jumpsOf us vs) (jumpsOf ts ws))) (length (linksOf n R (jumpsOf us vs) (jumpsOf ts ws)))
   between R =
       let l = fitting .left .few in
       let m = fitting .right .few in

@@ -254,7 +254,7 @@ module _ (n : ℕ) (store : List ℕ) (R : List Bool) (same : (i : ℕ) → bitA
 
 -- ---- the relation of a store of bytes
 
-entry : (store : List ℕ) (i : ℕ) → bitAt store i ≡ getD (relationOf store) i false
+pub entry : (store : List ℕ) (i : ℕ) → bitAt store i ≡ getD (relationOf store) i false
 unfolding bitAt
 entry store i = pick (lt-or-ge i (8 * length store))
   where

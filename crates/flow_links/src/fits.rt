@@ -38,7 +38,7 @@ pub fn row_fits(targets: &[u32], rates: &[f64]) -> bool
 }
 
 // Two rows, and a relation over at most 2,000 states.
-pub(crate) fn rows_fit(
+pub fn rows_fit(
     left_targets: &[u32],
     left_rates: &[f64],
     right_targets: &[u32],

@@ -82,7 +82,7 @@ tally-pairs (suc a) f h =
 
 -- ---- links to the next level with capacity left
 
-admissible-of : (N : Net) (c : List Float) (L : List ℕ) (u e : ℕ) → residual c e ≡ true → levelOf L (head N e) ≡ suc (levelOf L u) → admissible N c L u e ≡ true
+pub admissible-of : (N : Net) (c : List Float) (L : List ℕ) (u e : ℕ) → residual c e ≡ true → levelOf L (head N e) ≡ suc (levelOf L u) → admissible N c L u e ≡ true
 unfolding admissible
 admissible-of N c L u e l h = rw (l, (eq-eqb _ _) h)
 

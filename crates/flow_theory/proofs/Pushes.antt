@@ -29,23 +29,23 @@ residual-same : (c d : List Float) (e : ℕ) → left d e ≡ left c e → resid
 unfolding residual
 residual-same c d e p = ap (lt eps) p
 
-residual-lt : (c : List Float) (e : ℕ) → residual c e ≡ true → lt eps (left c e) ≡ true
+pub residual-lt : (c : List Float) (e : ℕ) → residual c e ≡ true → lt eps (left c e) ≡ true
 unfolding residual
 residual-lt c e h = h
 
-pushLink-length : (x : Float) (e : ℕ) (c : List Float) → length (pushLink x e c) ≡ length c
+pub pushLink-length : (x : Float) (e : ℕ) (c : List Float) → length (pushLink x e c) ≡ length c
 unfolding pushLink
 pushLink-length x e c = length-set (set c e (sub binary64 (left c e) x)) (rev e) _ ∙ length-set c e _
 
-pushLink-same : (x : Float) (e : ℕ) (c : List Float) → e < length c → left (pushLink x e c) e ≡ sub binary64 (left c e) x
+pub pushLink-same : (x : Float) (e : ℕ) (c : List Float) → e < length c → left (pushLink x e c) e ≡ sub binary64 (left c e) x
 unfolding pushLink
 pushLink-same x e c h = getD-set-other (set c e (sub binary64 (left c e) x)) (rev e) e _ nan (λ p. rev-ne e (sym p)) ∙ getD-set-same c e (sub binary64 (left c e) x) nan h
 
-pushLink-other : (x : Float) (e : ℕ) (c : List Float) (y : ℕ) → y ≢ e → y ≢ rev e → left (pushLink x e c) y ≡ left c y
+pub pushLink-other : (x : Float) (e : ℕ) (c : List Float) (y : ℕ) → y ≢ e → y ≢ rev e → left (pushLink x e c) y ≡ left c y
 unfolding pushLink
 pushLink-other x e c y n m = getD-set-other (set c e (sub binary64 (left c e) x)) (rev e) y _ nan m ∙ getD-set-other c e y _ nan n
 
-pushPath-length : (x : Float) (ps : List ℕ) (c : List Float) → length (pushPath x ps c) ≡ length c
+pub pushPath-length : (x : Float) (ps : List ℕ) (c : List Float) → length (pushPath x ps c) ≡ length c
 unfolding pushPath
 pushPath-length x [] c = refl
 pushPath-length x (e ∷ es) c = pushPath-length x es (pushLink x e c) ∙ pushLink-length x e c
@@ -63,12 +63,12 @@ pushPath-cases x (e ∷ es) c y = pick (eq-or-ne y e) (eq-or-ne y (rev e)) (push
     pick (inr n) (inr m) (inr (inl i)) = inr (inl (inr i))
     pick (inr n) (inr m) (inr (inr i)) = inr (inr (inr i))
 
-pushPath-other : (x : Float) (ps : List ℕ) (c : List Float) (y : ℕ) → ((e : ℕ) → In e ps → (y ≢ e) × (y ≢ rev e)) → left (pushPath x ps c) y ≡ left c y
+pub pushPath-other : (x : Float) (ps : List ℕ) (c : List Float) (y : ℕ) → ((e : ℕ) → In e ps → (y ≢ e) × (y ≢ rev e)) → left (pushPath x ps c) y ≡ left c y
 unfolding pushPath
 pushPath-other x [] c y h = refl
 pushPath-other x (e ∷ es) c y h = let o = h e (inl refl) in pushPath-other x es (pushLink x e c) y (λ a i. h a (inr i)) ∙ pushLink-other x e c y (o .0) (o .1)
 
-pushPath-hit : (x : Float) (ps : List ℕ) (c : List Float) (y : ℕ) → In y ps → Apart ps → ((e : ℕ) → In e ps → y ≢ rev e) → y < length c
+pub pushPath-hit : (x : Float) (ps : List ℕ) (c : List Float) (y : ℕ) → In y ps → Apart ps → ((e : ℕ) → In e ps → y ≢ rev e) → y < length c
     → left (pushPath x ps c) y ≡ sub binary64 (left c y) x
 unfolding pushPath
 pushPath-hit x (e ∷ es) c y (inl p) a h l =
@@ -86,7 +86,7 @@ record Least (c : List Float) (ps : List ℕ) (x : Float) : Type 0 where
   equal : left c at ≡ x
   plain : Plain x
 
-plain-next : (y x : Float) → lt eps y ≡ true → Plain x → lt y x ≡ true → Plain y
+pub plain-next : (y x : Float) → lt eps y ≡ true → Plain x → lt y x ≡ true → Plain y
 plain-next y x h p l = pick (above-cases y (above-eps y h)) x p l
   where
     pick : Plain y ⊎ (y ≡ inf false) → (z : Float) → Plain z → lt y z ≡ true → Plain y
@@ -106,7 +106,7 @@ least-from c (e ∷ es) qs x sub-list on B =
     pick true t = record { at = e; on-path = sub-list e (inl refl); equal = refl; plain = plain-next (left c e) x (residual-lt c e (on e (inl refl))) (B .plain) t }
     pick false f = B
 
-plain-below : (x : Float) → Plain x → lt x (inf false) ≡ true
+pub plain-below : (x : Float) → Plain x → lt x (inf false) ≡ true
 unfolding lt
 plain-below (fin false m e) p = refl
 plain-below (fin true m e) p = absurd p

@@ -44,7 +44,7 @@ pub enter-other : (ls : List (List ℕ)) (t e u : ℕ) → u ≢ t → row (ente
 unfolding enter
 enter-other ls t e u n = getD-set-other ls t u (row ls t ++ (e ∷ [])) [] n
 
-enter-off : (ls : List (List ℕ)) (t e u : ℕ) → length ls ≤ t → row (enter ls t e) u ≡ row ls u
+pub enter-off : (ls : List (List ℕ)) (t e u : ℕ) → length ls ≤ t → row (enter ls t e) u ≡ row ls u
 unfolding enter
 enter-off ls t e u h = ap (λ (l : List (List ℕ)). row l u) (set-out ls t (row ls t ++ (e ∷ [])) h)
 
@@ -78,7 +78,7 @@ module _ (H : List ℕ) (n : ℕ) where
   nodeLists-length zero = length-replicate n []
   nodeLists-length (suc e) = enter-length (nodeLists H n e) (from e) e ∙ nodeLists-length e
 
-  enlisted : (k u a : ℕ) → In a (row (nodeLists H n k) u) → (a < k) × (from a ≡ u)
+  pub enlisted : (k u a : ℕ) → In a (row (nodeLists H n k) u) → (a < k) × (from a ≡ u)
   unfolding nodeLists
   enlisted zero u a i = absurd (subst (In a) (empty n u) i)
   enlisted (suc e) u a i = pick (enlisted e u a) (appended (nodeLists H n e) (from e) e u a i)

@@ -18,11 +18,14 @@ module _ {A : Type 0} where
   pub part-length : (a : ℕ) (l : List A) → length (part a l) ≡ length l - a
   part-length a l = length-take-le (length l - a) (drop a l) (let e = length-drop a l in omega arith)
 
+  pub part-all : (a : ℕ) (l : List A) → part a l ≡ drop a l
+  part-all a l = take-all (length l - a) (drop a l) (let e = length-drop a l in omega arith)
+
   module _ (a : ℕ) (l y : List A) (h : a ≤ length l) where
     nothing : drop (length l - a) (drop a l) ≡ []
     nothing = let e = length-drop a l in let q : length (drop a l) ≤ length l - a = omega arith in drop-of-length-le (drop a l) q
 
-    back-is : back a l y ≡ take a l ++ y
+    pub back-is : back a l y ≡ take a l ++ y
     back-is = ap (λ (z : List A). take a l ++ (y ++ z)) nothing ∙ ap (λ (z : List A). take a l ++ z) (append-nil y)
 
     pub take-back : take a (back a l y) ≡ take a l

@@ -66,7 +66,7 @@ fn transport_if(
     }
 }
 
-// An optimal coupling of masses a and b under the costs, one for each pair in row order: the plan's cells go into the lent columns. A refusal leaves these as they were.
+// What masses a cost to move to masses b, and how, by successive shortest paths; costs has one for each pair in row order. The plan's cells go into the lent columns. A refusal leaves these as they were.
 pub fn transport(
     a: &[f64],
     b: &[f64],

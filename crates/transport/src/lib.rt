@@ -1,4 +1,4 @@
-// `transport` of flow.rs: an optimal coupling of two lists of masses, by successive shortest paths.
+// `transport` of flow.rs: a plan that takes one list of masses to another, by successive shortest paths.
 mod plan; // plan.rt: the plan
 mod whole; // whole.rt: links, rounds and plan
 mod check; // check.rt: refusals

@@ -193,6 +193,7 @@ fn builds(tally: &mut Tally, rng: &mut Rng, scale: usize) {
     build::short_values(&mut |a| tally.check(&a));
     build::short_sums(&mut |a| tally.check(&a));
     build::short_lengths(&mut |a| tally.check(&a));
+    build::uneven(&mut |a| tally.check(&a));
     for i in 0..100_000 * scale {
         let size = build::small(rng);
         tally.check(&build::random(rng, size));

@@ -320,6 +320,19 @@ pub fn short_sums(f: &mut dyn FnMut(BuildArgs)) {
     }
 }
 
+/// Two transitions of one state, of which each column has none, one or both, and the second has no fault, one or several.
+pub fn uneven(f: &mut dyn FnMut(BuildArgs)) {
+    all_digits(&[3, 3, 3, 3, 2, 2, 2], &mut |d| {
+        let second = (d[4] as u32, 5, d[5] as u32, [0.25, -1.0][d[6]]);
+        let mut a = from_transitions(1, None, &[(0, 7, 0, 0.5), second]);
+        a.sources.truncate(d[0]);
+        a.labels.truncate(d[1]);
+        a.targets.truncate(d[2]);
+        a.weights.truncate(d[3]);
+        f(a);
+    });
+}
+
 /// Two transitions with every column and store one short, just long enough, or one longer.
 pub fn short_lengths(f: &mut dyn FnMut(BuildArgs)) {
     let base = from_transitions(2, None, &[(1, 7, 0, 0.5), (0, 5, 1, 0.25), (1, 7, 1, 2.0)]);

@@ -1,5 +1,5 @@
-//! Inputs of `transport`: masses that balance, with zeros and ties, totals about as far apart as they may be, and a
-//! fault for each clause of 7, 15 and 16.
+//! Inputs of `transport`: masses that balance, with zeros and ties, totals about as far apart as they may be, runs that
+//! meet the cap of rounds, and a fault for each clause of 7, 15 and 16.
 
 use super::faults::{BAD_COSTS, GOOD_COSTS};
 use super::metric::masses;
@@ -185,6 +185,23 @@ pub fn large(rng: &mut Rng) -> TransportArgs {
     good(rng, m, n)
 }
 
+/// n masses a side, at least 2, whose shortest paths are so many that the cap of rounds is met from 9 a side on. What it
+/// costs to move mass from a place to the same place is the greatest cost, or 0 for the first place if `corner` is set.
+pub fn many_rounds(n: usize, corner: bool) -> TransportArgs {
+    let doubled = |i: usize| 5.0 * 2f64.powi(i as i32 - 2);
+    let masses = |first: [f64; 2]| [&first[..], &(2..n).map(doubled).collect::<Vec<_>>()].concat();
+    let cost = |k: usize| match (k / n, k % n) {
+        (0, 0) if corner => 0.0,
+        (i, j) if i == j => GREATEST_WEIGHT,
+        (i, j) => 2f64.powi(i.max(j) as i32 + 1) - 1.0,
+    };
+    lent(
+        masses([1.0, 3.0]),
+        masses([2.0, 2.0]),
+        (0..n * n).map(cost).collect(),
+    )
+}
+
 /// Up to two masses a side, and their costs, over few values.
 pub fn short(f: &mut dyn FnMut(TransportArgs)) {
     const MASSES: [f64; 4] = [0.0, 1e-12, 0.5, 1.0];
@@ -236,6 +253,7 @@ pub fn transports(rng: &mut Rng, scale: usize, f: &mut dyn FnMut(TransportArgs))
     short(f);
     short_limits(f);
     sizes(f);
+    all_digits(&[12, 2], &mut |d| f(many_rounds(d[0] + 2, d[1] == 1)));
     for i in 0..60_000 * scale {
         let base = match i % 40 {
             0 => large(rng),
@@ -316,5 +334,20 @@ mod tests {
         let inputs = (0..20_000).map(|_| small(rng));
         let early = inputs.filter(|t| t.left_over() > 1.0).count();
         assert!(early >= 50, "{early} leave mass behind");
+    }
+
+    /// No rounding is at work here: all is whole. About a fifth of the mass stays behind with 9 masses a side.
+    #[test]
+    fn the_cap_of_rounds_is_met() {
+        for corner in [false, true] {
+            assert!(many_rounds(8, corner).left_over() == 0.0);
+            for n in 9..14 {
+                assert!(many_rounds(n, corner).left_over() > 1e8, "{n} {corner}");
+            }
+        }
+        let nine = many_rounds(9, false);
+        let (_, plan) = transport(&nine.a, &nine.b, &nine.cost_rows());
+        assert_eq!(plan.iter().map(|cell| cell.2).sum::<f64>(), 515.0);
+        assert_eq!(nine.a.iter().sum::<f64>(), 639.0);
     }
 }

@@ -1,102 +1,48 @@
 //! The library's chains: lists that are lent.
 
-use super::{BEFORE_REAL, Ours, count, on_models, present};
-use crate::answers::answer;
-use crate::args::{ChainArgs, ChainLists, ModelArgs, NormaliseArgs, RateArgs, UniformiseArgs};
-use crate::text::{Field, Value};
+use tanqesha::sys::{self, ChainView};
 
-on_models!([] tanqesha_common_rate, common_rate, (left right), (rate: &mut f64));
-on_models!(
-    [unsafe] tanqesha_uniformise,
-    make_chain,
-    (model),
-    (
-        rate: f64,
-        observations: *const f64,
-        observations_length: usize,
-        chain_offsets: *mut u32,
-        chain_offsets_length: usize,
-        chain_targets: *mut u32,
-        chain_targets_length: usize,
-        chain_probabilities: *mut f64,
-        chain_probabilities_length: usize,
-        chain_observations: *mut f64,
-        chain_observations_length: usize,
-        entries: &mut usize
-    )
-);
+use super::{BEFORE_REAL, Ours, count, view};
+use crate::answers::answer;
+use crate::args::{ChainArgs, ChainLists, NormaliseArgs, RateArgs, UniformiseArgs};
+use crate::text::{Field, Value};
 
 /// `uniformise` into these lists.
 pub fn uniformise(a: &UniformiseArgs, lists: &mut ChainLists, entries: &mut usize) -> u32 {
-    // SAFETY: each pointer comes with the length of its own slice; the lists are lent for the call.
-    unsafe {
-        make_chain(
-            &a.model,
-            a.rate,
-            a.observations.as_ptr(),
-            a.observations.len(),
-            lists.offsets.as_mut_ptr(),
-            lists.offsets.len(),
-            lists.targets.as_mut_ptr(),
-            lists.targets.len(),
-            lists.probabilities.as_mut_ptr(),
-            lists.probabilities.len(),
-            lists.observations.as_mut_ptr(),
-            lists.observations.len(),
-            entries,
-        )
+    sys::uniformise(
+        &view(&a.model),
+        a.rate,
+        &a.observations,
+        &mut lists.offsets,
+        &mut lists.targets,
+        &mut lists.probabilities,
+        &mut lists.observations,
+        entries,
+    )
+}
+
+/// A chain as the interface takes it, without its observations.
+fn chain(c: &ChainArgs) -> ChainView<'_> {
+    ChainView {
+        states: c.states,
+        entries: c.entries,
+        initial: c.initial,
+        offsets: &c.lists.offsets,
+        targets: &c.lists.targets,
+        probabilities: &c.lists.probabilities,
     }
 }
 
-/// Declares `normalise` and a wrapper of it, of so many chains.
-macro_rules! on_chains {
-    ($symbol:ident, $wrapper:ident, ($($c:ident $seen:ident)*)) => {
-        unsafe extern "C" {
-            // of each chain: states, entries, initial state, the lists, of which the observations are altered
-            fn $symbol(
-                $(
-                    $c: usize,
-                    _: usize,
-                    _: u32,
-                    _: *const u32,
-                    _: usize,
-                    _: *const u32,
-                    _: usize,
-                    _: *const f64,
-                    _: usize,
-                    _: *mut f64,
-                    _: usize,
-                )*
-                scale: &mut f64,
-            ) -> u32;
-        }
-
-        /// Alters the observations, which are lent beside the chains.
-        pub fn $wrapper($($c: &ChainArgs, $seen: &mut [f64],)* scale: &mut f64) -> u32 {
-            // SAFETY: each pointer comes with the length of its own slice; the observations are lent for the call.
-            unsafe {
-                $symbol(
-                    $(
-                        $c.states,
-                        $c.entries,
-                        $c.initial,
-                        $c.lists.offsets.as_ptr(),
-                        $c.lists.offsets.len(),
-                        $c.lists.targets.as_ptr(),
-                        $c.lists.targets.len(),
-                        $c.lists.probabilities.as_ptr(),
-                        $c.lists.probabilities.len(),
-                        $seen.as_mut_ptr(),
-                        $seen.len(),
-                    )*
-                    scale,
-                )
-            }
-        }
-    };
+/// `normalise`, which alters the observations that are lent beside the chains.
+pub fn normalise(
+    left: &ChainArgs,
+    left_seen: &mut [f64],
+    right: &ChainArgs,
+    right_seen: &mut [f64],
+    scale: &mut f64,
+) -> u32 {
+    sys::normalise(&chain(left), left_seen, &chain(right), right_seen, scale)
 }
-
-on_chains!(tanqesha_normalise, normalise, (left left_seen right right_seen));
 
 /// What a call left behind a reference to a float; 0 where a refusal left it as it was.
 fn left_real(refusal: u32, value: f64) -> f64 {
@@ -109,7 +55,7 @@ fn left_real(refusal: u32, value: f64) -> f64 {
 impl Ours for RateArgs {
     fn ours(&self) -> Vec<Field> {
         let mut rate = BEFORE_REAL;
-        let refusal = common_rate(&self.left, &self.right, &mut rate);
+        let refusal = sys::common_rate(&view(&self.left), &view(&self.right), &mut rate);
         let rate = Value::Real(left_real(refusal, rate));
         vec![answer("common_rate", refusal, vec![rate])]
     }

@@ -1,77 +1,51 @@
 //! The library's relations: bits in lent bytes.
 
-use super::{BEFORE, BEFORE_REAL, Ours, on_models, one, present};
+use tanqesha::sys;
+
+use super::{BEFORE, BEFORE_REAL, Ours, one, view};
 use crate::answers::answer;
-use crate::args::{ModelArgs, RelatedArgs, RelationArgs, RunArgs, bytes};
+use crate::args::{RelatedArgs, RelationArgs, RunArgs, bytes};
 use crate::text::{Field, Value};
 
-/// Declares an entry on two models with their classes and a wrapper of it; references come last.
-macro_rules! on_relation {
-    ($symbol:ident, $raw:ident, $wrapper:ident, ($($epsilon:ident)?), ($($own:ident: $kind:ty),*)) => {
-        on_models!(
-            [unsafe] $symbol,
-            $raw,
-            (left right),
-            (
-                left_classes: *const u32,
-                left_length: usize,
-                right_classes: *const u32,
-                right_length: usize,
-                $($epsilon: f64,)?
-                rho: f64,
-                relation: *mut u8,
-                relation_length: usize
-                $(, $own: $kind)*
-            )
-        );
-
-        pub fn $wrapper(a: &RelationArgs, relation: &mut [u8], $($own: $kind),*) -> u32 {
-            // SAFETY: each pointer comes with the length of its own slice, lent for the call.
-            unsafe {
-                $raw(
-                    &a.left,
-                    &a.right,
-                    a.left_classes.as_ptr(),
-                    a.left_classes.len(),
-                    a.right_classes.as_ptr(),
-                    a.right_classes.len(),
-                    $(a.$epsilon,)?
-                    a.rho,
-                    relation.as_mut_ptr(),
-                    relation.len(),
-                    $($own),*
-                )
-            }
-        }
-    };
+/// `epsdelta` in these bytes.
+pub fn epsdelta(a: &RelationArgs, relation: &mut [u8]) -> u32 {
+    sys::epsdelta(
+        &view(&a.left),
+        &view(&a.right),
+        &a.left_classes,
+        &a.right_classes,
+        a.epsilon,
+        a.rho,
+        relation,
+    )
 }
 
-on_relation!(tanqesha_epsdelta, run, epsdelta, (epsilon), ());
-on_relation!(
-    tanqesha_epsdelta_bisimilar,
-    run_between_initials,
-    epsdelta_bisimilar,
-    (epsilon),
-    (related: &mut u32)
-);
-on_relation!(
-    tanqesha_min_epsilon,
-    search,
-    min_epsilon,
-    (),
-    (found: &mut u32, least: &mut f64)
-);
+/// `epsdelta_bisimilar` in these bytes.
+pub fn epsdelta_bisimilar(a: &RelationArgs, relation: &mut [u8], related: &mut u32) -> u32 {
+    sys::epsdelta_bisimilar(
+        &view(&a.left),
+        &view(&a.right),
+        &a.left_classes,
+        &a.right_classes,
+        a.epsilon,
+        a.rho,
+        relation,
+        related,
+    )
+}
 
-unsafe extern "C" {
-    fn tanqesha_related(
-        left_states: usize,
-        right_states: usize,
-        relation: *const u8,
-        relation_length: usize,
-        s: u32,
-        t: u32,
-        related: &mut u32,
-    ) -> u32;
+/// `min_epsilon` in these bytes.
+pub fn min_epsilon(a: &RelationArgs, relation: &mut [u8], found: &mut u32, least: &mut f64) -> u32 {
+    sys::min_epsilon(
+        &view(&a.left),
+        &view(&a.right),
+        &a.left_classes,
+        &a.right_classes,
+        a.rho,
+        relation,
+        found,
+        least,
+    )
 }
 
 /// The answer of a call, and what it leaves in the lent bytes.
@@ -127,18 +101,14 @@ impl Ours for RelatedArgs {
     fn ours(&self) -> Vec<Field> {
         let a = self;
         let call = |related: &mut u32| {
-            // SAFETY: the pointer comes with the length of its slice.
-            unsafe {
-                tanqesha_related(
-                    a.left_states,
-                    a.right_states,
-                    a.relation.as_ptr(),
-                    a.relation.len(),
-                    a.s,
-                    a.t,
-                    related,
-                )
-            }
+            sys::related(
+                a.left_states,
+                a.right_states,
+                &a.relation,
+                a.s,
+                a.t,
+                related,
+            )
         };
         vec![one("related", call)]
     }

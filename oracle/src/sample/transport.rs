@@ -1,10 +1,10 @@
-//! The fifth part of the fixed list: transports. Masses and costs at their limits, each clause of 7, 15 and 16, some of
-//! the short inputs, random ones.
+//! The fifth part of the fixed list: transports. Masses and costs at their limits, runs that meet the cap of rounds, each
+//! clause of 7, 15 and 16, some of the short inputs, random ones.
 
 use super::{every, lines};
 use crate::args::TransportArgs;
 use crate::generate::transport::{
-    FAULTS, HARMLESS, good, lent, limits, random, short, small, totals_apart,
+    FAULTS, HARMLESS, good, lent, limits, many_rounds, random, short, small, totals_apart,
 };
 use crate::generate::{GREATEST_WEIGHT, Rng};
 use crate::text::{Case, Value};
@@ -38,6 +38,9 @@ fn figures() -> Vec<TransportArgs> {
         list.push(good(rng, m, n));
     }
     list.push(good(rng, 32, 32));
+    for n in [8, 9, 10] {
+        list.extend([false, true].map(|corner| many_rounds(n, corner)));
+    }
     list
 }
 

@@ -14,7 +14,9 @@ use oracle::bisim_metric::flow::FlowNetwork;
 use oracle::generate::Rng;
 use oracle::generate::metric::{Network, masses};
 use oracle::generate::network::flow;
-use oracle::ours::network::{Flowed, max_flow_rows, network, network_refusal, rows};
+use oracle::ours::network::{
+    Flowed, max_flow, max_flow_rows, network, network_refusal, restore, rows,
+};
 
 use crate::{SAMPLE_NS, SAMPLES, median, nanoseconds, print};
 
@@ -97,10 +99,10 @@ fn network_times(turns: u128, a: &FlowArgs) -> [u128; 2] {
     let (mut idle, mut run) = (made.clone(), made.clone());
     medians(
         turns,
-        [&mut || black_box(&mut idle).restore(&made), &mut || {
-            run.restore(&made);
+        [&mut || restore(black_box(&mut idle), &made), &mut || {
+            restore(&mut run, &made);
             let net = black_box(&mut run);
-            let refusal = net.max_flow(a.source, a.sink, &mut Flowed::before());
+            let refusal = max_flow(net, a.source, a.sink, &mut Flowed::before());
             assert_eq!(refusal, 0);
         }],
     )

@@ -6,13 +6,13 @@ use Rattle.bisim_build.proofs.write.write_edges.Statement.{statement}
 use Rattle.bisim_build.proofs.write.write_edges.Tie as tie
 
 abbrev Inv-loop : tie.InvT-loop
-Inv-loop triples sums m labels₀ targets₀ weights₀ i₀ labels targets weights i = Writing triples sums m labels₀ targets₀ weights₀ labels targets weights i
+Inv-loop triples m labels₀ targets₀ i₀ labels targets i = Writing triples m labels₀ targets₀ labels targets i
 
 abbrev μ-loop : tie.MeasureT-loop
-μ-loop triples sums m labels₀ targets₀ weights₀ i₀ labels targets weights i = m - i
+μ-loop triples m labels₀ targets₀ i₀ labels targets i = m - i
 
 loop-holds : tie.Need-loop-holds Inv-loop μ-loop
-loop-holds c = writing _ _ _ _ _ _
+loop-holds c = writing _ _ _ _
 
 mul-q : tie.Need-mul-q Inv-loop μ-loop
 mul-q c = search needs
@@ -38,18 +38,6 @@ mul-targets c = search needs
 slice-write-targets : tie.Need-slice-write-targets Inv-loop μ-loop
 slice-write-targets c = search needs
 
-mul-weights : tie.Need-mul-weights Inv-loop μ-loop
-mul-weights c = search needs
-
-shared-slice-read-weights : tie.Need-shared-slice-read-weights Inv-loop μ-loop
-shared-slice-read-weights c = search needs
-
-mul-weights-2 : tie.Need-mul-weights-2 Inv-loop μ-loop
-mul-weights-2 c = search needs
-
-slice-write-weights : tie.Need-slice-write-weights Inv-loop μ-loop
-slice-write-weights c = search needs
-
 add-i : tie.Need-add-i Inv-loop μ-loop
 add-i c = search needs
 
@@ -57,16 +45,13 @@ loop-less : tie.Need-loop-less Inv-loop μ-loop
 loop-less c = search needs
 
 loop-again : tie.Need-loop-again Inv-loop μ-loop
-loop-again c = let d = c .before .before .before in writes (d .before .pre) (d .loop .inv) (c .before .before .loop-test .taken)
+loop-again c = writes (c .before .before .before .pre) (c .before .before .loop .inv) (c .before .loop-test .taken)
 
 same-length : tie.Need-same-length Inv-loop μ-loop
 same-length c = search needs
 
 same-length-2 : tie.Need-same-length-2 Inv-loop μ-loop
 same-length-2 c = search needs
-
-same-length-3 : tie.Need-same-length-3 Inv-loop μ-loop
-same-length-3 c = search needs
 
 returns : tie.Need-returns Inv-loop μ-loop
 returns c = written (c .before .before .pre) (c .before .loop .inv) (c .loop-test .left)
@@ -86,14 +71,9 @@ write-edges-spec =
     cast-targets
     mul-targets
     slice-write-targets
-    mul-weights
-    shared-slice-read-weights
-    mul-weights-2
-    slice-write-weights
     add-i
     loop-less
     loop-again
     same-length
     same-length-2
-    same-length-3
     returns)

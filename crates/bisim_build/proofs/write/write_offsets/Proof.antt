@@ -2,7 +2,7 @@
 use mathlib.Core.Path.{refl}
 use Prim.Native.Nat.{_+_, _-_}
 use native.Mathlib.Omega.{arith}
-use Rattle.bisim_core.proofs.Offsets.{Offsetting, offsetting, offset-next, offsets-done}
+use Rattle.build_theory.proofs.Offsets.{Offsetting, offsetting, offset-next, offsets-done}
 use borrow.Author.Needs.{needs}
 use Rattle.bisim_build.proofs.write.write_offsets.Statement.{statement}
 use Rattle.bisim_build.proofs.write.write_offsets.Tie as tie

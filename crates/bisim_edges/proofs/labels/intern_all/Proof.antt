@@ -1,28 +1,26 @@
 -- The invariant: interning what is left, the values of the store known, gives the distinct values of the whole column; and the ids so far are the final ones (`Interning`).
 -- A turn meets a known value or a new one; a new one that the store has no room for ends the loop.
-use mathlib.Core.Path.{refl, sym, _∙_}
+use mathlib.Core.Path.{_≡_, refl, sym, _∙_}
 use mathlib.Core.Logic.{⊎-elim}
-use Prim.Native.Nat.{_-_}
+use Prim.Native.Nat.{_-_, _≤_}
 use native.Mathlib.Omega.{arith}
-use Rattle.bisim_edges.proofs.Interns.{Interning, interning, turn-old, turn-new, full, interned, overfull, place-small}
-use mathlib.Core.Path.{_≡_}
 use lib.ListN.{length}
+use Rattle.bisim_edges.proofs.Interns.{Interning, interning, turn-old, turn-new, full, interned, overfull}
 use borrow.Author.Needs.{needs}
 use Rattle.bisim_edges.proofs.labels.intern_all.Statement.{statement}
 use Rattle.bisim_edges.proofs.labels.intern_all.Tie as tie
-use Rattle.bisim_edges.proofs.labels.intern_all.Reads as reads
-use Rattle.bisim_edges.proofs.labels.intern_all.Lts as lts
-use Rattle.bisim_edges.proofs.labels.place.Reads as place-reads
-use Rattle.bisim_edges.proofs.labels.wide.Reads as wide-reads
 
 abbrev Inv-loop : tie.InvT-loop
-Inv-loop values n store₀ ids₀ guesses₀ i₀ count₀ store ids guesses i count = Interning values n store₀ ids₀ store ids i count × (length guesses ≡ 1024)
+Inv-loop values given store₀ ids₀ n guesses₀ i₀ count₀ store ids guesses i count = Interning values n store₀ ids₀ store ids i count × (n ≤ given) × (n ≤ length values) × (length guesses ≡ 1024)
 
 abbrev μ-loop : tie.MeasureT-loop
-μ-loop values n store₀ ids₀ guesses₀ i₀ count₀ store ids guesses i count = n - i
+μ-loop values given store₀ ids₀ n guesses₀ i₀ count₀ store ids guesses i count = n - i
+
+lesser-requires : tie.Need-lesser-requires Inv-loop μ-loop
+lesser-requires c κs = search needs
 
 loop-holds : tie.Need-loop-holds Inv-loop μ-loop
-loop-holds c = (interning _ _ _ _, refl)
+loop-holds c = let e = c .lesser .ensures in (interning _ _ _ _, omega arith, omega arith, refl)
 
 mul-x : tie.Need-mul-x Inv-loop μ-loop
 mul-x c = search needs
@@ -52,11 +50,8 @@ same-length-2 : tie.Need-same-length-2 Inv-loop μ-loop
 same-length-2 c = search needs
 
 returns : tie.Need-returns Inv-loop μ-loop
-returns c =
-    let d = c .before .before .before .before .before .before .before in
-    let p = d .before .before .before .before .pre in
-    let I = d .loop .inv .0 in
-    overfull _ _ _ _ _ _ (c .if2 .taken ∙ I .store-size) (full I (c .before .before .before .before .before .before .loop-test .taken) (p .0) _ (c .before .before .place .ensures) (c .before .if1 .taken) (c .if2 .taken ∙ I .store-size))
+returns c = let I = c .before .before .before .before .before .before .before .loop .inv .0 in
+    overfull _ _ (c .before .before .before .before .before .before .before .before .lesser .ensures) I (c .if2 .taken ∙ I .store-size) (full I (c .before .before .before .before .before .before .loop-test .taken) (c .before .before .before .before .before .before .before .loop .inv .2) _ (c .before .before .place .ensures) (c .before .if1 .taken) (c .if2 .taken ∙ I .store-size))
 
 mul-store : tie.Need-mul-store Inv-loop μ-loop
 mul-store c = search needs
@@ -73,20 +68,11 @@ cast-guesses c = search needs
 array-write-guesses : tie.Need-array-write-guesses Inv-loop μ-loop
 array-write-guesses c = search needs
 
-cast-ids : tie.Need-cast-ids Inv-loop μ-loop
-cast-ids c =
-    let d = c .before .before .before .before .before .before in
-    let p = d .before .before .before .before .pre .2 in
-    let z = place-small (d .loop .inv .0) _ _ (c .before .place .ensures) in
-    omega arith
-
 mul-ids : tie.Need-mul-ids Inv-loop μ-loop
 mul-ids c = search needs
 
 slice-write-ids : tie.Need-slice-write-ids Inv-loop μ-loop
-slice-write-ids c =
-    let d = c .before .before .before .before .before .before in let h = c .before .before .before .before .before .loop-test .taken in
-    let p = d .before .before .before .before .pre .1 in let I = d .loop .inv .0 in let b = I .ids-size in omega arith
+slice-write-ids c = let p = c .before .before .before .before .before .before .before .before .before .before .before .pre .0 in let h = c .before .before .before .before .before .loop-test .taken in let b = c .before .before .before .before .before .before .loop .inv .0 .ids-size in let d = c .before .before .before .before .before .before .loop .inv .1 in omega arith
 
 add-i : tie.Need-add-i Inv-loop μ-loop
 add-i c = search needs
@@ -95,16 +81,18 @@ loop-less : tie.Need-loop-less Inv-loop μ-loop
 loop-less c = search needs
 
 loop-again : tie.Need-loop-again Inv-loop μ-loop
-loop-again c =
-    let d = c .before .before .before .before .before .before in
-    let p = d .before .before .before .before .pre in
+loop-again c = let p = c .before .before .before .before .before .before .before .before .before .before .before .pre in
     let h = c .before .before .before .before .before .loop-test .taken in
-    let I = d .loop .inv .0 in (
+    let I = c .before .before .before .before .before .before .loop .inv .0 in
+    let w = c .before .before .before .before .before .before .loop .inv .2 in
+    let r = (let a = p .0 in let d = c .before .before .before .before .before .before .loop .inv .1 in let z : c .before .before .before .before .before .before .before .lesser .result ≤ length (c .before .before .before .before .before .before .before .before .before .before .before .args .ids .now) = omega arith in z) in (
       ⊎-elim
-          (λ w. turn-new I h (p .0) _ (c .before .place .ensures) (w .0 .taken) (p .1) (λ e. w .1 .left (e ∙ sym (I .store-size))) _ _ (w .2) (w .3))
-          (λ w. turn-old I h (p .0) _ (p .1) (c .before .place .ensures) (w .0 .left) _ _ (w .1) (w .2))
+          (λ v. turn-new I h w _ (c .before .place .ensures) (v .0 .taken) r (λ e. v .1 .left (e ∙ sym (I .store-size))) _ _ (v .2) (v .3))
+          (λ v. turn-old I h w _ r (c .before .place .ensures) (v .0 .left) _ _ (v .1) (v .2))
           (c .if1 .came),
-      (let g = d .loop .inv .1 in search needs),
+      c .before .before .before .before .before .before .loop .inv .1,
+      w,
+      (let g = c .before .before .before .before .before .before .loop .inv .3 in search needs),
     )
 
 same-length-3 : tie.Need-same-length-3 Inv-loop μ-loop
@@ -114,7 +102,7 @@ same-length-4 : tie.Need-same-length-4 Inv-loop μ-loop
 same-length-4 c = search needs
 
 returns-2 : tie.Need-returns-2 Inv-loop μ-loop
-returns-2 c = interned (c .before .loop .inv .0) (c .loop-test .left)
+returns-2 c = interned _ _ (c .before .before .lesser .ensures) (c .before .loop .inv .0) (c .loop-test .left)
 
 pub intern-all-spec : {M : Type 1} → statement M
 intern-all-spec =
@@ -122,6 +110,7 @@ intern-all-spec =
     (tie.spec
     Inv-loop
     μ-loop
+    lesser-requires
     loop-holds
     mul-x
     shared-slice-read-x
@@ -138,7 +127,6 @@ intern-all-spec =
     add-count
     cast-guesses
     array-write-guesses
-    cast-ids
     mul-ids
     slice-write-ids
     add-i

@@ -3,9 +3,6 @@ use Rattle.bisim_edges.proofs.Interns.{found-at}
 use borrow.Author.Needs.{needs}
 use Rattle.bisim_edges.proofs.labels.place.Statement.{statement}
 use Rattle.bisim_edges.proofs.labels.place.Tie as tie
-use Rattle.bisim_edges.proofs.labels.place.Reads as reads
-use Rattle.bisim_edges.proofs.labels.place.Lts as lts
-use Rattle.numbers.proofs.seek.Reads as seek-reads
 
 mul-if2 : tie.Need-mul-if2
 mul-if2 c = search needs

@@ -11,7 +11,7 @@ lines-laid-requires : tie.Need-lines-laid-requires
 lines-laid-requires c κs = search needs
 
 returns-2 : tie.Need-returns-2
-returns-2 c = search needs
+returns-2 c = c .lines-laid .ensures
 
 pub laid-spec : {M : Type 1} → statement M
 laid-spec = tie.close (tie.spec returns lines-laid-requires returns-2)

@@ -1,8 +1,8 @@
--- `sweeps::passes` meets its contract: the rows of s and t are parts of the lists, and the answer's flow is held to what is needed (Turns).
+-- `sweeps::passes` meets its contract: the rows of s and t are parts of the lists, and whether their flow is enough is the definition's test (Turns).
 use mathlib.Core.Path.{_∙_}
 use Prim.Native.Nat.{_+_}
 use native.Mathlib.Omega.{arith}
-use Rattle.epsdelta_sweeps.proofs.Turns.{passed-in}
+use Rattle.epsdelta_sweeps.proofs.Turns.{reached-in}
 use borrow.Author.Needs.{needs}
 use Rattle.epsdelta_sweeps.proofs.sweeps.passes.Statement.{statement}
 use Rattle.epsdelta_sweeps.proofs.sweeps.passes.Tie as tie
@@ -49,64 +49,61 @@ shared-slice-read-d c = search needs
 cast-d : tie.Need-cast-d
 cast-d c = omega (arith, c .shared-slice-known8 .given (c .before .before .before .before .before .before .before .before .args .t + 1))
 
-mul-flow-between : tie.Need-mul-flow-between
-mul-flow-between c = omega (arith, c .before .before .before .shared-slice-known5 .given (c .before .before .before .before .before .before .before .before .args .s))
+mul-flow-reaches : tie.Need-mul-flow-reaches
+mul-flow-reaches c = omega (arith, c .before .before .before .shared-slice-known5 .given (c .before .before .before .before .before .before .before .before .args .s))
 
-sub-flow-between : tie.Need-sub-flow-between
-sub-flow-between c = c .before .before .before .before .before .before .before .before .pre .0 .rise (c .before .before .before .before .before .before .before .before .args .s) (c .before .before .before .before .before .before .before .before .pre .1)
+sub-flow-reaches : tie.Need-sub-flow-reaches
+sub-flow-reaches c = c .before .before .before .before .before .before .before .before .pre .0 .rise (c .before .before .before .before .before .before .before .before .args .s) (c .before .before .before .before .before .before .before .before .pre .1)
 
-part-flow-between-start : tie.Need-part-flow-between-start
-part-flow-between-start c = c .before .before .before .before .before .before .before .before .pre .0 .rise (c .before .before .before .before .before .before .before .before .args .s) (c .before .before .before .before .before .before .before .before .pre .1)
+part-flow-reaches-start : tie.Need-part-flow-reaches-start
+part-flow-reaches-start c = c .before .before .before .before .before .before .before .before .pre .0 .rise (c .before .before .before .before .before .before .before .before .args .s) (c .before .before .before .before .before .before .before .before .pre .1)
 
-part-flow-between-end : tie.Need-part-flow-between-end
-part-flow-between-end c = c .before .before .before .before .before .before .before .before .pre .0 .targets-long (c .before .before .before .before .before .before .before .before .args .s) (c .before .before .before .before .before .before .before .before .pre .1)
+part-flow-reaches-end : tie.Need-part-flow-reaches-end
+part-flow-reaches-end c = c .before .before .before .before .before .before .before .before .pre .0 .targets-long (c .before .before .before .before .before .before .before .before .args .s) (c .before .before .before .before .before .before .before .before .pre .1)
 
-mul-flow-between-2 : tie.Need-mul-flow-between-2
-mul-flow-between-2 c = omega (arith, c .before .before .before .before .shared-slice-known5 .given (c .before .before .before .before .before .before .before .before .before .args .s))
+mul-flow-reaches-2 : tie.Need-mul-flow-reaches-2
+mul-flow-reaches-2 c = omega (arith, c .before .before .before .before .shared-slice-known5 .given (c .before .before .before .before .before .before .before .before .before .args .s))
 
-sub-flow-between-2 : tie.Need-sub-flow-between-2
-sub-flow-between-2 c = c .before .before .before .before .before .before .before .before .before .pre .0 .rise (c .before .before .before .before .before .before .before .before .before .args .s) (c .before .before .before .before .before .before .before .before .before .pre .1)
+sub-flow-reaches-2 : tie.Need-sub-flow-reaches-2
+sub-flow-reaches-2 c = c .before .before .before .before .before .before .before .before .before .pre .0 .rise (c .before .before .before .before .before .before .before .before .before .args .s) (c .before .before .before .before .before .before .before .before .before .pre .1)
 
-part-flow-between-start-2 : tie.Need-part-flow-between-start-2
-part-flow-between-start-2 c = c .before .before .before .before .before .before .before .before .before .pre .0 .rise (c .before .before .before .before .before .before .before .before .before .args .s) (c .before .before .before .before .before .before .before .before .before .pre .1)
+part-flow-reaches-start-2 : tie.Need-part-flow-reaches-start-2
+part-flow-reaches-start-2 c = c .before .before .before .before .before .before .before .before .before .pre .0 .rise (c .before .before .before .before .before .before .before .before .before .args .s) (c .before .before .before .before .before .before .before .before .before .pre .1)
 
-part-flow-between-end-2 : tie.Need-part-flow-between-end-2
-part-flow-between-end-2 c = c .before .before .before .before .before .before .before .before .before .pre .0 .probs-long (c .before .before .before .before .before .before .before .before .before .args .s) (c .before .before .before .before .before .before .before .before .before .pre .1)
+part-flow-reaches-end-2 : tie.Need-part-flow-reaches-end-2
+part-flow-reaches-end-2 c = c .before .before .before .before .before .before .before .before .before .pre .0 .probs-long (c .before .before .before .before .before .before .before .before .before .args .s) (c .before .before .before .before .before .before .before .before .before .pre .1)
 
-mul-flow-between-3 : tie.Need-mul-flow-between-3
-mul-flow-between-3 c = omega (arith, c .before .before .before .shared-slice-known7 .given (c .before .before .before .before .before .before .before .before .before .before .args .t))
+mul-flow-reaches-3 : tie.Need-mul-flow-reaches-3
+mul-flow-reaches-3 c = omega (arith, c .before .before .before .shared-slice-known7 .given (c .before .before .before .before .before .before .before .before .before .before .args .t))
 
-sub-flow-between-3 : tie.Need-sub-flow-between-3
-sub-flow-between-3 c = c .before .before .before .before .before .before .before .before .before .before .pre .0 .rise (c .before .before .before .before .before .before .before .before .before .before .args .t) (c .before .before .before .before .before .before .before .before .before .before .pre .2)
+sub-flow-reaches-3 : tie.Need-sub-flow-reaches-3
+sub-flow-reaches-3 c = c .before .before .before .before .before .before .before .before .before .before .pre .0 .rise (c .before .before .before .before .before .before .before .before .before .before .args .t) (c .before .before .before .before .before .before .before .before .before .before .pre .2)
 
-part-flow-between-start-3 : tie.Need-part-flow-between-start-3
-part-flow-between-start-3 c = c .before .before .before .before .before .before .before .before .before .before .pre .0 .rise (c .before .before .before .before .before .before .before .before .before .before .args .t) (c .before .before .before .before .before .before .before .before .before .before .pre .2)
+part-flow-reaches-start-3 : tie.Need-part-flow-reaches-start-3
+part-flow-reaches-start-3 c = c .before .before .before .before .before .before .before .before .before .before .pre .0 .rise (c .before .before .before .before .before .before .before .before .before .before .args .t) (c .before .before .before .before .before .before .before .before .before .before .pre .2)
 
-part-flow-between-end-3 : tie.Need-part-flow-between-end-3
-part-flow-between-end-3 c = c .before .before .before .before .before .before .before .before .before .before .pre .0 .targets-long (c .before .before .before .before .before .before .before .before .before .before .args .t) (c .before .before .before .before .before .before .before .before .before .before .pre .2)
+part-flow-reaches-end-3 : tie.Need-part-flow-reaches-end-3
+part-flow-reaches-end-3 c = c .before .before .before .before .before .before .before .before .before .before .pre .0 .targets-long (c .before .before .before .before .before .before .before .before .before .before .args .t) (c .before .before .before .before .before .before .before .before .before .before .pre .2)
 
-mul-flow-between-4 : tie.Need-mul-flow-between-4
-mul-flow-between-4 c = omega (arith, c .before .before .before .before .shared-slice-known7 .given (c .before .before .before .before .before .before .before .before .before .before .before .args .t))
+mul-flow-reaches-4 : tie.Need-mul-flow-reaches-4
+mul-flow-reaches-4 c = omega (arith, c .before .before .before .before .shared-slice-known7 .given (c .before .before .before .before .before .before .before .before .before .before .before .args .t))
 
-sub-flow-between-4 : tie.Need-sub-flow-between-4
-sub-flow-between-4 c = c .before .before .before .before .before .before .before .before .before .before .before .pre .0 .rise (c .before .before .before .before .before .before .before .before .before .before .before .args .t) (c .before .before .before .before .before .before .before .before .before .before .before .pre .2)
+sub-flow-reaches-4 : tie.Need-sub-flow-reaches-4
+sub-flow-reaches-4 c = c .before .before .before .before .before .before .before .before .before .before .before .pre .0 .rise (c .before .before .before .before .before .before .before .before .before .before .before .args .t) (c .before .before .before .before .before .before .before .before .before .before .before .pre .2)
 
-part-flow-between-start-4 : tie.Need-part-flow-between-start-4
-part-flow-between-start-4 c = c .before .before .before .before .before .before .before .before .before .before .before .pre .0 .rise (c .before .before .before .before .before .before .before .before .before .before .before .args .t) (c .before .before .before .before .before .before .before .before .before .before .before .pre .2)
+part-flow-reaches-start-4 : tie.Need-part-flow-reaches-start-4
+part-flow-reaches-start-4 c = c .before .before .before .before .before .before .before .before .before .before .before .pre .0 .rise (c .before .before .before .before .before .before .before .before .before .before .before .args .t) (c .before .before .before .before .before .before .before .before .before .before .before .pre .2)
 
-part-flow-between-end-4 : tie.Need-part-flow-between-end-4
-part-flow-between-end-4 c = c .before .before .before .before .before .before .before .before .before .before .before .pre .0 .probs-long (c .before .before .before .before .before .before .before .before .before .before .before .args .t) (c .before .before .before .before .before .before .before .before .before .before .before .pre .2)
+part-flow-reaches-end-4 : tie.Need-part-flow-reaches-end-4
+part-flow-reaches-end-4 c = c .before .before .before .before .before .before .before .before .before .before .before .pre .0 .probs-long (c .before .before .before .before .before .before .before .before .before .before .before .args .t) (c .before .before .before .before .before .before .before .before .before .before .before .pre .2)
 
-flow-between-requires : tie.Need-flow-between-requires
-flow-between-requires c κs = search needs
-
-enough-requires : tie.Need-enough-requires
-enough-requires c κs = search needs
+flow-reaches-requires : tie.Need-flow-reaches-requires
+flow-reaches-requires c κs = search needs
 
 returns : tie.Need-returns
 returns c =
-    let d = c .before .before .before .before .before .before .before .before .before .before .before .before .before .before in
-    λ R e. c .enough .ensures _ _ _ (c .before .flow-between .ensures .0 ∙ passed-in (d .pre .0) (d .args .relation .now) R e (d .args .s) (d .args .t) (d .pre .1) (d .pre .2))
+    let d = c .before .before .before .before .before .before .before .before .before .before .before .before .before in
+    λ R e. c .flow-reaches .ensures ∙ reached-in (d .pre .0) (d .args .need) (d .args .relation .now) R e (d .args .s) (d .args .t) (d .pre .1) (d .pre .2)
 
 pub passes-spec : {M : Type 1} → statement M
 passes-spec =
@@ -126,22 +123,21 @@ passes-spec =
     mul-d
     shared-slice-read-d
     cast-d
-    mul-flow-between
-    sub-flow-between
-    part-flow-between-start
-    part-flow-between-end
-    mul-flow-between-2
-    sub-flow-between-2
-    part-flow-between-start-2
-    part-flow-between-end-2
-    mul-flow-between-3
-    sub-flow-between-3
-    part-flow-between-start-3
-    part-flow-between-end-3
-    mul-flow-between-4
-    sub-flow-between-4
-    part-flow-between-start-4
-    part-flow-between-end-4
-    flow-between-requires
-    enough-requires
+    mul-flow-reaches
+    sub-flow-reaches
+    part-flow-reaches-start
+    part-flow-reaches-end
+    mul-flow-reaches-2
+    sub-flow-reaches-2
+    part-flow-reaches-start-2
+    part-flow-reaches-end-2
+    mul-flow-reaches-3
+    sub-flow-reaches-3
+    part-flow-reaches-start-3
+    part-flow-reaches-end-3
+    mul-flow-reaches-4
+    sub-flow-reaches-4
+    part-flow-reaches-start-4
+    part-flow-reaches-end-4
+    flow-reaches-requires
     returns)

@@ -1,0 +1,9 @@
+pub mod Steps
+pub mod Fronts
+pub mod Rows
+pub mod Offsets
+pub mod Orders
+pub mod Ranks
+pub mod Weights
+pub mod Counts
+pub mod Targets

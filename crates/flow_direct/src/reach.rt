@@ -1,0 +1,207 @@
+// Whether the flow of a flow test is enough.
+use crate::give::copy;
+use crate::give::give_rows;
+use crate::settle::Verdict;
+use crate::settle::search_on;
+use flow_core::rows::Answer;
+use flow_core::test::flow_between;
+use flow_links::fits::rows_fit;
+ghost use mathlib.Core.Path.{_≡_};
+ghost use Prim.Native.Nat.{ℕ, _≤_, _<_, _*_};
+ghost use lib.ListN.{length, getD};
+ghost use lib.Ieee.{nan};
+ghost use Rattle.numbers.specs.Real.{nought};
+ghost use Rattle.epsdelta_theory.specs.Relation.{relationOf};
+ghost use Rattle.flow_routes.proofs.Reaching.{Told};
+ghost use Rattle.flow_direct.specs.Reaches.{atLeast, reaches};
+
+// Whether an answer is a flow that is enough.
+fn enough(answer: Answer, need: f64) -> bool
+    ensures { λ r. ⌜ r ≡ atLeast need answer ⌝ }
+{
+    match answer {
+        Answer::Flow {
+            flow: f,
+            phases: _,
+            pushes: _,
+        } => need <= f,
+        Answer::Refused(_) => false,
+    }
+}
+
+// The first pushes, and the search where they are not enough, with room lent for each pair of targets.
+fn reach_in(
+    left_targets: &[u32],
+    left_rates: &[f64],
+    right_targets: &[u32],
+    right_rates: &[f64],
+    states: usize,
+    relation: &[u8],
+    need: f64,
+    flows: &mut [f64],
+) -> Verdict
+    requires { ⌜ (states ≤ 2000) × (length (now «left_targets») ≤ 31) × (length (now «right_targets») ≤ 31) × (length (now «left_rates») ≡ length (now «left_targets»)) × (length (now «right_rates») ≡ length (now «right_targets»)) × (length (now «left_targets») * length (now «right_targets») ≤ length (now flows)) × ((j : ℕ) → j < length (now flows) → getD (now flows) j nan ≡ nought) ⌝ }
+    ensures { λ r. ⌜ Told (now («left_targets» .entry)) (now («left_rates» .entry)) (now («right_targets» .entry)) (now («right_rates» .entry)) states (now (relation .entry)) need (r .known) (r .passes) ⌝ }
+{
+    let mut lefts = [0.0f64; 31];
+    let mut rights = [0.0f64; 31];
+    copy(left_rates, &mut lefts);
+    copy(right_rates, &mut rights);
+    let total = give_rows(
+        left_targets,
+        right_targets,
+        states,
+        relation,
+        &mut lefts,
+        &mut rights,
+        flows,
+        need,
+    );
+    if need <= total {
+        return Verdict {
+            known: true,
+            passes: true,
+        };
+    }
+    search_on(
+        left_targets,
+        right_targets,
+        states,
+        relation,
+        &mut lefts,
+        &mut rights,
+        flows,
+        total,
+        need,
+    )
+}
+
+// The same for rows of at most 8 targets.
+fn reach_small(
+    left_targets: &[u32],
+    left_rates: &[f64],
+    right_targets: &[u32],
+    right_rates: &[f64],
+    states: usize,
+    relation: &[u8],
+    need: f64,
+) -> Verdict
+    requires { ⌜ (states ≤ 2000) × (length (now «left_targets») ≤ 8) × (length (now «right_targets») ≤ 8) × (length (now «left_rates») ≡ length (now «left_targets»)) × (length (now «right_rates») ≡ length (now «right_targets»)) ⌝ }
+    ensures { λ r. ⌜ Told (now («left_targets» .entry)) (now («left_rates» .entry)) (now («right_targets» .entry)) (now («right_rates» .entry)) states (now (relation .entry)) need (r .known) (r .passes) ⌝ }
+{
+    let mut flows = [0.0f64; 64];
+    reach_in(
+        left_targets,
+        left_rates,
+        right_targets,
+        right_rates,
+        states,
+        relation,
+        need,
+        &mut flows,
+    )
+}
+
+// The same for rows of at most 31 targets.
+fn reach_large(
+    left_targets: &[u32],
+    left_rates: &[f64],
+    right_targets: &[u32],
+    right_rates: &[f64],
+    states: usize,
+    relation: &[u8],
+    need: f64,
+) -> Verdict
+    requires { ⌜ (states ≤ 2000) × (length (now «left_targets») ≤ 31) × (length (now «right_targets») ≤ 31) × (length (now «left_rates») ≡ length (now «left_targets»)) × (length (now «right_rates») ≡ length (now «right_targets»)) ⌝ }
+    ensures { λ r. ⌜ Told (now («left_targets» .entry)) (now («left_rates» .entry)) (now («right_targets» .entry)) (now («right_rates» .entry)) states (now (relation .entry)) need (r .known) (r .passes) ⌝ }
+{
+    let mut flows = [0.0f64; 961];
+    reach_in(
+        left_targets,
+        left_rates,
+        right_targets,
+        right_rates,
+        states,
+        relation,
+        need,
+        &mut flows,
+    )
+}
+
+// What is known of the flow test of rows that fit, without a network.
+fn reach(
+    left_targets: &[u32],
+    left_rates: &[f64],
+    right_targets: &[u32],
+    right_rates: &[f64],
+    states: usize,
+    relation: &[u8],
+    need: f64,
+) -> Verdict
+    requires { ⌜ (states ≤ 2000) × (length (now «left_targets») ≤ 31) × (length (now «right_targets») ≤ 31) × (length (now «left_rates») ≡ length (now «left_targets»)) × (length (now «right_rates») ≡ length (now «right_targets»)) ⌝ }
+    ensures { λ r. ⌜ Told (now («left_targets» .entry)) (now («left_rates» .entry)) (now («right_targets» .entry)) (now («right_rates» .entry)) states (now (relation .entry)) need (r .known) (r .passes) ⌝ }
+{
+    if left_targets.len() <= 8 {
+        if right_targets.len() <= 8 {
+            return reach_small(
+                left_targets,
+                left_rates,
+                right_targets,
+                right_rates,
+                states,
+                relation,
+                need,
+            );
+        }
+    }
+    reach_large(
+        left_targets,
+        left_rates,
+        right_targets,
+        right_rates,
+        states,
+        relation,
+        need,
+    )
+}
+
+// Whether the flow between two rows of jumps against a relation is at least what is needed: bit u * states + v says whether v is related with u.
+// It is not where a row has over 31 targets, or not one rate from 0 to 2^40 for each, or where the relation is over more than 2,000 states.
+pub fn flow_reaches(
+    left_targets: &[u32],
+    left_rates: &[f64],
+    right_targets: &[u32],
+    right_rates: &[f64],
+    states: usize,
+    relation: &[u8],
+    need: f64,
+) -> bool
+    ensures { λ r. ⌜ r ≡ reaches (now («left_targets» .entry)) (now («left_rates» .entry)) (now («right_targets» .entry)) (now («right_rates» .entry)) states (relationOf (now (relation .entry))) need ⌝ }
+{
+    if !rows_fit(left_targets, left_rates, right_targets, right_rates, states) {
+        return false;
+    }
+    let v = reach(
+        left_targets,
+        left_rates,
+        right_targets,
+        right_rates,
+        states,
+        relation,
+        need,
+    );
+    if v.known {
+        return v.passes;
+    }
+    enough(
+        flow_between(
+            left_targets,
+            left_rates,
+            right_targets,
+            right_rates,
+            states,
+            relation,
+        ),
+        need,
+    )
+}

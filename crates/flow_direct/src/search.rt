@@ -1,0 +1,91 @@
+// Searches in order: the first target that has a label and something left.
+use flow_routes::remains;
+use numbers::bit;
+ghost use mathlib.Core.Path.{_≡_};
+ghost use mathlib.Core.Logic.{_≢_};
+ghost use Prim.Native.Nat.{ℕ, _+_, _*_, _≤_, _<_};
+ghost use mathlib.Core.Bool.{true};
+ghost use lib.ListN.{length, getD};
+ghost use lib.Ieee.{lt, nan};
+ghost use Rattle.numbers.specs.Real.{eps};
+ghost use Rattle.numbers.specs.Bits.{bitAt};
+ghost use Rattle.flow_routes.proofs.Coding.{FirstOf};
+
+// The first of n targets of s with this label and rate left; n where there is none.
+pub(crate) fn first_left(lefts: &[f64], labels: &[usize], n: usize, want: usize) -> usize
+    requires { ⌜ (n ≤ length (now lefts)) × (n ≤ length (now labels)) ⌝ }
+    ensures { λ r. ⌜ FirstOf n r (λ j. (lt eps (getD (now (lefts .entry)) j nan) ≡ true) × (getD (now (labels .entry)) j 0 ≡ want)) ⌝ }
+{
+    let mut j: usize = 0;
+    while j < n {
+        if labels[j] == want {
+            if remains(lefts[j]) {
+                return j;
+            }
+        }
+        j += 1;
+    }
+    n
+}
+
+// The first target of t with this label whose bit, counted from `base` on, is set; their number where there is none.
+pub(crate) fn first_right(
+    targets: &[u32],
+    relation: &[u8],
+    base: usize,
+    labels: &[usize],
+    want: usize,
+) -> usize
+    requires { ⌜ (length (now targets) ≤ length (now labels)) × (base ≤ 8589934590000) ⌝ }
+    ensures { λ r. ⌜ FirstOf (length (now (targets .entry))) r (λ j. (getD (now (labels .entry)) j 0 ≡ want) × (bitAt (now (relation .entry)) (base + getD (now (targets .entry)) j 0) ≡ true)) ⌝ }
+{
+    let mut j: usize = 0;
+    while j < targets.len() {
+        if labels[j] == want {
+            if bit(relation, base + targets[j] as usize) {
+                return j;
+            }
+        }
+        j += 1;
+    }
+    j
+}
+
+// The first of n targets of s with this label that has given something to target k of t; n where there is none.
+pub(crate) fn first_back(
+    flows: &[f64],
+    labels: &[usize],
+    n: usize,
+    width: usize,
+    k: usize,
+    want: usize,
+) -> usize
+    requires { ⌜ (n ≤ length (now labels)) × (n ≤ 31) × (width ≤ 31) × (k < width) × (n * width ≤ length (now flows)) ⌝ }
+    ensures { λ r. ⌜ FirstOf n r (λ j. (getD (now (labels .entry)) j 0 ≡ want) × (lt eps (getD (now (flows .entry)) (j * width + k) nan) ≡ true)) ⌝ }
+{
+    let mut j: usize = 0;
+    while j < n {
+        if labels[j] == want {
+            if remains(flows[j * width + k]) {
+                return j;
+            }
+        }
+        j += 1;
+    }
+    n
+}
+
+// Whether none of the first n labels is g.
+pub(crate) fn none_at(labels: &[usize], n: usize, g: usize) -> bool
+    requires { ⌜ n ≤ length (now labels) ⌝ }
+    ensures { λ r. ⌜ (r ≡ true → (j : ℕ) → j < n → getD (now (labels .entry)) j 0 ≢ g) ⌝ }
+{
+    let mut j: usize = 0;
+    while j < n {
+        if labels[j] == g {
+            return false;
+        }
+        j += 1;
+    }
+    true
+}

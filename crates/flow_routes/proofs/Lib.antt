@@ -1,0 +1,14 @@
+pub mod Rising
+pub mod Shortest
+pub mod Underway
+pub mod Growth
+pub mod Crossing
+pub mod Numbered
+pub mod Labelled
+pub mod Tight
+pub mod Standing
+pub mod Giving
+pub mod Ways
+pub mod Coding
+pub mod Pathing
+pub mod Reaching
