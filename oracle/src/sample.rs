@@ -326,7 +326,7 @@ mod tests {
         assert!(relations.len() < 480_000, "{} bytes", relations.len());
         assert!(cards.len() < 320_000, "{} bytes", cards.len());
         let (transports, chains) = (transport::text(), chain::text());
-        assert!(transports.len() < 320_000, "{} bytes", transports.len());
+        assert!(transports.len() < 400_000, "{} bytes", transports.len());
         assert!(chains.len() < 640_000, "{} bytes", chains.len());
         let mut counts: BTreeMap<(&str, u32), usize> = BTreeMap::new();
         for case in
