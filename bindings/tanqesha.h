@@ -123,7 +123,7 @@ uint32_t tanqesha_resolve(const uint32_t *labels, size_t labels_length, size_t c
  * edges and of labels.
  * Needs given entries in every column but states + 1 offsets.
  * Refusals: 3; 4 a state number; 5 a weight given; 6; 7 a column of transitions or of the model is short (where one of
- * transitions is, 3 to 6 look at those that are whole). */
+ * transitions is, 3 to 6 look at each as far as it goes). */
 uint32_t tanqesha_build(size_t states, uint32_t present, uint32_t start, size_t given,
                         const uint32_t *sources, size_t sources_length, const uint32_t *labels, size_t labels_length,
                         const uint32_t *targets, size_t targets_length, const double *weights, size_t weights_length,

@@ -196,8 +196,8 @@ fn build_refuses() {
     refused(5, |g| g.weights[1] = -1.0, WHOLE);
     refused(5, |g| g.weights[1] = 2f64.powi(-41), WHOLE);
     refused(5, |g| g.weights[1] = 2f64.powi(41), WHOLE);
-    // the fifth transition is not whole, so that its state is not looked at
-    refused(7, |g| g.sources[4] = 3, 3);
+    // each column is looked at as far as it goes: weights are short, and the fifth source is not
+    refused(4, |g| g.sources[4] = 3, 3);
 }
 
 #[test]
