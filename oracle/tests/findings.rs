@@ -81,5 +81,15 @@ fn the_error_bound_does_not_bound() {
     let d = distance(&a, &b, GAMMA, options).expect("accepted");
     assert!((d.value - GAMMA * total).abs() < 1e-9);
     assert_eq!(d.error_bound, 0.0);
+    assert!((d.value - 0.0759).abs() < 5e-5, "{}", d.value);
     assert!(GAMMA * left_out * least > 0.015, "{left_out} {least}");
+}
+
+/// Costs that differ by a few units of the last place: the run breaks off with half of the mass moved.
+#[test]
+fn half_stays_unmoved() {
+    let costs = [vec![1.0 + 5.0 * 2f64.powi(-52), 1.0], vec![1.0, 1.0]];
+    let (_, plan) = transport(&[0.5, 0.5], &[0.5, 0.5], &costs);
+    let moved: f64 = plan.iter().map(|cell| cell.2).sum();
+    assert!((moved - 0.5).abs() < 1e-9, "{moved}");
 }
