@@ -1,0 +1,5 @@
+pub mod Steps
+pub mod Improved
+pub mod Iterates
+pub mod Rounded
+pub mod Started

@@ -1,0 +1,2 @@
+pub mod Improving
+pub mod Iterating
