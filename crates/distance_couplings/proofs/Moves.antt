@@ -187,7 +187,7 @@ laid-all look xs ps ys qs codes R p p₀ m m₀ ep em =
     ap (λ (n : ℕ). laid true n p m) (sym (freely-length look xs ps ys qs codes R)) ∙ ap₂ (λ (u : List ℕ) (w : List Float). laid true (length cs) u w) ep em
 
 -- the part of a list from f to t, which are two offsets
-part-read : {A : Type 0} (O : List ℕ) (x f t : ℕ) (l : List A) → f ≡ getD O x 0 → t ≡ getD O (x + 1) 0 → getD O x 0 ≤ getD O (x + 1) 0 → take (t - f) (drop f l) ≡ slice (getD O x 0) (getD O (x + 1) 0) l
+pub part-read : {A : Type 0} (O : List ℕ) (x f t : ℕ) (l : List A) → f ≡ getD O x 0 → t ≡ getD O (x + 1) 0 → getD O x 0 ≤ getD O (x + 1) 0 → take (t - f) (drop f l) ≡ slice (getD O x 0) (getD O (x + 1) 0) l
 part-read O x f t l ef et h = part-is f t l (omega arith) ∙ ap₂ (λ (a b : ℕ). slice a b l) ef et
 
 module _ (O T : List ℕ) (P : List Float) (U S : List ℕ) (Q : List Float) (x y : ℕ) (RL : RowRead O T P x) (RR : RowRead U S Q y)

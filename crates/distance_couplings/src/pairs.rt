@@ -11,7 +11,7 @@ ghost use Rattle.distance_theory.proofs.Bests.{laid};
 ghost use Rattle.distance_theory.proofs.PairRows.{readsRow, RowRead, layRead, layPair};
 
 // Whether the entries of state x can be read.
-pub(crate) fn row_reads(offsets: &[u32], targets: &[u32], probs: &[f64], x: usize) -> bool
+pub fn row_reads(offsets: &[u32], targets: &[u32], probs: &[f64], x: usize) -> bool
     ensures { λ r. ⌜ r ≡ readsRow (chainColumns (now (offsets .entry)) (now (targets .entry)) (now (probs .entry)) []) x ⌝ }
 {
     if x >= offsets.len() {

@@ -45,7 +45,7 @@ pub record Ready (G : Metric) (lefts rights codes : List ℕ) (C D : ChainColumn
   pub right-few : (k : ℕ) → k < length (G .found) → length (rowR G (pairAt (G .found) k)) ≤ 32
 
 -- a row that can be read has a probability for each target
-beside-rows : (C : ChainColumns) (x : ℕ) → readsRow C x ≡ true → length (rowRates C x) ≡ length (rowTargets C x)
+pub beside-rows : (C : ChainColumns) (x : ℕ) → readsRow C x ≡ true → length (rowRates C x) ≡ length (rowTargets C x)
 beside-rows C x e =
     let (a₁, r₁) = and-t (ltb (x + 1) (length (C .offsets))) _ e in
     let (a₂, r₂) = and-t (leb (begins C x) (begins C (x + 1))) _ r₁ in
