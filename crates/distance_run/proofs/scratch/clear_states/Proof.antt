@@ -1,0 +1,52 @@
+-- The loop's invariant: the first k entries are zero.
+use Prim.Native.Nat.{_-_}
+use native.Mathlib.Omega.{arith}
+use lib.ListN.{length}
+use Rattle.distance_run.proofs.Clearing.{Clears, clears-start, clears-next, clears-end}
+use Rattle.distance_run.proofs.scratch.clear_states.Statement.{statement}
+use Rattle.distance_run.proofs.scratch.clear_states.Tie as tie
+
+abbrev Inv-loop : tie.InvT-loop
+Inv-loop list₀ k₀ list k = Clears 0 0 list₀ list k
+
+abbrev μ-loop : tie.MeasureT-loop
+μ-loop list₀ k₀ list k = length list₀ - k
+
+loop-holds : tie.Need-loop-holds Inv-loop μ-loop
+loop-holds c = clears-start 0 0 _
+
+mul-list : tie.Need-mul-list Inv-loop μ-loop
+mul-list c = let h = c .loop-test .taken in omega arith
+
+slice-write-list : tie.Need-slice-write-list Inv-loop μ-loop
+slice-write-list c = let h = c .loop-test .taken in omega arith
+
+add-k : tie.Need-add-k Inv-loop μ-loop
+add-k c = let h = c .loop-test .taken in let b = c .before .loop .inv .left in let e = c .before .loop .inv .size in omega arith
+
+loop-less : tie.Need-loop-less Inv-loop μ-loop
+loop-less c = let h = c .loop-test .taken in let e = c .before .loop .inv .size in omega arith
+
+loop-again : tie.Need-loop-again Inv-loop μ-loop
+loop-again c = clears-next 0 0 (c .before .loop .inv) (c .loop-test .taken)
+
+same-length : tie.Need-same-length Inv-loop μ-loop
+same-length c = c .before .loop .inv .size
+
+returns : tie.Need-returns Inv-loop μ-loop
+returns c = clears-end 0 0 (c .before .loop .inv) (c .loop-test .left)
+
+pub clear-states-spec : {M : Type 1} → statement M
+clear-states-spec =
+    tie.close
+    (tie.spec
+    Inv-loop
+    μ-loop
+    loop-holds
+    mul-list
+    slice-write-list
+    add-k
+    loop-less
+    loop-again
+    same-length
+    returns)

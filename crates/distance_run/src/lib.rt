@@ -1,0 +1,3 @@
+// The run of `distance` (kantorovich.rs), below the checks of its arguments.
+pub mod scratch; // scratch.rt: lent lists all zero
+pub mod account; // account.rt: occupancy and contributions
