@@ -1,3 +1,4 @@
 // The run of `distance` (kantorovich.rs), below the checks of its arguments.
 pub mod scratch; // scratch.rt: lent lists all zero
 pub mod account; // account.rt: occupancy and contributions
+pub mod solve; // solve.rt: first couplings, refusals 18 and 16, the rounds
