@@ -1,3 +1,4 @@
 pub mod Clearing
 pub mod Accounts
 pub mod Solving
+pub mod Founding

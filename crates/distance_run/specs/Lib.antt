@@ -1,2 +1,3 @@
 pub mod Account
 pub mod Solve
+pub mod Told
