@@ -2,3 +2,4 @@ pub mod Clearing
 pub mod Accounts
 pub mod Solving
 pub mod Founding
+pub mod Ways

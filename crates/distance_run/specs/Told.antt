@@ -10,6 +10,7 @@ use Rattle.chain_theory.specs.Columns.{ChainColumns}
 use Rattle.distance_theory.specs.Pairs.{most}
 use Rattle.distance_theory.specs.declared.MetricOptions.{MetricOptions}
 use Rattle.distance_theory.specs.declared.Distance.{Distance}
+use Rattle.distance_theory.specs.Outcome.{Run}
 use Rattle.distance_costs.specs.Costs.{Priced, pricing}
 use Rattle.distance_contributions.specs.Outcome.{row}
 use Rattle.distance_run.specs.Account.{accountOf}
@@ -49,3 +50,12 @@ abbrev pub foundOf : ℕ → List ℕ → List ℕ → List ℕ → ChainColumns
 foundOf n lefts rights codes C D seenL seenR γ o p m =
     foundIf (ltb most n) (foundFrom n lefts rights seenL seenR γ o
     (solveOf n lefts rights codes C D ((pricing n lefts rights seenL seenR γ (replicate most nought)) .cost) γ o (replicate most 0) (replicate most 0) p m (take n (replicate most nought))))
+
+-- ---- of a run of the definition
+
+abbrev pub toldIf : ℕ → Run → Told
+toldIf zero R = record { refusal = 0; distance = R .distance; records = row (R .listed) }
+toldIf (suc r) R = refusedWith (suc r)
+
+abbrev pub toldOf : Run → Told
+toldOf R = toldIf (R .refusal) R
