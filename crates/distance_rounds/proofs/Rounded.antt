@@ -67,7 +67,7 @@ module _ {G : Metric} {tol : Float} {T : Task} {P₀ : List ℕ} {M₀ : List Fl
         ext-getD [] (policyIn (T .starts) (w .lengths) (w .places) (w .masses) n) (s .policy) (omega arith)
         (λ i h. policy-at (T .starts) (w .lengths) (w .places) (w .masses) n i (omega arith) ∙ K .shares-are i (omega arith))
 
-    in-store : InStore G (s .policy) (T .starts) (w .lengths) (w .places) (w .masses) n
+    pub in-store : InStore G (s .policy) (T .starts) (w .lengths) (w .places) (w .masses) n
     in-store = record {
       pairs = refl;
       stored = U .stored;

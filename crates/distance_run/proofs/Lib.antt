@@ -3,3 +3,4 @@ pub mod Accounts
 pub mod Solving
 pub mod Founding
 pub mod Ways
+pub mod Whole
