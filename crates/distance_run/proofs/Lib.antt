@@ -4,3 +4,4 @@ pub mod Solving
 pub mod Founding
 pub mod Ways
 pub mod Whole
+pub mod Chains

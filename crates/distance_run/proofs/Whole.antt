@@ -12,6 +12,7 @@ use lib.Ieee.{Float, nan, inf, binary64, sub, mul, lt}
 use borrow.Author.Tests.{le-leb}
 use Rattle.numbers.specs.Real.{nought, one, eps, tenth}
 use Rattle.numbers.specs.Lists.{over, all}
+use Rattle.numbers.proofs.Bools.{lt-or-ge}
 use Rattle.chain_theory.specs.Columns.{ChainColumns}
 use Rattle.transport_theory.specs.Transport.{keep}
 use Rattle.distance_theory.specs.Pairs.{Pair, most}
@@ -190,3 +191,11 @@ module _ {G : Metric} {l r codes : List ℕ} {C D : ChainColumns} (Y : Ready G l
       found-rest : (b : Bool) → odd ≡ b → foundFrom n l r u w γ o S ≡ R
       found-rest true e = found-16 e
       found-rest false e = found-on e (lt eps ((timeIn G γ o) .mass)) refl
+
+    pub told-found : foundFrom n l r u w γ o S ≡ R
+    told-found = pick (lt-or-ge (length p) (room G (G .found))) (lt-or-ge (length m) (room G (G .found)))
+      where
+        pick : (length p < room G (G .found)) ⊎ (room G (G .found) ≤ length p) → (length m < room G (G .found)) ⊎ (room G (G .found) ≤ length m) → foundFrom n l r u w γ o S ≡ R
+        pick (inl h) k = found-18 (inl h) (omega arith)
+        pick (inr h) (inl k) = found-18 (inr k) (omega arith)
+        pick (inr h) (inr k) = found-rest h k (omega arith) odd refl
