@@ -5,3 +5,4 @@ pub mod Founding
 pub mod Ways
 pub mod Whole
 pub mod Chains
+pub mod Explored
