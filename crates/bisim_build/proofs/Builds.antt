@@ -17,7 +17,8 @@ use Rattle.bisim_core.specs.Data.{Edge, Transitions, Columns, columns}
 use Rattle.build_theory.specs.Edges.{edges, offsets}
 use Rattle.bisim_core.specs.declared.wlts.Initial.{Initial}
 use Rattle.build_theory.specs.Checks.{labelsOf, oversized, outside, unweighed, crowded, missing, refusal}
-use Rattle.build_theory.proofs.Steps.{rank, weightOf, Rising, edgesIn, Space, space, laid, shortest, Ending, ending, outcome, planned, Writable, Written}
+use Rattle.build_theory.specs.Plan.{Space, space, weightOf, laid, shortest, Ending, ending, outcome, planned}
+use Rattle.build_theory.proofs.Steps.{rank, Rising, edgesIn, Writable, Written}
 use Rattle.bisim_edges.specs.declared.planner.Planned as answers
 use Rattle.bisim_edges.specs.declared.planner.Planned.the-variants as answer
 use Rattle.bisim_build.specs.Build.{short, Outcome, ends, made, settled, build}
@@ -112,13 +113,13 @@ module _ (Z : Call) (few : Z .given ≤ 4096 → Z .given ≤ length (Z .T)) {s 
       let (p, q) = or-f (ltb 4096 given) (ltb 256 (length (labelsOf C given))) b in
       ap (λ (b : Bool). check 4 (outside states initial C given) (check 5 (unweighed C given) (check 6 (crowded states C given) (check 7 (missing C given || b) 0)))) (shorts (ltb-false _ _ p)))
 
-  module _ {p : answers.Planned} {L T : List ℕ} {W : List Float} (f : ending p (space L T W) ≡ planned answer.Refused answer.Edges states initial C given s S) where
+  module _ {p : answers.Planned} {L T : List ℕ} {W : List Float} (f : ending p (space L T W) ≡ planned rank answer.Refused answer.Edges states initial C given s S) where
     plan-is : (q : answers.Planned) → p ≡ q
-        → ending q (space L T W) ≡ outcome number answer.Refused (answer.Edges (length (edges C given)) (length (labelsOf C given))) S (laid (labelsOf C given) (edges C given) S)
+        → ending q (space L T W) ≡ outcome number answer.Refused (answer.Edges (length (edges C given)) (length (labelsOf C given))) S (laid rank (labelsOf C given) (edges C given) S)
     unfolding planned
     plan-is q g =
         ap (λ (x : answers.Planned). ending x (space L T W)) (sym g) ∙ f
-        ∙ ap (λ (x : ℕ). outcome x answer.Refused (answer.Edges (length (edges C given)) (length (labelsOf C given))) S (laid (labelsOf C given) (edges C given) S)) number-is
+        ∙ ap (λ (x : ℕ). outcome x answer.Refused (answer.Edges (length (edges C given)) (length (labelsOf C given))) S (laid rank (labelsOf C given) (edges C given) S)) number-is
 
     pub plan-refused : (r : ℕ) → p ≡ answer.Refused r → ends (Refused r) (columns L (M .offsets) (M .edgeLabels) (M .edgeTargets) W) ≡ build states initial C given M
     unfolding build
@@ -134,7 +135,7 @@ module _ (Z : Call) (few : Z .given ≤ 4096 → Z .given ≤ length (Z .T)) {s 
       abbrev E : List Edge
       E = edges C given
 
-      ended : (number ≡ 0) × (m ≡ length E) × (d ≡ length (labelsOf C given)) × (space L T W ≡ laid (labelsOf C given) E S)
+      ended : (number ≡ 0) × (m ≡ length E) × (d ≡ length (labelsOf C given)) × (space L T W ≡ laid rank (labelsOf C given) E S)
       ended = edges-end number _ _ m d S _ (space L T W) (plan-is (answer.Edges m d) g)
 
       passed : Passed states initial C given × (short states given M ≡ false)

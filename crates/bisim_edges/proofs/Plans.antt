@@ -20,7 +20,8 @@ use Rattle.build_theory.specs.Edges.{join, nonzero, edges, numberedAt}
 use Rattle.bisim_core.specs.declared.wlts.Initial.{Initial}
 use Rattle.bisim_core.proofs.Distinct.{intern-has, distinct-length}
 use Rattle.build_theory.specs.Checks.{labelsOf, oversized, outside, unweighed, crowded, reach, missing, refusal}
-use Rattle.build_theory.proofs.Steps.{Interned, Keys, Sorted, Arrangeable, Arranged, rank, weightOf, joined, Joined, Space, space, laid, shortest, ending, outcome, planned}
+use Rattle.build_theory.specs.Plan.{Space, space, weightOf, laid, shortest, ending, outcome, planned}
+use Rattle.build_theory.proofs.Steps.{Interned, Keys, Sorted, Arrangeable, Arranged, rank, joined, Joined}
 use Rattle.bisim_edges.specs.declared.planner.Planned.{Planned}
 use Rattle.bisim_edges.specs.declared.planner.Planned.the-variants.{Edges, Refused}
 
@@ -68,7 +69,7 @@ module _ (Z : Asked) where
   abbrev number : ℕ
   number = refusal states initial C given cramped
 
-  pub too-many : 4096 < given → ending (Refused 3) M ≡ planned Refused Edges states initial C given short M
+  pub too-many : 4096 < given → ending (Refused 3) M ≡ planned rank Refused Edges states initial C given short M
   unfolding planned
   too-many h = refused-is 3 number _ M _ (check-hit 3 (oversized states C given) _ (large (ltb 2000 states) (ltb 4096 given) (ltb 256 (length D)) (lt-ltb 4096 given h))) (λ z. omega arith)
     where
@@ -114,7 +115,7 @@ module _ (Z : Asked) where
           (skip _ _ _ (le-ltb 4096 given most) counted)
           ∙ ap (λ (b : Bool). check 3 (oversized states C given) (check 4 (outside states initial C given) (check 5 (unweighed C given) (check 6 (crowded states C given) (check 7 b 0))))) f
 
-      pub refused : r ≢ 0 → ending (Refused r) M ≡ planned Refused Edges states initial C given short M
+      pub refused : r ≢ 0 → ending (Refused r) M ≡ planned rank Refused Edges states initial C given short M
       unfolding planned
       refused h = refused-is r number _ M _ (sym number-is) h
 
@@ -166,13 +167,13 @@ module _ (Z : Asked) where
             ap (λ (x : ℕ). record { source = getD (C .sources) j 0; label = x; target = getD (C .targets) j 0; weight = getD (C .weights) j nan }) (sym (N .ids (let f = few in omega arith) j h (let g = there in omega arith)))))
 
         pub done : {L T : List ℕ} {U : List Float} {m : ℕ} → L ≡ over (take count known') (M .labels) → Joined K given (C .weights) (M .triples) (M .weights) T U m
-            → ending (Edges m count) (space L T U) ≡ planned Refused Edges states initial C given short M
+            → ending (Edges m count) (space L T U) ≡ planned rank Refused Edges states initial C given short M
         unfolding planned
         done {L} {T} {U} {m} l J =
             put m count L T U (length (edges C given)) (length D) (over D (M .labels)) (over (map rank (edges C given)) (M .triples)) (over (map weightOf (edges C given)) (M .weights))
             (J .count ∙ ap length edges-are) (count-is few) (l ∙ ap (λ (x : List ℕ). over x (M .labels)) (labels-are few))
             (J .triples ∙ ap (λ (x : List Edge). over (map rank x) (M .triples)) edges-are) (J .sums ∙ ap (λ (x : List Edge). over (map weightOf x) (M .weights)) edges-are)
-            ∙ done-is number (Edges (length (edges C given)) (length D)) M (laid D (edges C given) M) unrefused
+            ∙ done-is number (Edges (length (edges C given)) (length D)) M (laid rank D (edges C given) M) unrefused
           where
             put : (m c : ℕ) (L T : List ℕ) (U : List Float) (m' c' : ℕ) (L' T' : List ℕ) (U' : List Float) → m ≡ m' → c ≡ c' → L ≡ L' → T ≡ T' → U ≡ U'
                 → ending (Edges m c) (space L T U) ≡ ending (Edges m' c') (space L' T' U')

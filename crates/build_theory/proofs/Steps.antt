@@ -1,6 +1,6 @@
 -- What the parts of `build` ask for and leave behind: the words of their contracts.
 use mathlib.Core.Path.{_≡_}
-use Prim.Native.Nat.{ℕ, zero, suc, min, _+_, _*_, _/_, _%_, _≤_, _<_}
+use Prim.Native.Nat.{ℕ, zero, suc, _+_, _*_, _/_, _%_, _≤_, _<_}
 use mathlib.Core.List.{List, [], _∷_, _++_, map}
 use mathlib.Core.Bool.{Bool, true, false, _||_}
 use lib.Dec.{ltb}
@@ -13,9 +13,10 @@ use Rattle.numbers.specs.Search.{seek}
 use Rattle.bisim_core.specs.Data.{Edge, Transitions}
 use Rattle.bisim_core.specs.Ids.{intern, distinct}
 use Rattle.bisim_core.specs.Edges.{crowdedIn}
-use Rattle.build_theory.specs.Edges.{join, nonzero, sortEdges, edges}
+use Rattle.build_theory.specs.Edges.{join, nonzero, sortEdges}
 use Rattle.bisim_core.specs.declared.wlts.Initial.{Initial}
-use Rattle.build_theory.specs.Checks.{labelsOf, outside, unweighed, crowded, reach, refusal}
+use Rattle.build_theory.specs.Checks.{outside, unweighed, crowded, reach}
+use Rattle.build_theory.specs.Plan.{weightOf}
 
 -- ---- the labels given, interned into a store: r of them, or more than it holds; their ids go into a list
 
@@ -110,50 +111,12 @@ pub record Pushed (T : List ℕ) (W : List Float) (m q : ℕ) (w : Float) (T' : 
 abbrev pub joined : List ℕ → ℕ → List Float → List Edge
 joined K n W = nonzero (join (map (edgeOf W) (take n K)))
 
-abbrev pub weightOf : Edge → Float
-weightOf a = a .weight
-
 pub record Joined (K : List ℕ) (n : ℕ) (W : List Float) (T : List ℕ) (U : List Float) (T' : List ℕ) (U' : List Float) (r : ℕ) : Type 0 where
   pub triples : T' ≡ over (map rank (joined K n W)) T
   pub sums : U' ≡ over (map weightOf (joined K n W)) U
   pub count : r ≡ length (joined K n W)
 
--- ---- a plan: the lists that it fills, and how it ends
-
-pub record Space : Type 0 where
-  pub labels : List ℕ
-  pub triples : List ℕ
-  pub weights : List Float
-
-abbrev pub space : List ℕ → List ℕ → List Float → Space
-space l t w = record { labels = l; triples = t; weights = w }
-
--- the label values by their ids, and the edges, over the front of the lists
-abbrev pub laid : List ℕ → List Edge → Space → Space
-laid D E M = space (over D (M .labels)) (over (map rank E) (M .triples)) (over (map weightOf E) (M .weights))
-
-pub record Ending (A : Type 0) : Type 0 where
-  pub answer : A
-  pub memory : Space
-
-abbrev pub ending : {A : Type 0} → A → Space → Ending A
-ending r M = record { answer = r; memory = M }
-
--- a refusal leaves the lists as they were
-abbrev pub outcome : {A : Type 0} → ℕ → (ℕ → A) → A → Space → Space → Ending A
-outcome zero refuse done old new = ending done new
-outcome (suc r) refuse done old new = ending (refuse (suc r)) old
-
--- how many entries each list has at least
-abbrev pub shortest : Space → ℕ
-shortest M = min (length (M .labels)) (min (length (M .triples)) (length (M .weights)))
-
--- the plan of the transitions given: a refusal by its number, or the counts of edges and labels
-unfoldable pub planned : {A : Type 0} → (ℕ → A) → (ℕ → ℕ → A) → ℕ → Initial → Transitions → ℕ → Bool → Space → Ending A
-planned refuse done states initial C given short M =
-    outcome (refusal states initial C given (short || ltb (shortest M) given)) refuse (done (length (edges C given)) (length (labelsOf C given))) M (laid (labelsOf C given) (edges C given) M)
-
--- the checks on the way to it, `count` labels being interned or more than there may be: the label ids become sorted keys
+-- ---- the checks on the way to it, `count` labels being interned or more than there may be: the label ids become sorted keys
 pub record Arrangeable (given count : ℕ) (I : List ℕ) : Type 0 where
   pub few : given ≤ 4096
   pub room : given ≤ length I
