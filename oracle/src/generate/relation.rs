@@ -190,6 +190,30 @@ pub fn stars(rng: &mut Rng) -> RelationArgs {
     a
 }
 
+/// A state on each side that jumps to 6 to 31 others. Their exit rates rise by steps, those of the right between those of
+/// the left, so that each is close in rate to its neighbours alone: flow has to be taken back along many of them.
+pub fn zigzags(rng: &mut Rng) -> RelationArgs {
+    let targets = 6 + rng.below(26);
+    let mut side = |half: f64| {
+        let rates: Vec<f64> = (0..targets).map(|_| rng.unit() + 0.01).collect();
+        let total: f64 = rates.iter().sum();
+        let jumps = (2..).zip(&rates).map(|(t, x)| (0, 7, t, x / total));
+        let leaves = (2..).zip(0..targets).map(|(t, i)| {
+            let exit = (0.05 * (2.0 * i as f64 + half)).exp();
+            (t, 7, 1, exit)
+        });
+        let list: Vec<Transition> = jumps.chain(leaves).collect();
+        from_transitions(targets + 2, Some(0), &list)
+    };
+    let (left, right) = (side(0.0), side(1.0));
+    let mut a = between(&left, &right);
+    let classes = [vec![1, 9], vec![0; targets]].concat();
+    (a.left_classes, a.right_classes) = (classes.clone(), classes);
+    a.epsilon = rng.unit() * 0.6;
+    a.rho = (0.05 * (1.2 + 1.5 * rng.unit())).exp();
+    a
+}
+
 /// A model of so many states a side and a changed copy, or a long line.
 pub fn large(rng: &mut Rng, states: usize, kinds: usize) -> RelationArgs {
     let mut a = match rng.below(4) {
@@ -297,6 +321,9 @@ pub fn relations(rng: &mut Rng, scale: usize, f: &mut dyn FnMut(RelationArgs)) {
     }
     for _ in 0..3_000 * scale {
         f(at_a_step(rng));
+    }
+    for _ in 0..2_000 * scale {
+        f(zigzags(rng));
     }
     for (total, room) in [
         (2_000, 2_000),
