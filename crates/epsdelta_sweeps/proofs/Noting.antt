@@ -25,32 +25,32 @@ one-more A c k all e j h l = pick (eq-or-ne j k)
     pick (inr p) = all j h (omega arith)
 
 -- the levels of n states, at first
-pub first-levels : (n m : ℕ) → 64 * n ≤ m → (n * 64 ≤ length (take (64 * n) (replicate {A = ℕ} m 1))) × ((i : ℕ) → i < n * 64 → getD (take (64 * n) (replicate {A = ℕ} m 1)) i 0 ≡ 1)
+pub first-levels : (n m : ℕ) → 64 * n ≤ m → (n * 64 ≤ length (take (64 * n) (replicate {A = ℕ} m 2))) × ((i : ℕ) → i < n * 64 → getD (take (64 * n) (replicate {A = ℕ} m 2)) i 0 ≡ 2)
 first-levels n m h =
-    let z = take-replicate-length {A = ℕ} (64 * n) m 1 h in
-    (omega arith, λ i l. getD-take (64 * n) (replicate m 1) i 0 (omega arith) ∙ getD-replicate m i 1 0 (omega arith))
+    let z = take-replicate-length {A = ℕ} (64 * n) m 2 h in
+    (omega arith, λ i l. getD-take (64 * n) (replicate m 2) i 0 (omega arith) ∙ getD-replicate m i 2 0 (omega arith))
 
 -- levels before place i have fallen, the others not yet
 pub record Falling (C out : List ℕ) (i : ℕ) : Type 0 where
   pub long : length out ≡ length C
-  pub fallen : (j : ℕ) → getD out j 0 < 1 → getD C j 0 < 2
+  pub fallen : (j : ℕ) → getD out j 0 < 1 → getD C j 0 < 3
   pub left : (j : ℕ) → i ≤ j → getD out j 0 ≡ getD C j 0
 
-pub falls : (C out : List ℕ) (i : ℕ) → i < length C → Falling C out i → length (set out i (getD out i 0 / 2)) ≡ length out → Falling C (set out i (getD out i 0 / 2)) (i + 1)
+pub falls : (C out : List ℕ) (i : ℕ) → i < length C → Falling C out i → length (set out i (getD out i 0 / 3)) ≡ length out → Falling C (set out i (getD out i 0 / 3)) (i + 1)
 falls C out i h F z = record {
   long = z ∙ F .long;
   fallen = λ j l. pick j l (eq-or-ne j i);
-  left = λ j l. getD-set-other out i j (getD out i 0 / 2) 0 (λ e. omega arith) ∙ F .left j (omega arith);
+  left = λ j l. getD-set-other out i j (getD out i 0 / 3) 0 (λ e. omega arith) ∙ F .left j (omega arith);
 }
   where
-    pick : (j : ℕ) → getD (set out i (getD out i 0 / 2)) j 0 < 1 → (j ≡ i) ⊎ (j ≢ i) → getD C j 0 < 2
+    pick : (j : ℕ) → getD (set out i (getD out i 0 / 3)) j 0 < 1 → (j ≡ i) ⊎ (j ≢ i) → getD C j 0 < 3
     pick j l (inl e) =
         let k : i < length out = let w = F .long in omega arith in
-        let g : getD (set out i (getD out i 0 / 2)) j 0 ≡ getD out i 0 / 2 = ap (λ (x : ℕ). getD (set out i (getD out i 0 / 2)) x 0) e ∙ getD-set-same out i (getD out i 0 / 2) 0 k in
+        let g : getD (set out i (getD out i 0 / 3)) j 0 ≡ getD out i 0 / 3 = ap (λ (x : ℕ). getD (set out i (getD out i 0 / 3)) x 0) e ∙ getD-set-same out i (getD out i 0 / 3) 0 k in
         let o = F .left i (omega arith) in
         let c : getD C j 0 ≡ getD C i 0 = ap (λ (x : ℕ). getD C x 0) e in
         omega arith
-    pick j l (inr d) = let g = getD-set-other out i j (getD out i 0 / 2) 0 d in F .fallen j (omega arith)
+    pick j l (inr d) = let g = getD-set-other out i j (getD out i 0 / 3) 0 d in F .fallen j (omega arith)
 
 -- ---- after a turn without a strike
 

@@ -208,7 +208,7 @@ fn run_in(
 )
     requires { ⌜ RowsFit states (now starts) (now targets) (now probs) × (states ≤ length (now exits)) ⌝ }
     requires { ⌜ ((R : List Bool) × (now relation ≡ packed R) × (length R ≡ states * states)) ⌝ }
-    requires { ⌜ (states * 64 ≤ length (now changed)) × ((i : ℕ) → i < states * 64 → getD (now changed) i 0 ≡ 1) ⌝ }
+    requires { ⌜ (states * 64 ≤ length (now changed)) × ((i : ℕ) → i < states * 64 → getD (now changed) i 0 ≡ 2) ⌝ }
     ensures { λ r. ⌜ RunsTo states (now (exits .entry)) (now (starts .entry)) (now (targets .entry)) (now (probs .entry)) need (now (relation .entry)) (now (relation .exit)) ⌝ }
 {
     let mut struck = true;
@@ -241,7 +241,7 @@ fn run_large(
     requires { ⌜ ((R : List Bool) × (now relation ≡ packed R) × (length R ≡ states * states)) ⌝ }
     ensures { λ r. ⌜ RunsTo states (now (exits .entry)) (now (starts .entry)) (now (targets .entry)) (now (probs .entry)) need (now (relation .entry)) (now (relation .exit)) ⌝ }
 {
-    let mut changed = [1u8; 128000];
+    let mut changed = [2u8; 128000];
     let levels = 64 * states;
     run_in(
         exits,
@@ -270,7 +270,7 @@ pub(crate) fn run(
     ensures { λ r. ⌜ RunsTo states (now (exits .entry)) (now (starts .entry)) (now (targets .entry)) (now (probs .entry)) need (now (relation .entry)) (now (relation .exit)) ⌝ }
 {
     if states <= 64 {
-        let mut changed = [1u8; 4096];
+        let mut changed = [2u8; 4096];
         let levels = 64 * states;
         run_in(
             exits,

@@ -1,5 +1,6 @@
 -- Flow tests that need no run. A test reads of the relation only the entries of targets of one state with targets of the other, so a pair that passed passes again if none of them was cleared since.
--- Code notes strikes as levels: entry u * 64 + v % 64 of a list is 2 after a strike of u and v in this sweep, 1 after one in the sweep before and everywhere in the first sweep, and 0 otherwise; states v that are 64 apart share it.
+-- Code notes strikes as levels: entry u * 64 + v % 64 of a list is 3 after a strike of u and v in this sweep, 1 after one in the sweep before, 2 everywhere else in the first sweep, and 0 otherwise; states v that are 64 apart share it.
+-- A strike of u and v comes in the turns of the lower of them, so one with a state below a came before every turn of a in its sweep.
 use mathlib.Core.Path.{_≡_, refl, sym, ap, subst, _∙_}
 use Prim.Native.Nat.{ℕ, suc, _≤_, _<_, _+_, _*_, _%_}
 use mathlib.Core.Bool.{Bool, true, false, true≢false}
@@ -81,19 +82,23 @@ module _ (n : ℕ) (R R' : List Bool) where
 
 -- ---- the words of the contracts
 
--- no strike of u and v is noted at level m or above
-abbrev pub QuietAt : ℕ → ℕ → List ℕ → ℕ → ℕ → Type 0
-QuietAt n m C u v = (u < n) × (v < n) × (getD C (u * 64 + v % 64) 0 < m)
+-- before the turn of a pair of a: no strike of u and v is noted since its turn in the sweep before
+abbrev pub QuietAt : ℕ → List ℕ → ℕ → ℕ → ℕ → Type 0
+QuietAt n C a u v = (u < n) × (v < n) × (getD C (u * 64 + v % 64) 0 < 2) × (a ≤ u → a ≤ v → getD C (u * 64 + v % 64) 0 < 1)
+
+-- after it: none is noted since its turn in this sweep
+abbrev pub StillAt : ℕ → List ℕ → ℕ → ℕ → ℕ → Type 0
+StillAt n C a u v = (u < n) × (v < n) × (a ≤ u → a ≤ v → getD C (u * 64 + v % 64) 0 < 3)
 
 -- the levels after a strike of s and t
 abbrev pub noted : List ℕ → ℕ → ℕ → List ℕ
-noted C s t = set (set C (s * 64 + t % 64) 2) (t * 64 + s % 64) 2
+noted C s t = set (set C (s * 64 + t % 64) 3) (t * 64 + s % 64) 3
 
--- none of any entry that the tests of a and b read, and they read some
-pub record Quiet (n : ℕ) (S T : List ℕ) (m : ℕ) (C : List ℕ) (a b : ℕ) : Type 0 where
+-- X holds of any entry that the tests of a and b read, and they read some
+pub record Quiet (S T : List ℕ) (X : ℕ → ℕ → Type 0) (a b : ℕ) : Type 0 where
   pub some : getD S a 0 < getD S (a + 1) 0
   pub more : getD S b 0 < getD S (b + 1) 0
-  pub at : (i k : ℕ) → getD S a 0 ≤ i → i < getD S (a + 1) 0 → getD S b 0 ≤ k → k < getD S (b + 1) 0 → QuietAt n m C (getD T i 0) (getD T k 0)
+  pub at : (i k : ℕ) → getD S a 0 ≤ i → i < getD S (a + 1) 0 → getD S b 0 ≤ k → k < getD S (b + 1) 0 → X (getD T i 0) (getD T k 0)
 
 -- both tests of a pair pass, if it stands and its lower state has an exit
 abbrev pub Passes : ℕ → List Float → List ℕ → List ℕ → List Float → Float → List Bool → ℕ → ℕ → Type 0
@@ -101,33 +106,34 @@ Passes n E S T P need R a b = isZero (getD E a nan) ≡ false → holds n R a b 
 
 -- both tests of a pair pass against the stored relation, if they read nothing that is noted
 abbrev pub Settled : ℕ → List ℕ → List ℕ → List Float → Float → List ℕ → List ℕ → ℕ → ℕ → Type 0
-Settled n S T P need store C a b = (R : List Bool) → store ≡ packed R → Quiet n S T 1 C a b → (testIn n S T P need R a b ≡ true) × (testIn n S T P need R b a ≡ true)
+Settled n S T P need store C a b = (R : List Bool) → store ≡ packed R → Quiet S T (QuietAt n C a) a b → (testIn n S T P need R a b ≡ true) × (testIn n S T P need R b a ≡ true)
 
--- what the levels C say before the turn of (s, t): a pair that reads nothing noted in this sweep or the one before passes, and one that had its turn in this sweep and reads nothing noted in it
+-- what the levels C say before the turn of (s, t): a pair that reads nothing noted since its turn in the sweep before passes, and one that had its turn in this sweep and reads nothing noted since
 pub record Noted (n : ℕ) (E : List Float) (S T : List ℕ) (P : List Float) (need : Float) (store C : List ℕ) (s t : ℕ) : Type 0 where
   pub relation : List Bool
   pub bytes : store ≡ packed relation
   pub long : n * 64 ≤ length C
-  pub earlier : (a b : ℕ) → a < b → b < n → Quiet n S T 1 C a b → Passes n E S T P need relation a b
-  pub swept : (a b : ℕ) → a < b → b < n → a ≤ s → (a ≡ s → b < t) → Quiet n S T 2 C a b → Passes n E S T P need relation a b
+  pub earlier : (a b : ℕ) → a < b → b < n → Quiet S T (QuietAt n C a) a b → Passes n E S T P need relation a b
+  pub swept : (a b : ℕ) → a < b → b < n → a ≤ s → (a ≡ s → b < t) → Quiet S T (StillAt n C a) a b → Passes n E S T P need relation a b
 
 -- ---- their laws
 
--- an entry below m of a list with 2 stored at two places is at neither, and was below m
-unnoted : (C : List ℕ) (p q x m : ℕ) → p < length C → q < length C → m ≤ 2 → getD (set (set C p 2) q 2) x 0 < m → (x ≢ p) × (x ≢ q) × (getD C x 0 < m)
-unnoted C p q x m hp hq l h = pick (eq-or-ne x q) (eq-or-ne x p)
+pub quiet-map : {S T : List ℕ} {X Y : ℕ → ℕ → Type 0} {a b : ℕ} → ((u v : ℕ) → X u v → Y u v) → Quiet S T X a b → Quiet S T Y a b
+quiet-map {T = T} f Q = record { some = Q .some; more = Q .more; at = λ i k x y z w. f (getD T i 0) (getD T k 0) (Q .at i k x y z w) }
+
+-- an entry below 3 of a list with 3 stored at two places is at neither, and is as it was
+unnoted : (C : List ℕ) (p q x : ℕ) → p < length C → q < length C → getD (set (set C p 3) q 3) x 0 < 3 → (x ≢ p) × (x ≢ q) × (getD (set (set C p 3) q 3) x 0 ≡ getD C x 0)
+unnoted C p q x hp hq h = pick (eq-or-ne x q) (eq-or-ne x p)
   where
-    pick : (x ≡ q) ⊎ (x ≢ q) → (x ≡ p) ⊎ (x ≢ p) → (x ≢ p) × (x ≢ q) × (getD C x 0 < m)
+    pick : (x ≡ q) ⊎ (x ≢ q) → (x ≡ p) ⊎ (x ≢ p) → (x ≢ p) × (x ≢ q) × (getD (set (set C p 3) q 3) x 0 ≡ getD C x 0)
     pick (inl e) z =
-        let k : q < length (set C p 2) = subst (λ (y : ℕ). q < y) (sym (length-set C p 2)) hq in
-        let g : getD (set (set C p 2) q 2) x 0 ≡ 2 = ap (λ (y : ℕ). getD (set (set C p 2) q 2) y 0) e ∙ getD-set-same (set C p 2) q 2 0 k in
+        let k : q < length (set C p 3) = subst (λ (y : ℕ). q < y) (sym (length-set C p 3)) hq in
+        let g : getD (set (set C p 3) q 3) x 0 ≡ 3 = ap (λ (y : ℕ). getD (set (set C p 3) q 3) y 0) e ∙ getD-set-same (set C p 3) q 3 0 k in
         absurd (omega arith)
     pick (inr d) (inl e) =
-        let g : getD (set (set C p 2) q 2) x 0 ≡ 2 = getD-set-other (set C p 2) q x 2 0 d ∙ ap (λ (y : ℕ). getD (set C p 2) y 0) e ∙ getD-set-same C p 2 0 hp in
+        let g : getD (set (set C p 3) q 3) x 0 ≡ 3 = getD-set-other (set C p 3) q x 3 0 d ∙ ap (λ (y : ℕ). getD (set C p 3) y 0) e ∙ getD-set-same C p 3 0 hp in
         absurd (omega arith)
-    pick (inr d) (inr e) =
-        let g : getD (set (set C p 2) q 2) x 0 ≡ getD C x 0 = getD-set-other (set C p 2) q x 2 0 d ∙ getD-set-other C p x 2 0 e in
-        (e, d, omega arith)
+    pick (inr d) (inr e) = (e, d, getD-set-other (set C p 3) q x 3 0 d ∙ getD-set-other C p x 3 0 e)
 
 -- a pair of row s up to t, but not (s, t), is before it
 not-last : (a b s t : ℕ) → a ≡ s → b < t + 1 → ((a ≡ s) → (b ≡ t) → ⊥) → b < t
@@ -137,34 +143,46 @@ not-last a b s t x g d = pick (eq-or-ne b t)
     pick (inl y) = absurd (d x y)
     pick (inr y) = omega arith
 
+-- u and v are states, and not s and t
+abbrev Apart : ℕ → ℕ → ℕ → ℕ → ℕ → Type 0
+Apart n s t u v = (u < n) × (v < n) × (u ≡ s → v ≡ t → ⊥) × (u ≡ t → v ≡ s → ⊥)
+
 -- a strike of s and t leaves what reads nothing noted as it was
-module _ {n : ℕ} {S T : List ℕ} {P : List Float} (F : RowsFit n S T P) (C : List ℕ) (long : n * 64 ≤ length C) {s t : ℕ} (hs : s < n) (ht : t < n) (m : ℕ) (low : m ≤ 2) where
-  un : (u v : ℕ) → QuietAt n m (noted C s t) u v → (u * 64 + v % 64 ≢ s * 64 + t % 64) × (u * 64 + v % 64 ≢ t * 64 + s % 64) × (getD C (u * 64 + v % 64) 0 < m)
-  un u v w = unnoted C (s * 64 + t % 64) (t * 64 + s % 64) (u * 64 + v % 64) m (omega arith) (omega arith) low (w .2)
+module _ (n : ℕ) (C : List ℕ) (long : n * 64 ≤ length C) {s t : ℕ} (hs : s < n) (ht : t < n) where
+  un : (u v : ℕ) → getD (noted C s t) (u * 64 + v % 64) 0 < 3
+      → (u * 64 + v % 64 ≢ s * 64 + t % 64) × (u * 64 + v % 64 ≢ t * 64 + s % 64) × (getD (noted C s t) (u * 64 + v % 64) 0 ≡ getD C (u * 64 + v % 64) 0)
+  un u v h = unnoted C (s * 64 + t % 64) (t * 64 + s % 64) (u * 64 + v % 64) (omega arith) (omega arith) h
 
-  quiet-before : (a b : ℕ) → Quiet n S T m (noted C s t) a b → Quiet n S T m C a b
-  quiet-before a b Q = record {
-    some = Q .some;
-    more = Q .more;
-    at = λ i j x y z w. let g = Q .at i j x y z w in (g .0, g .1, un (getD T i 0) (getD T j 0) g .2);
-  }
+  not-st : (u v : ℕ) → getD (noted C s t) (u * 64 + v % 64) 0 < 3 → u ≡ s → v ≡ t → ⊥
+  not-st u v h a b = un u v h .0 (ap (λ (i : ℕ). i * 64 + v % 64) a ∙ ap (λ (i : ℕ). s * 64 + i % 64) b)
 
-  module _ (R : List Bool) where
-    same : (u v : ℕ) → QuietAt n m (noted C s t) u v → (holds n (clear n R s t) u v ≡ holds n R u v) × (holds n (clear n R s t) v u ≡ holds n R v u)
-    same u v w =
-        let (x, y, z) = un u v w in
-        let f : u ≡ s → v ≡ t → ⊥ = λ a b. x (ap (λ (i : ℕ). i * 64 + v % 64) a ∙ ap (λ (i : ℕ). s * 64 + i % 64) b) in
-        let g : u ≡ t → v ≡ s → ⊥ = λ a b. y (ap (λ (i : ℕ). i * 64 + v % 64) a ∙ ap (λ (i : ℕ). t * 64 + i % 64) b) in
-        (clear-other n R s t u v hs ht (w .1) f g, clear-other n R s t v u hs ht (w .0) (λ a b. g b a) (λ a b. f b a))
+  not-ts : (u v : ℕ) → getD (noted C s t) (u * 64 + v % 64) 0 < 3 → u ≡ t → v ≡ s → ⊥
+  not-ts u v h a b = un u v h .1 (ap (λ (i : ℕ). i * 64 + v % 64) a ∙ ap (λ (i : ℕ). t * 64 + i % 64) b)
 
-    kept : (E : List Float) (need : Float) (a b : ℕ) → a < b → b < n → Quiet n S T m (noted C s t) a b → Passes n E S T P need R a b → Passes n E S T P need (clear n R s t) a b
-    kept E need a b l h Q g z e =
-        let (x, y) = g z (clear-within n R s t a b e) in
-        let la = F .targets-long a (omega arith) in
-        let lb = F .targets-long b h in (
-          test-same n (clear n R s t) R S T P need a b la lb (λ i j u v w r. same (getD T i 0) (getD T j 0) (Q .at i j u v w r) .0) ∙ x,
-          test-same n (clear n R s t) R S T P need b a lb la (λ i j u v w r. same (getD T j 0) (getD T i 0) (Q .at j i w r u v) .1) ∙ y,
-        )
+  quiet-before : (a u v : ℕ) → QuietAt n (noted C s t) a u v → QuietAt n C a u v
+  quiet-before a u v (x, y, l, f) = let (p, q, e) = un u v (omega arith) in (x, y, omega arith, λ i j. (let k = f i j in omega arith))
+
+  quiet-apart : (a u v : ℕ) → QuietAt n (noted C s t) a u v → Apart n s t u v
+  quiet-apart a u v (x, y, l, f) = (x, y, not-st u v (omega arith), not-ts u v (omega arith))
+
+  still-before : (a u v : ℕ) → StillAt n (noted C s t) a u v → StillAt n C a u v
+  still-before a u v (x, y, f) = (x, y, λ i j. (let k = f i j in let (p, q, e) = un u v k in omega arith))
+
+  still-apart : (a u v : ℕ) → a ≤ s → s < t → StillAt n (noted C s t) a u v → Apart n s t u v
+  still-apart a u v l m (x, y, f) = (x, y, λ i j. not-st u v (f (omega arith) (omega arith)) i j, λ i j. not-ts u v (f (omega arith) (omega arith)) i j)
+
+module _ {n : ℕ} {S T : List ℕ} {P : List Float} (F : RowsFit n S T P) {s t : ℕ} (hs : s < n) (ht : t < n) (R : List Bool) where
+  same : (u v : ℕ) → Apart n s t u v → (holds n (clear n R s t) u v ≡ holds n R u v) × (holds n (clear n R s t) v u ≡ holds n R v u)
+  same u v (x, y, f, g) = (clear-other n R s t u v hs ht y f g, clear-other n R s t v u hs ht x (λ a b. g b a) (λ a b. f b a))
+
+  kept : (E : List Float) (need : Float) (a b : ℕ) → a < b → b < n → Quiet S T (Apart n s t) a b → Passes n E S T P need R a b → Passes n E S T P need (clear n R s t) a b
+  kept E need a b l h Q g z e =
+      let (x, y) = g z (clear-within n R s t a b e) in
+      let la = F .targets-long a (omega arith) in
+      let lb = F .targets-long b h in (
+        test-same n (clear n R s t) R S T P need a b la lb (λ i j u v w r. same (getD T i 0) (getD T j 0) (Q .at i j u v w r) .0) ∙ x,
+        test-same n (clear n R s t) R S T P need b a lb la (λ i j u v w r. same (getD T j 0) (getD T i 0) (Q .at j i w r u v) .1) ∙ y,
+      )
 
 module _ {n : ℕ} {E : List Float} {S T : List ℕ} {P : List Float} {need : Float} (F : RowsFit n S T P) {store C : List ℕ} {s t : ℕ} where
   -- a pair that stands, has an exit and reads nothing noted passes, against whatever relation the bytes are
@@ -190,23 +208,23 @@ module _ {n : ℕ} {E : List Float} {S T : List ℕ} {P : List Float} {need : Fl
     swept = λ a b l h k f Q. pick a b l h k f Q (pair-cases a b s t);
   }
     where
-      pick : (a b : ℕ) → a < b → b < n → a ≤ s → (a ≡ s → b < t + 1) → Quiet n S T 2 C a b → ((a ≡ s) × (b ≡ t)) ⊎ ((a ≡ s) → (b ≡ t) → ⊥) → Passes n E S T P need (N .relation) a b
+      pick : (a b : ℕ) → a < b → b < n → a ≤ s → (a ≡ s → b < t + 1) → Quiet S T (StillAt n C a) a b → ((a ≡ s) × (b ≡ t)) ⊎ ((a ≡ s) → (b ≡ t) → ⊥) → Passes n E S T P need (N .relation) a b
       pick a b l h k f Q (inl (x, y)) = subst (λ (u : ℕ). Passes n E S T P need (N .relation) u b) (sym x) (subst (λ (v : ℕ). Passes n E S T P need (N .relation) s v) (sym y) p)
       pick a b l h k f Q (inr d) = N .swept a b l h k (λ x. not-last a b s t x (f x) d) Q
 
   -- it is struck, and the strike noted
-  pub noted-strike : Noted n E S T P need store C s t → s < n → t < n → Noted n E S T P need (cleared (cleared store (s * n + t)) (t * n + s)) (noted C s t) s (t + 1)
-  noted-strike N hs ht = record {
+  pub noted-strike : Noted n E S T P need store C s t → s < n → t < n → s < t → Noted n E S T P need (cleared (cleared store (s * n + t)) (t * n + s)) (noted C s t) s (t + 1)
+  noted-strike N hs ht hst = record {
     relation = clear n (N .relation) s t;
     bytes = ap (λ (l : List ℕ). cleared (cleared l (s * n + t)) (t * n + s)) (N .bytes) ∙ packed-cleared n (N .relation) s t;
-    long = (let z : length (noted C s t) ≡ length C = length-set (set C (s * 64 + t % 64) 2) (t * 64 + s % 64) 2 ∙ length-set C (s * 64 + t % 64) 2 in let l = N .long in omega arith);
-    earlier = λ a b l h Q. kept F C (N .long) hs ht 1 (omega arith) (N .relation) E need a b l h Q (N .earlier a b l h (quiet-before F C (N .long) hs ht 1 (omega arith) a b Q));
+    long = (let z : length (noted C s t) ≡ length C = length-set (set C (s * 64 + t % 64) 3) (t * 64 + s % 64) 3 ∙ length-set C (s * 64 + t % 64) 3 in let l = N .long in omega arith);
+    earlier = λ a b l h Q. kept F hs ht (N .relation) E need a b l h (quiet-map (quiet-apart n C (N .long) hs ht a) Q) (N .earlier a b l h (quiet-map (quiet-before n C (N .long) hs ht a) Q));
     swept = λ a b l h k f Q. pick a b l h k f Q (pair-cases a b s t);
   }
     where
-      pick : (a b : ℕ) → a < b → b < n → a ≤ s → (a ≡ s → b < t + 1) → Quiet n S T 2 (noted C s t) a b → ((a ≡ s) × (b ≡ t)) ⊎ ((a ≡ s) → (b ≡ t) → ⊥) → Passes n E S T P need (clear n (N .relation) s t) a b
+      pick : (a b : ℕ) → a < b → b < n → a ≤ s → (a ≡ s → b < t + 1) → Quiet S T (StillAt n (noted C s t) a) a b → ((a ≡ s) × (b ≡ t)) ⊎ ((a ≡ s) → (b ≡ t) → ⊥) → Passes n E S T P need (clear n (N .relation) s t) a b
       pick a b l h k f Q (inl (x, y)) = λ z e. absurd (true≢false (sym e ∙ ap (λ (u : ℕ). holds n (clear n (N .relation) s t) u b) x ∙ ap (λ (v : ℕ). holds n (clear n (N .relation) s t) s v) y ∙ clear-there n (N .relation) s t))
-      pick a b l h k f Q (inr d) = kept F C (N .long) hs ht 2 (omega arith) (N .relation) E need a b l h Q (N .swept a b l h k (λ x. not-last a b s t x (f x) d) (quiet-before F C (N .long) hs ht 2 (omega arith) a b Q))
+      pick a b l h k f Q (inr d) = kept F hs ht (N .relation) E need a b l h (quiet-map (λ u v. still-apart n C (N .long) hs ht a u v k hst) Q) (N .swept a b l h k (λ x. not-last a b s t x (f x) d) (quiet-map (still-before n C (N .long) hs ht a) Q))
 
   -- from the end of a row to the next
   pub noted-row : Noted n E S T P need store C s t → n ≤ t → Noted n E S T P need store C (s + 1) (s + 1 + 1)
@@ -222,26 +240,26 @@ module _ {n : ℕ} {E : List Float} {S T : List ℕ} {P : List Float} {need : Fl
       above a b l k f (inl x) = let g = f x in absurd (omega arith)
       above a b l k f (inr x) = omega arith
 
-  -- from the end of a sweep to the next: every level falls by one
-  pub noted-again : Noted n E S T P need store C s t → n ≤ s → (C' : List ℕ) → length C' ≡ length C → ((i : ℕ) → getD C' i 0 < 1 → getD C i 0 < 2) → Noted n E S T P need store C' 0 1
+  -- from the end of a sweep to the next: every level falls to its third
+  pub noted-again : Noted n E S T P need store C s t → n ≤ s → (C' : List ℕ) → length C' ≡ length C → ((i : ℕ) → getD C' i 0 < 1 → getD C i 0 < 3) → Noted n E S T P need store C' 0 1
   noted-again N e C' z f = record {
     relation = N .relation;
     bytes = N .bytes;
     long = (let l = N .long in omega arith);
     earlier = λ a b l h Q. N .swept a b l h (omega arith) (λ x. absurd (omega arith))
-        (record { some = Q .some; more = Q .more; at = λ i j x y w r. let g = Q .at i j x y w r in (g .0, g .1, f (getD T i 0 * 64 + getD T j 0 % 64) (g .2)) });
+        (quiet-map (λ u v g. (g .0, g .1, λ p q. f (u * 64 + v % 64) (g .3 p q))) Q);
     swept = λ a b l h k g Q. let w : a ≡ 0 = omega arith in let r = g w in absurd (omega arith);
   }
 
--- before the first sweep every level is 1, so that nothing is passed over
+-- before the first sweep every level is 2, so that nothing is passed over
 pub noted-start : {n : ℕ} {E : List Float} {S T : List ℕ} {P : List Float} {need : Float} {store C : List ℕ}
-    → (R : List Bool) → store ≡ packed R → n * 64 ≤ length C → ((i : ℕ) → i < n * 64 → getD C i 0 ≡ 1) → Noted n E S T P need store C 0 1
+    → (R : List Bool) → store ≡ packed R → n * 64 ≤ length C → ((i : ℕ) → i < n * 64 → getD C i 0 ≡ 2) → Noted n E S T P need store C 0 1
 noted-start {n} {E} {S} {T} {P} {need} {store} {C} R e l f = record {
   relation = R;
   bytes = e;
   long = l;
   earlier = λ a b x h Q.
-      let (u, v, w) = Q .at (getD S a 0) (getD S b 0) (omega arith) (Q .some) (omega arith) (Q .more) in
+      let (u, v, w, _) = Q .at (getD S a 0) (getD S b 0) (omega arith) (Q .some) (omega arith) (Q .more) in
       let g = f (getD T (getD S a 0) 0 * 64 + getD T (getD S b 0) 0 % 64) (omega arith) in
       absurd (omega arith);
   swept = λ a b x h k g Q. let w : a ≡ 0 = omega arith in let r = g w in absurd (omega arith);

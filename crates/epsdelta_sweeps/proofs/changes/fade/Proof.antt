@@ -33,7 +33,7 @@ loop-again : tie.Need-loop-again Inv-loop μ-loop
 loop-again c =
     let l = c .before .before .loop in
     let z = l .inv .long in
-    falls (c .before .before .before .args .changed .now) (l .changed) (l .i) (omega arith) (l .inv) (length-set (l .changed) (l .i) (getD (l .changed) (l .i) 0 / 2))
+    falls (c .before .before .before .args .changed .now) (l .changed) (l .i) (omega arith) (l .inv) (length-set (l .changed) (l .i) (getD (l .changed) (l .i) 0 / 3))
 
 same-length : tie.Need-same-length Inv-loop μ-loop
 same-length c = c .before .loop .inv .long

@@ -11,10 +11,10 @@ use Rattle.epsdelta_sweeps.proofs.changes.quiet.Statement.{statement}
 use Rattle.epsdelta_sweeps.proofs.changes.quiet.Tie as tie
 
 abbrev Inv-loop : tie.InvT-loop
-Inv-loop targets states changed a b c d i₀ i = (a ≤ i) × ((j : ℕ) → a ≤ j → j < i → (k : ℕ) → c ≤ k → k < d → QuietAt states 1 changed (getD targets j 0) (getD targets k 0))
+Inv-loop targets states changed s a b c d i₀ i = (a ≤ i) × ((j : ℕ) → a ≤ j → j < i → (k : ℕ) → c ≤ k → k < d → QuietAt states changed s (getD targets j 0) (getD targets k 0))
 
 abbrev μ-loop : tie.MeasureT-loop
-μ-loop targets states changed a b c d i₀ i = b - i
+μ-loop targets states changed s a b c d i₀ i = b - i
 
 loop-holds : tie.Need-loop-holds Inv-loop μ-loop
 loop-holds c = (omega arith, λ j h l. absurd (omega arith))
@@ -47,7 +47,7 @@ loop-again : tie.Need-loop-again Inv-loop μ-loop
 loop-again c =
     let a = c .before .before .before .before .before .before .before .before .args in
     let l = c .before .before .before .before .before .loop in
-    (omega arith, one-more (λ j. (k : ℕ) → a .c ≤ k → k < a .d → QuietAt (a .states) 1 (a .changed .now) (getD (a .targets .now) j 0) (getD (a .targets .now) k 0)) (a .a) (l .i) (l .inv .1) (c .before .quiet-row .ensures (not-false _ (c .if2 .left))))
+    (omega arith, one-more (λ j. (k : ℕ) → a .c ≤ k → k < a .d → QuietAt (a .states) (a .changed .now) (a .s) (getD (a .targets .now) j 0) (getD (a .targets .now) k 0)) (a .a) (l .i) (l .inv .1) (c .before .quiet-row .ensures (not-false _ (c .if2 .left))))
 
 returns-3 : tie.Need-returns-3 Inv-loop μ-loop
 returns-3 c = λ e i k h l. c .before .loop .inv .1 i h (omega arith) k

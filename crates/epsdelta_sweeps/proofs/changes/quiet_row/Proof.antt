@@ -10,10 +10,10 @@ use Rattle.epsdelta_sweeps.proofs.changes.quiet_row.Statement.{statemen
 use Rattle.epsdelta_sweeps.proofs.changes.quiet_row.Tie as tie
 
 abbrev Inv-loop : tie.InvT-loop
-Inv-loop targets states changed u c d k₀ k = (c ≤ k) × ((j : ℕ) → c ≤ j → j < k → QuietAt states 1 changed u (getD targets j 0))
+Inv-loop targets states changed s u c d k₀ k = (c ≤ k) × ((j : ℕ) → c ≤ j → j < k → QuietAt states changed s u (getD targets j 0))
 
 abbrev μ-loop : tie.MeasureT-loop
-μ-loop targets states changed u c d k₀ k = d - k
+μ-loop targets states changed s u c d k₀ k = d - k
 
 loop-holds : tie.Need-loop-holds Inv-loop μ-loop
 loop-holds c = (omega arith, λ j h l. absurd (omega arith))
@@ -25,19 +25,22 @@ shared-slice-read-v : tie.Need-shared-slice-read-v Inv-loop μ-loop
 shared-slice-read-v c = search needs
 
 cast-v : tie.Need-cast-v Inv-loop μ-loop
-cast-v c = omega (arith, c .shared-slice-known .given (c .before .before .loop .k))
+cast-v c = omega (arith, c .shared-slice-known3 .given (c .before .before .loop .k))
 
 returns : tie.Need-returns Inv-loop μ-loop
 returns c = λ e. absurd (false≢true e)
 
-mul-if2 : tie.Need-mul-if2 Inv-loop μ-loop
-mul-if2 c = omega arith
+mul-since : tie.Need-mul-since Inv-loop μ-loop
+mul-since c = omega arith
 
-add-if2 : tie.Need-add-if2 Inv-loop μ-loop
-add-if2 c = omega arith
+add-since : tie.Need-add-since Inv-loop μ-loop
+add-since c = omega arith
 
-shared-slice-read-if2 : tie.Need-shared-slice-read-if2 Inv-loop μ-loop
-shared-slice-read-if2 c = omega arith
+shared-slice-read-since : tie.Need-shared-slice-read-since Inv-loop μ-loop
+shared-slice-read-since c = omega arith
+
+since-requires : tie.Need-since-requires Inv-loop μ-loop
+since-requires c κs = search needs
 
 returns-2 : tie.Need-returns-2 Inv-loop μ-loop
 returns-2 c = λ e. absurd (false≢true e)
@@ -50,9 +53,10 @@ loop-less c = omega arith
 
 loop-again : tie.Need-loop-again Inv-loop μ-loop
 loop-again c =
-    let a = c .before .before .before .before .before .before .args in
-    let l = c .before .before .before .before .before .loop in
-    (omega arith, one-more (λ j. QuietAt (a .states) 1 (a .changed .now) (a .u) (getD (a .targets .now) j 0)) (a .c) (l .k) (l .inv .1) (c .before .before .before .before .before .before .pre .3, c .before .before .if1 .left, omega arith))
+    let a = c .before .before .before .before .before .before .before .before .before .args in
+    let l = c .before .before .before .before .before .before .loop in
+    let (x, y) = c .before .since .ensures (c .if2 .left) in
+    (omega arith, one-more (λ j. QuietAt (a .states) (a .changed .now) (a .s) (a .u) (getD (a .targets .now) j 0)) (a .c) (l .k) (l .inv .1) (c .before .before .before .before .before .before .before .before .before .pre .3, c .before .before .before .if1 .left, x, y))
 
 returns-3 : tie.Need-returns-3 Inv-loop μ-loop
 returns-3 c = λ e k h l. c .before .loop .inv .1 k h (omega arith)
@@ -68,9 +72,10 @@ quiet-row-spec =
     shared-slice-read-v
     cast-v
     returns
-    mul-if2
-    add-if2
-    shared-slice-read-if2
+    mul-since
+    add-since
+    shared-slice-read-since
+    since-requires
     returns-2
     add-k
     loop-less

@@ -15,7 +15,7 @@ array-borrow-prefix-changed : tie.Need-array-borrow-prefix-changed
 array-borrow-prefix-changed c = let h = c .before .if1 .taken in omega arith
 
 slice-aggregate-run-in : tie.Need-slice-aggregate-run-in
-slice-aggregate-run-in c = let h = c .before .before .if1 .taken in sym (take-replicate-length {A = ℕ} (64 * c .before .before .before .before .before .before .before .before .args .states) 4096 1 (omega arith))
+slice-aggregate-run-in c = let h = c .before .before .if1 .taken in sym (take-replicate-length {A = ℕ} (64 * c .before .before .before .before .before .before .before .before .args .states) 4096 2 (omega arith))
 
 run-in-requires : tie.Need-run-in-requires
 run-in-requires c κs = let h = c .before .before .if1 .taken in (c .before .before .before .before .before .before .before .before .pre .0, (c .before .before .before .before .before .before .before .before .pre .1, first-levels (c .before .before .before .before .before .before .before .before .args .states) 4096 (omega arith)))

@@ -15,7 +15,7 @@ array-borrow-prefix-changed : tie.Need-array-borrow-prefix-changed
 array-borrow-prefix-changed c = let f = c .before .before .before .before .before .before .pre .0 .0 .few in omega arith
 
 slice-aggregate-run-in : tie.Need-slice-aggregate-run-in
-slice-aggregate-run-in c = let f = c .before .before .before .before .before .before .before .pre .0 .0 .few in sym (take-replicate-length {A = ℕ} (64 * c .before .before .before .before .before .before .before .args .states) 128000 1 (omega arith))
+slice-aggregate-run-in c = let f = c .before .before .before .before .before .before .before .pre .0 .0 .few in sym (take-replicate-length {A = ℕ} (64 * c .before .before .before .before .before .before .before .args .states) 128000 2 (omega arith))
 
 run-in-requires : tie.Need-run-in-requires
 run-in-requires c κs = let f = c .before .before .before .before .before .before .before .pre .0 .0 .few in (c .before .before .before .before .before .before .before .pre .0, (c .before .before .before .before .before .before .before .pre .1, first-levels (c .before .before .before .before .before .before .before .args .states) 128000 (omega arith)))
