@@ -6,3 +6,5 @@ pub mod Ways
 pub mod Whole
 pub mod Chains
 pub mod Explored
+pub mod Fitting
+pub mod Running

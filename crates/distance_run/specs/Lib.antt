@@ -1,3 +1,4 @@
 pub mod Account
 pub mod Solve
 pub mod Told
+pub mod Run

@@ -12,7 +12,7 @@ ghost use Rattle.chain_theory.specs.Columns.{chainColumns};
 ghost use Rattle.distance_run.specs.Told.{foundOf};
 
 // The run of the first n pairs, states lefts[k] and rights[k] with codes as their index; 17 where there are over 4,096. The store is left as the rounds leave it.
-pub fn run_found(
+pub(crate) fn run_found(
     n: usize,
     lefts: &[u32],
     rights: &[u32],
