@@ -11,7 +11,7 @@ use lib.Ieee.{Float}
 use borrow.Author.Tests.{leb-true, le-leb, not-true, not-false}
 use Rattle.numbers.specs.Real.{nought}
 use Rattle.numbers.proofs.Bools.{and-t}
-use Rattle.numbers.proofs.Alls.{every-at}
+use Rattle.numbers.proofs.Alls.{every-at, every-of}
 use Rattle.epsdelta_theory.proofs.RowReads.{jumps-length, starts-up}
 use Rattle.chain_theory.specs.Columns.{ChainColumns, begins, chainOf}
 use Rattle.chain_theory.specs.Check.{misshapen}
@@ -61,6 +61,13 @@ module _ (H : ChainShape) (C : ChainColumns) where
         rows = λ x h. let z = row-length S x h in let k : begins C (x + 1) ≤ begins C x + 32 = leb-true _ _ (every-at _ (H .states) c x h) in omega arith;
         seen = leb-true (H .states) (length (C .observations)) d;
       }
+
+  -- and what it takes
+  pub fits-of : H .states ≤ 2000 → misshapen H C ≡ false → ((x : ℕ) → x < H .states → length (rowOf (chainOf H C) x) ≤ 32) → H .states ≤ length (C .observations) → fits H C ≡ true
+  fits-of few w rows seen = rw (le-leb (H .states) 2000 few, w, slim-rows, le-leb (H .states) (length (C .observations)) seen)
+    where
+      slim-rows : slim H C ≡ true
+      slim-rows = every-of _ (H .states) (λ x h. let z = row-length (shaped H C w) x h in let r = rows x h in le-leb (begins C (x + 1)) (begins C x + 32) (omega arith))
 
 -- ---- both
 

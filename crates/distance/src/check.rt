@@ -1,0 +1,118 @@
+// The checks of the arguments of `distance`: 4 to 14.
+use chain_check::check::chain_refusal;
+use chain_theory::ChainShape;
+use distance_theory::MetricOptions;
+use distance_theory::excessive;
+use numbers::ONE;
+ghost use mathlib.Core.Path.{_≡_};
+ghost use mathlib.Core.Bool.{_||_};
+ghost use mathlib.Core.List.{[], _∷_};
+ghost use lib.Dec.{eqb};
+ghost use Rattle.chain_theory.specs.Columns.{chainColumns};
+ghost use Rattle.chain_theory.specs.Check.{discountOutside};
+ghost use Rattle.distance_theory.specs.Refusal.{distanceRefusal};
+ghost use Rattle.distance_theory.specs.Refusal;
+ghost use Rattle.distance_theory.proofs.Checks.{combined};
+
+// 7: a list of pairs of under 4,096 entries, or under 64 contribution records.
+fn short(lefts: usize, rights: usize, codes: usize, records: usize) -> bool
+    ensures { λ r. ⌜ r ≡ Refusal.short (lefts ∷ rights ∷ codes ∷ []) records ⌝ }
+{
+    if lefts < 4096 {
+        return true;
+    }
+    if rights < 4096 {
+        return true;
+    }
+    if codes < 4096 {
+        return true;
+    }
+    records < 64
+}
+
+// 11: γ is not above 0 and below 1.
+fn discount_outside(gamma: f64) -> bool
+    ensures { λ r. ⌜ r ≡ discountOutside gamma ⌝ }
+{
+    if gamma > 0.0 {
+        return !(gamma < ONE);
+    }
+    true
+}
+
+fn either(left: u32, right: u32, number: u32) -> bool
+    ensures { λ r. ⌜ r ≡ (eqb left number || eqb right number) ⌝ }
+{
+    left == number || right == number
+}
+
+// The first check that fails, of what each chain is refused for by itself and the checks that concern neither.
+fn combine(left: u32, right: u32, lacking: bool, outside: bool, over: bool) -> u32
+    ensures { λ r. ⌜ r ≡ combined left right lacking outside over ⌝ }
+{
+    if either(left, right, 4) {
+        return 4;
+    }
+    if either(left, right, 7) {
+        return 7;
+    }
+    if lacking {
+        return 7;
+    }
+    if outside {
+        return 11;
+    }
+    if either(left, right, 12) {
+        return 12;
+    }
+    if either(left, right, 13) {
+        return 13;
+    }
+    if over {
+        return 14;
+    }
+    0
+}
+
+// The number of the first check that fails, 0 if all pass; the lengths of the lists of pairs, and of the row of contribution records.
+pub fn distance_refusal(
+    left: ChainShape,
+    left_offsets: &[u32],
+    left_targets: &[u32],
+    left_probs: &[f64],
+    left_seen: &[f64],
+    right: ChainShape,
+    right_offsets: &[u32],
+    right_targets: &[u32],
+    right_probs: &[f64],
+    right_seen: &[f64],
+    gamma: f64,
+    options: MetricOptions,
+    lefts: usize,
+    rights: usize,
+    codes: usize,
+    records: usize,
+) -> u32
+    ensures { λ r. ⌜ r ≡ distanceRefusal left (chainColumns (now («left_offsets» .entry)) (now («left_targets» .entry)) (now («left_probs» .entry)) (now («left_seen» .entry))) right (chainColumns (now («right_offsets» .entry)) (now («right_targets» .entry)) (now («right_probs» .entry)) (now («right_seen» .entry))) gamma options (lefts ∷ rights ∷ codes ∷ []) records ⌝ }
+{
+    let l = chain_refusal(
+        left,
+        left_offsets,
+        left_targets,
+        left_probs,
+        left_seen,
+        0.0,
+        ONE,
+    );
+    let r = chain_refusal(
+        right,
+        right_offsets,
+        right_targets,
+        right_probs,
+        right_seen,
+        0.0,
+        ONE,
+    );
+    let lacking = short(lefts, rights, codes, records);
+    combine(l, r, lacking, discount_outside(gamma), excessive(options))
+}
