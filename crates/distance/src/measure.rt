@@ -78,7 +78,7 @@ pub fn measure(
 }
 
 // What a run tells, as the answer.
-pub fn answer(told: Told) -> Measured
+pub(crate) fn answer(told: Told) -> Measured
     ensures { λ r. ⌜ r ≡ answerOf told ⌝ }
 {
     let refusal = told.refusal;
@@ -89,13 +89,13 @@ pub fn answer(told: Told) -> Measured
     Measured::Refused(refusal)
 }
 
-pub fn records_of(told: Told) -> [PairContribution; 64]
+pub(crate) fn records_of(told: Told) -> [PairContribution; 64]
     ensures { λ r. ⌜ r ≡ told .records ⌝ }
 {
     told.records
 }
 
-pub fn count_of(told: Told) -> usize
+pub(crate) fn count_of(told: Told) -> usize
     ensures { λ r. ⌜ r ≡ told .distance .contributions ⌝ }
 {
     told.distance.contributions
