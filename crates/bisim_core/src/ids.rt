@@ -5,6 +5,7 @@ ghost use lib.ListN.{length, take};
 ghost use Rattle.bisim_core.specs.Ids;
 ghost use Rattle.bisim_core.specs.Ids.{ends, listed};
 
+#[repr(C)]
 pub struct StateId(pub u32);
 
 pub struct LabelId(pub u32);

@@ -14,6 +14,7 @@ pub struct MetricOptions {
 }
 
 // A pair's share of the distance: how far its observations are apart, the discounted time spent in it, and the product of the two.
+#[repr(C)]
 pub struct PairContribution {
     pub left: StateId,
     pub right: StateId,

@@ -1,0 +1,17 @@
+-- The distance of chains and options that are given by their numbers.
+use Prim.Native.Nat.{ℕ}
+use lib.Ieee.{Float}
+use Rattle.chain_theory.specs.Columns.{ChainColumns}
+use Rattle.chain_theory.specs.declared.ChainShape.{ChainShape}
+use Rattle.distance_theory.specs.Outcome.{Lent, Outcome, distance}
+use Rattle.distance_theory.specs.declared.MetricOptions.{MetricOptions}
+
+-- states, entries and initial state
+abbrev pub shape : ℕ → ℕ → ℕ → ChainShape
+shape states entries initial = record { states = states; entries = entries; initial = record { 0 = initial } }
+
+abbrev pub options : Float → ℕ → ℕ → MetricOptions
+options tolerance rounds top = record { tolerance = tolerance; «max_rounds» = rounds; top = top }
+
+abbrev pub distanceOf : ℕ → ℕ → ℕ → ChainColumns → ℕ → ℕ → ℕ → ChainColumns → Float → Float → ℕ → ℕ → Lent → Outcome
+distanceOf states entries initial C states' entries' initial' D γ tolerance rounds top m = distance (shape states entries initial) C (shape states' entries' initial') D γ (options tolerance rounds top) m
