@@ -17,7 +17,7 @@ use Rattle.bisim_core.specs.Data.{Edge, Transitions, Columns, columns}
 use Rattle.build_theory.specs.Edges.{edges, offsets}
 use Rattle.bisim_core.specs.declared.wlts.Initial.{Initial}
 use Rattle.build_theory.specs.Checks.{labelsOf, oversized, outside, unweighed, crowded, missing, refusal}
-use Rattle.build_theory.specs.Plan.{Space, space, weightOf, laid, shortest, Ending, ending, outcome, planned}
+use Rattle.build_theory.specs.Plan.{Lists, lists, weightOf, laid, shortest, Ending, ending, outcome, planned}
 use Rattle.build_theory.proofs.Steps.{rank, Rising, edgesIn, Writable, Written}
 use Rattle.bisim_edges.specs.declared.planner.Planned as answers
 use Rattle.bisim_edges.specs.declared.planner.Planned.the-variants as answer
@@ -51,14 +51,14 @@ reorder false false false false w = refl
 abbrev answered : Ending answers.Planned → answers.Planned
 answered o = o .answer
 
-abbrev left : Ending answers.Planned → Space
+abbrev left : Ending answers.Planned → Lists
 left o = o .memory
 
-refused-ends : (x a b r : ℕ) (old new last : Space) → ending (answer.Refused r) last ≡ outcome x answer.Refused (answer.Edges a b) old new → (x ≡ r) × (r ≢ 0) × (last ≡ old)
+refused-ends : (x a b r : ℕ) (old new last : Lists) → ending (answer.Refused r) last ≡ outcome x answer.Refused (answer.Edges a b) old new → (x ≡ r) × (r ≢ 0) × (last ≡ old)
 refused-ends zero a b r old new last e = let y = ap answered e in let z : _≡_ {A = ℕ} 0 1 = cc in absurd (omega arith)
 refused-ends (suc x) a b r old new last e = let y = ap answered e in let z : suc x ≡ r = cc in (z, λ y. omega arith, ap left e)
 
-edges-end : (x a b m d : ℕ) (old new last : Space) → ending (answer.Edges m d) last ≡ outcome x answer.Refused (answer.Edges a b) old new → (x ≡ 0) × (m ≡ a) × (d ≡ b) × (last ≡ new)
+edges-end : (x a b m d : ℕ) (old new last : Lists) → ending (answer.Edges m d) last ≡ outcome x answer.Refused (answer.Edges a b) old new → (x ≡ 0) × (m ≡ a) × (d ≡ b) × (last ≡ new)
 edges-end zero a b m d old new last e = let y = ap answered e in (refl, (cc), (cc), ap left e)
 edges-end (suc x) a b m d old new last e = let y = ap answered e in let z : _≡_ {A = ℕ} 0 1 = cc in absurd (omega arith)
 
@@ -95,8 +95,8 @@ module _ (Z : Call) (few : Z .given ≤ 4096 → Z .given ≤ length (Z .T)) {s 
   abbrev M : Columns
   M = Z .M
 
-  abbrev S : Space
-  S = space (M .labels) (Z .T) (M .edgeWeights)
+  abbrev S : Lists
+  S = lists (M .labels) (Z .T) (M .edgeWeights)
 
   abbrev number : ℕ
   number = refusal states initial C given (short states given M)
@@ -113,19 +113,19 @@ module _ (Z : Call) (few : Z .given ≤ 4096 → Z .given ≤ length (Z .T)) {s 
       let (p, q) = or-f (ltb 4096 given) (ltb 256 (length (labelsOf C given))) b in
       ap (λ (b : Bool). check 4 (outside states initial C given) (check 5 (unweighed C given) (check 6 (crowded states C given) (check 7 (missing C given || b) 0)))) (shorts (ltb-false _ _ p)))
 
-  module _ {p : answers.Planned} {L T : List ℕ} {W : List Float} (f : ending p (space L T W) ≡ planned rank answer.Refused answer.Edges states initial C given s S) where
+  module _ {p : answers.Planned} {L T : List ℕ} {W : List Float} (f : ending p (lists L T W) ≡ planned rank answer.Refused answer.Edges states initial C given s S) where
     plan-is : (q : answers.Planned) → p ≡ q
-        → ending q (space L T W) ≡ outcome number answer.Refused (answer.Edges (length (edges C given)) (length (labelsOf C given))) S (laid rank (labelsOf C given) (edges C given) S)
+        → ending q (lists L T W) ≡ outcome number answer.Refused (answer.Edges (length (edges C given)) (length (labelsOf C given))) S (laid rank (labelsOf C given) (edges C given) S)
     unfolding planned
     plan-is q g =
-        ap (λ (x : answers.Planned). ending x (space L T W)) (sym g) ∙ f
+        ap (λ (x : answers.Planned). ending x (lists L T W)) (sym g) ∙ f
         ∙ ap (λ (x : ℕ). outcome x answer.Refused (answer.Edges (length (edges C given)) (length (labelsOf C given))) S (laid rank (labelsOf C given) (edges C given) S)) number-is
 
     pub plan-refused : (r : ℕ) → p ≡ answer.Refused r → ends (Refused r) (columns L (M .offsets) (M .edgeLabels) (M .edgeTargets) W) ≡ build states initial C given M
     unfolding build
     plan-refused r g =
-        let (x, y, z) = refused-ends number _ _ r S _ (space L T W) (plan-is (answer.Refused r) g) in
-        same L W (M .labels) (M .edgeWeights) (ap (λ (m : Space). m .labels) z) (ap (λ (m : Space). m .weights) z) ∙ refused-is r number M (made states initial C given M) x y
+        let (x, y, z) = refused-ends number _ _ r S _ (lists L T W) (plan-is (answer.Refused r) g) in
+        same L W (M .labels) (M .edgeWeights) (ap (λ (m : Lists). m .labels) z) (ap (λ (m : Lists). m .weights) z) ∙ refused-is r number M (made states initial C given M) x y
       where
         same : (l : List ℕ) (w : List Float) (l' : List ℕ) (w' : List Float) → l ≡ l' → w ≡ w'
             → ends (Refused r) (columns l (M .offsets) (M .edgeLabels) (M .edgeTargets) w) ≡ ends (Refused r) (columns l' (M .offsets) (M .edgeLabels) (M .edgeTargets) w')
@@ -135,18 +135,18 @@ module _ (Z : Call) (few : Z .given ≤ 4096 → Z .given ≤ length (Z .T)) {s 
       abbrev E : List Edge
       E = edges C given
 
-      ended : (number ≡ 0) × (m ≡ length E) × (d ≡ length (labelsOf C given)) × (space L T W ≡ laid rank (labelsOf C given) E S)
-      ended = edges-end number _ _ m d S _ (space L T W) (plan-is (answer.Edges m d) g)
+      ended : (number ≡ 0) × (m ≡ length E) × (d ≡ length (labelsOf C given)) × (lists L T W ≡ laid rank (labelsOf C given) E S)
+      ended = edges-end number _ _ m d S _ (lists L T W) (plan-is (answer.Edges m d) g)
 
       passed : Passed states initial C given × (short states given M ≡ false)
       passed = passes states initial C given (short states given M) (ended .0)
 
       triples-are : T ≡ over (map rank E) (Z .T)
-      triples-are = ap (λ (x : Space). x .triples) (ended .3)
+      triples-are = ap (λ (x : Lists). x .numbers) (ended .3)
 
       stored : edgesIn T W m ≡ E
       stored =
-          ap (λ (x : List ℕ). edgesIn x W m) triples-are ∙ ap (λ (x : List Float). edgesIn (over (map rank E) (Z .T)) x m) (ap (λ (x : Space). x .weights) (ended .3))
+          ap (λ (x : List ℕ). edgesIn x W m) triples-are ∙ ap (λ (x : List Float). edgesIn (over (map rank E) (Z .T)) x m) (ap (λ (x : Lists). x .weights) (ended .3))
           ∙ ap (edgesIn (over (map rank E) (Z .T)) (over (map weightOf E) (M .edgeWeights))) (ended .1) ∙ stored-edges E (Z .T) (M .edgeWeights) (small (passed .0))
 
       rooms : (states < length (M .offsets)) × (given ≤ length (M .edgeLabels)) × (given ≤ length (M .edgeTargets))
@@ -178,9 +178,9 @@ module _ (Z : Call) (few : Z .given ≤ 4096 → Z .given ≤ length (Z .T)) {s 
           → ends (Model (record { states = states; edges = m; labels = d; initial = initial })) (columns L O EL ET W) ≡ build states initial C given M
       unfolding build
       plan-passed {O} {EL} {ET} w o =
-          put m d L O EL ET W _ _ _ _ _ _ _ (ended .1) (ended .2) (ap (λ (x : Space). x .labels) (ended .3)) (o W ∙ ap (λ (x : List Edge). over (offsets states x) (M .offsets)) stored)
+          put m d L O EL ET W _ _ _ _ _ _ _ (ended .1) (ended .2) (ap (λ (x : Lists). x .labels) (ended .3)) (o W ∙ ap (λ (x : List Edge). over (offsets states x) (M .offsets)) stored)
           (w .labels W ∙ ap (λ (x : List Edge). over (map (λ (a : Edge). a .label) x) (M .edgeLabels)) stored)
-          (w .targets W ∙ ap (λ (x : List Edge). over (map (λ (a : Edge). a .target) x) (M .edgeTargets)) stored) (ap (λ (x : Space). x .weights) (ended .3))
+          (w .targets W ∙ ap (λ (x : List Edge). over (map (λ (a : Edge). a .target) x) (M .edgeTargets)) stored) (ap (λ (x : Lists). x .weights) (ended .3))
           ∙ done-is number M (made states initial C given M) (ended .0)
         where
           put : (m c : ℕ) (l o el et : List ℕ) (ew : List Float) (m' c' : ℕ) (l' o' el' et' : List ℕ) (ew' : List Float)

@@ -20,16 +20,16 @@ use Rattle.build_theory.specs.Edges.{join, nonzero, edges, numberedAt}
 use Rattle.bisim_core.specs.declared.wlts.Initial.{Initial}
 use Rattle.bisim_core.proofs.Distinct.{intern-has, distinct-length}
 use Rattle.build_theory.specs.Checks.{labelsOf, oversized, outside, unweighed, crowded, reach, missing, refusal}
-use Rattle.build_theory.specs.Plan.{Space, space, weightOf, laid, shortest, ending, outcome, planned}
+use Rattle.build_theory.specs.Plan.{Lists, lists, weightOf, laid, shortest, ending, outcome, planned}
 use Rattle.build_theory.proofs.Steps.{Interned, Keys, Sorted, Arrangeable, Arranged, rank, joined, Joined}
 use Rattle.bisim_edges.specs.declared.planner.Planned.{Planned}
 use Rattle.bisim_edges.specs.declared.planner.Planned.the-variants.{Edges, Refused}
 
-refused-is : (k r : ℕ) (done : Planned) (old new : Space) → r ≡ k → k ≢ 0 → ending (Refused k) old ≡ outcome r Refused done old new
+refused-is : (k r : ℕ) (done : Planned) (old new : Lists) → r ≡ k → k ≢ 0 → ending (Refused k) old ≡ outcome r Refused done old new
 refused-is zero r done old new e h = absurd (h refl)
 refused-is (suc k) r done old new e h = subst (λ (x : ℕ). ending (Refused (suc k)) old ≡ outcome x Refused done old new) (sym e) refl
 
-done-is : (r : ℕ) (done : Planned) (old new : Space) → r ≡ 0 → ending done new ≡ outcome r Refused done old new
+done-is : (r : ℕ) (done : Planned) (old new : Lists) → r ≡ 0 → ending done new ≡ outcome r Refused done old new
 done-is r done old new e = subst (λ (x : ℕ). ending done new ≡ outcome x Refused done old new) (sym e) refl
 
 -- a plan that is asked for
@@ -39,7 +39,7 @@ pub record Asked : Type 0 where
   pub C : Transitions
   pub given : ℕ
   pub short : Bool
-  pub M : Space
+  pub M : Lists
 
 module _ (Z : Asked) where
   abbrev states : ℕ
@@ -57,7 +57,7 @@ module _ (Z : Asked) where
   abbrev short : Bool
   short = Z .short
 
-  abbrev M : Space
+  abbrev M : Lists
   M = Z .M
 
   abbrev D : List ℕ
@@ -158,7 +158,7 @@ module _ (Z : Asked) where
         sorted : Sorted (C .sources) (C .targets) given I' K
         sorted = subst (λ (x : ℕ). Sorted (C .sources) (C .targets) x I' K) whole (A .sorted z)
 
-        pub joinable : Keys K given × (given ≤ length (C .weights)) × (given ≤ length (M .triples)) × (given ≤ length (M .weights))
+        pub joinable : Keys K given × (given ≤ length (C .weights)) × (given ≤ length (M .numbers)) × (given ≤ length (M .weights))
         joinable = let h = there in let m = room in (sorted .keys, omega arith, omega arith, omega arith)
 
         edges-are : joined K given (C .weights) ≡ edges C given
@@ -166,15 +166,15 @@ module _ (Z : Asked) where
         edges-are = ap (λ (l : List Edge). nonzero (join l)) (sorted .edges (C .weights) (numberedAt D C) (λ j h.
             ap (λ (x : ℕ). record { source = getD (C .sources) j 0; label = x; target = getD (C .targets) j 0; weight = getD (C .weights) j nan }) (sym (N .ids (let f = few in omega arith) j h (let g = there in omega arith)))))
 
-        pub done : {L T : List ℕ} {U : List Float} {m : ℕ} → L ≡ over (take count known') (M .labels) → Joined K given (C .weights) (M .triples) (M .weights) T U m
-            → ending (Edges m count) (space L T U) ≡ planned rank Refused Edges states initial C given short M
+        pub done : {L T : List ℕ} {U : List Float} {m : ℕ} → L ≡ over (take count known') (M .labels) → Joined K given (C .weights) (M .numbers) (M .weights) T U m
+            → ending (Edges m count) (lists L T U) ≡ planned rank Refused Edges states initial C given short M
         unfolding planned
         done {L} {T} {U} {m} l J =
-            put m count L T U (length (edges C given)) (length D) (over D (M .labels)) (over (map rank (edges C given)) (M .triples)) (over (map weightOf (edges C given)) (M .weights))
+            put m count L T U (length (edges C given)) (length D) (over D (M .labels)) (over (map rank (edges C given)) (M .numbers)) (over (map weightOf (edges C given)) (M .weights))
             (J .count ∙ ap length edges-are) (count-is few) (l ∙ ap (λ (x : List ℕ). over x (M .labels)) (labels-are few))
-            (J .triples ∙ ap (λ (x : List Edge). over (map rank x) (M .triples)) edges-are) (J .sums ∙ ap (λ (x : List Edge). over (map weightOf x) (M .weights)) edges-are)
+            (J .triples ∙ ap (λ (x : List Edge). over (map rank x) (M .numbers)) edges-are) (J .sums ∙ ap (λ (x : List Edge). over (map weightOf x) (M .weights)) edges-are)
             ∙ done-is number (Edges (length (edges C given)) (length D)) M (laid rank D (edges C given) M) unrefused
           where
             put : (m c : ℕ) (L T : List ℕ) (U : List Float) (m' c' : ℕ) (L' T' : List ℕ) (U' : List Float) → m ≡ m' → c ≡ c' → L ≡ L' → T ≡ T' → U ≡ U'
-                → ending (Edges m c) (space L T U) ≡ ending (Edges m' c') (space L' T' U')
+                → ending (Edges m c) (lists L T U) ≡ ending (Edges m' c') (lists L' T' U')
             put m c L T U m' c' L' T' U' a b d e f = cc

@@ -15,7 +15,7 @@ ghost use Prim.Native.Nat.{ℕ, _≤_, _<_};
 ghost use lib.Dec.{ltb};
 ghost use lib.ListN.{length, getD};
 ghost use Rattle.bisim_core.specs.Data.{transitions};
-ghost use Rattle.build_theory.specs.Plan.{space, ending, planned};
+ghost use Rattle.build_theory.specs.Plan.{lists, ending, planned};
 ghost use Rattle.build_theory.proofs.Steps.{Arrangeable, Arranged, rank};
 ghost use Rattle.bisim_edges.specs.declared.planner.Planned.the-variants.{Edges, Refused};
 
@@ -90,9 +90,9 @@ fn plan_in(
     keys: &mut [u64],
 ) -> Planned
     requires { ⌜ (given ≤ 4096) × (given ≤ length (now keys)) × ((j : ℕ) → j < given → getD (now keys) j 0 ≡ 0) ⌝ }
-    ensures { λ r. ⌜ ending r (space (now («label_values» .exit)) (now (triples .exit)) (now («edge_weights» .exit)))
+    ensures { λ r. ⌜ ending r (lists (now («label_values» .exit)) (now (triples .exit)) (now («edge_weights» .exit)))
         ≡ planned rank Refused Edges states initial (transitions (now (sources .entry)) (now (labels .entry)) (now (targets .entry)) (now (weights .entry))) given short
-        (space (now («label_values» .entry)) (now (triples .entry)) (now («edge_weights» .entry))) ⌝ }
+        (lists (now («label_values» .entry)) (now (triples .entry)) (now («edge_weights» .entry))) ⌝ }
 {
     let there = least(sources.len(), labels.len(), targets.len(), weights.len());
     let room = lesser(
@@ -136,9 +136,9 @@ pub fn plan(
     triples: &mut [u64],
     edge_weights: &mut [f64],
 ) -> Planned
-    ensures { λ r. ⌜ ending r (space (now («label_values» .exit)) (now (triples .exit)) (now («edge_weights» .exit)))
+    ensures { λ r. ⌜ ending r (lists (now («label_values» .exit)) (now (triples .exit)) (now («edge_weights» .exit)))
         ≡ planned rank Refused Edges states initial (transitions (now (sources .entry)) (now (labels .entry)) (now (targets .entry)) (now (weights .entry))) given short
-        (space (now («label_values» .entry)) (now (triples .entry)) (now («edge_weights» .entry))) ⌝ }
+        (lists (now («label_values» .entry)) (now (triples .entry)) (now («edge_weights» .entry))) ⌝ }
 {
     if given > 4096 {
         return Planned::Refused(3);

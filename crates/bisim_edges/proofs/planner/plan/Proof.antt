@@ -2,7 +2,7 @@
 use native.Mathlib.Omega.{arith}
 use lib.ListN.{getD-replicate}
 use Rattle.bisim_core.specs.Data.{transitions}
-use Rattle.build_theory.specs.Plan.{space}
+use Rattle.build_theory.specs.Plan.{lists}
 use Rattle.bisim_edges.proofs.Plans.{too-many}
 use borrow.Author.Needs.{needs}
 use Rattle.bisim_edges.proofs.planner.plan.Statement.{statement}
@@ -10,7 +10,7 @@ use Rattle.bisim_edges.proofs.planner.plan.Tie as tie
 
 returns : tie.Need-returns
 returns c = let s = c .before .before .before .before .before .before .before .before in
-    too-many (record { states = s .args .states; initial = s .args .initial; C = transitions (s .args .sources .now) (s .args .labels .now) (s .args .targets .now) (s .args .weights .now); given = s .args .given; short = s .args .short; M = space (s .args .label-values .now) (s .args .triples .now) (s .args .edge-weights .now) }) (c .if1 .taken)
+    too-many (record { states = s .args .states; initial = s .args .initial; C = transitions (s .args .sources .now) (s .args .labels .now) (s .args .targets .now) (s .args .weights .now); given = s .args .given; short = s .args .short; M = lists (s .args .label-values .now) (s .args .triples .now) (s .args .edge-weights .now) }) (c .if1 .taken)
 
 slice-aggregate-plan-in : tie.Need-slice-aggregate-plan-in
 slice-aggregate-plan-in c = search needs

@@ -4,14 +4,14 @@ use mathlib.Core.Bool.{_||_}
 use lib.Dec.{ltb}
 use Rattle.bisim_core.specs.Data.{transitions}
 use Rattle.build_theory.specs.Checks.{missing}
-use Rattle.build_theory.specs.Plan.{space, shortest}
+use Rattle.build_theory.specs.Plan.{lists, shortest}
 use Rattle.bisim_edges.proofs.Plans.{Asked, arrangeable, refused, labels-fit, joinable, done}
 use borrow.Author.Needs.{needs}
 use Rattle.bisim_edges.proofs.planner.plan_in.Statement.{statement}
 use Rattle.bisim_edges.proofs.planner.plan_in.Tie as tie
 
 abbrev asked : tie.Start → Asked
-asked s = record { states = s .args .states; initial = s .args .initial; C = transitions (s .args .sources .now) (s .args .labels .now) (s .args .targets .now) (s .args .weights .now); given = s .args .given; short = s .args .short; M = space (s .args .label-values .now) (s .args .triples .now) (s .args .edge-weights .now) }
+asked s = record { states = s .args .states; initial = s .args .initial; C = transitions (s .args .sources .now) (s .args .labels .now) (s .args .targets .now) (s .args .weights .now); given = s .args .given; short = s .args .short; M = lists (s .args .label-values .now) (s .args .triples .now) (s .args .edge-weights .now) }
 
 -- 7, by the counts
 cramming : (c : tie.After-cramped) → c .cramped .result ≡ (missing (asked (c .before .before .before .before .before .before .before .before .before .before .before .before) .C) (c .before .before .before .before .before .before .before .before .before .before .before .before .args .given) || (c .before .before .before .before .before .before .before .before .before .before .before .before .args .short || ltb (shortest (asked (c .before .before .before .before .before .before .before .before .before .before .before .before) .M)) (c .before .before .before .before .before .before .before .before .before .before .before .before .args .given)))
