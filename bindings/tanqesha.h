@@ -293,7 +293,7 @@ uint32_t tanqesha_epsdelta_bisimilar(size_t left_states, size_t left_edges, size
                                      const uint32_t *right_classes, size_t right_classes_length,
                                      double epsilon, double rho, uint8_t *relation, size_t relation_length, uint32_t *related);
 
-/* present: 1 with the least epsilon, to about 1e-4, at which the initial states are alike; or 0 if they are not even at 1, and
+/* present: 1 with an epsilon at which the initial states are alike, found by halvings down to about 1e-4; or 0 if they are not even at 1, and
  * epsilon is kept. The bytes are work space, as above.
  * Refusals: 3 to 6 of either model; 7 fewer classes than states, or too few bytes; 8; 9 of rho; 10. */
 uint32_t tanqesha_min_epsilon(size_t left_states, size_t left_edges, size_t left_labels, uint32_t left_present, uint32_t left_start,

@@ -183,7 +183,7 @@ pub fn epsdelta_bisimilar(
     Ok(related != 0)
 }
 
-/// The least ε, to about 1e-4, at which the initial states of two models are alike; none if they are not even at 1.
+/// An ε at which the initial states of two models are alike, found by halvings down to about 1e-4; none if they are not even at 1.
 ///
 /// ```
 /// use tanqesha::{Model, Refusal, StateId, Transition, min_epsilon};
