@@ -1,14 +1,14 @@
--- Which answer is due of `common_rate` and of `uniformise`, and what follows where nothing is refused.
+-- Which answer is due of `common_rate`, `uniformise` and `lay_chain`, and what follows where nothing is refused.
 use mathlib.Core.Path.{_≡_, refl, sym, ap, _∙_}
 use mathlib.Core.Logic.{_≢_}
-use mathlib.Core.Bool.{Bool, true, false}
+use mathlib.Core.Bool.{Bool, true, false, not, _&&_}
 use Prim.Native.Nat.{ℕ, zero, suc, _+_, _≤_, _<_}
 use mathlib.Core.List.{List, [], _∷_, map}
 use native.Mathlib.Omega.{arith}
-use lib.Dec.{ltb}
+use lib.Dec.{eqb, ltb}
 use lib.Ieee.{Float}
 use lib.ListN.{length, getD, take}
-use borrow.Author.Tests.{ltb-false}
+use borrow.Author.Tests.{ltb-false, eq-eqb, ne-eqb}
 use Rattle.numbers.specs.Refuse.{check}
 use Rattle.numbers.specs.Lists.{span, over}
 use Rattle.numbers.specs.Real.{nought, leastObservation, greatestWeight}
@@ -24,14 +24,16 @@ use Rattle.epsdelta_theory.specs.Jumps.{Jump, targets, rates}
 use Rattle.epsdelta_theory.specs.Refusal.{absent, modelsRefusal}
 use Rattle.epsdelta_theory.specs.Bisimilar.{start}
 use Rattle.epsdelta_theory.proofs.Rows.{model-length, model-at}
+use Rattle.epsdelta_theory.proofs.RowsIn.{Readable}
 use Rattle.parts.specs.Earlier.{earlier}
-use Rattle.parts.proofs.Models.{models-number}
+use Rattle.parts.proofs.Models.{models-number, readable}
 use Rattle.chain_theory.specs.Chain.{Chain, exitRate, greatestFrom, greatestExit, orOne, commonRate, chainRow, chainRows, uniformise}
 use Rattle.chain_theory.specs.Columns as layout
 use Rattle.chain_theory.specs.Columns.{ChainColumns, chainColumns, startsFrom, shapeOf, columnsOf}
 use Rattle.chain_theory.specs.Check.{rateOutside, unfitting, cramped}
+use Rattle.chain_theory.specs.declared.ChainShape.{ChainShape}
 use Rattle.chain_theory.proofs.Chains.{rows-length, rows-at}
-use Rattle.chains.specs.Outcome.{rateEnds, rated, uniformiseRefusal, ends, settled, uniformised}
+use Rattle.chains.specs.Outcome.{rateEnds, rated, uniformiseRefusal, ends, laid, settled, uniformised, shape, Laying, laying, layIf, layChain}
 use Rattle.chains.specs.declared.chain.Rated.the-variants as rateds
 use Rattle.chains.specs.declared.chain.Uniformised.the-variants as chains
 
@@ -110,15 +112,9 @@ module _ (S : Shape) (M : Columns) (q : Float) (seen : List Float) (C : ChainCol
           pub refused-none : unfitting leastObservation greatestWeight (S .states) seen ≡ false → 0 ≡ uniformiseRefusal S M q seen C
           refused-none d = passed 0 (check-skip 7 _ _ _ a (check-skip 8 _ _ _ b (check-skip 11 _ _ _ c (check-skip 12 _ _ _ d refl))))
 
--- ---- `uniformise`: the answer and the lists
+-- ---- the chain laid in the lists
 
-equal-ends : {m m' k k' : ℕ} {s : StateId} {i : ℕ} {O O' T T' : List ℕ} {P P' W W' : List Float} → m ≡ m' → k ≡ k' → s .0 ≡ i → O ≡ O' → T ≡ T' → P ≡ P' → W ≡ W'
-    → ends (chains.Chain (record { states = m; entries = k; initial = s })) (chainColumns O T P W) ≡ ends (chains.Chain (record { states = m'; entries = k'; initial = record { 0 = i } })) (chainColumns O' T' P' W')
-equal-ends {m} {m'} {k} {k'} {s} {i} {O} {O'} {T} {T'} {P} {P'} {W} {W'} a b c d e f g =
-    let h : s ≡ record { 0 = i } = ap (λ (x : ℕ). record { 0 = x }) c in
-    rw (a, b, h, d, e, f, g)
-
--- what is known of the model and the lists where nothing is refused
+-- what is known of the model and the lists where the model passes and no list is short
 pub record Ready (S : Shape) (M : Columns) (seen : List Float) (C : ChainColumns) : Type 0 where
   pub model-is : Accepted S M
   pub seen-long : S .states ≤ length seen
@@ -126,6 +122,76 @@ pub record Ready (S : Shape) (M : Columns) (seen : List Float) (C : ChainColumns
   pub targets-long : S .edges + S .states ≤ length (C .targets)
   pub probabilities-long : S .edges + S .states ≤ length (C .probabilities)
   pub observations-long : S .states ≤ length (C .observations)
+
+pub ready : (S : Shape) (M : Columns) (seen : List Float) (C : ChainColumns) → modelRefusal S M ≡ 0 → cramped (S .states) (S .edges) (length seen) C ≡ false → Ready S M seen C
+ready S M seen C a g =
+    let (b₁, c₁) = or-f (ltb (length seen) (S .states)) _ g in
+    let (b₂, c₂) = or-f (ltb (length (C .offsets)) (S .states + 1)) _ c₁ in
+    let (b₃, c₃) = or-f (ltb (length (C .targets)) (S .edges + S .states)) _ c₂ in
+    let (b₄, b₅) = or-f (ltb (length (C .probabilities)) (S .edges + S .states)) _ c₃ in
+    let o : S .states + 1 ≤ length (C .offsets) = ltb-false (length (C .offsets)) (S .states + 1) b₂ in
+    record { model-is = accepted S M a; seen-long = ltb-false _ _ b₁; offsets-long = omega arith; targets-long = ltb-false _ _ b₃; probabilities-long = ltb-false _ _ b₄; observations-long = ltb-false _ _ b₅ }
+
+-- what `lay` asks for
+pub enough : {S : Shape} {M : Columns} {seen : List Float} {C : ChainColumns} → Ready S M seen C
+    → (Readable (S .states) (M .offsets) (M .edgeTargets) (M .edgeWeights) × (S .states < length (C .offsets)) × (getD (M .offsets) (S .states) 0 + S .states ≤ length (C .targets)) × (getD (M .offsets) (S .states) 0 + S .states ≤ length (C .probabilities)))
+    × ((S .states ≤ length seen) × (S .states ≤ length (C .observations)))
+enough R =
+    let e = R .model-is .begins-last in
+    ((readable (R .model-is), R .offsets-long, (let h = R .targets-long in omega arith), (let h = R .probabilities-long in omega arith)), (R .seen-long, R .observations-long))
+
+equal-layings : {H H' : ChainShape} {O O' T T' : List ℕ} {P P' W W' : List Float} → H ≡ H' → O ≡ O' → T ≡ T' → P ≡ P' → W ≡ W' → laying H (chainColumns O T P W) ≡ laying H' (chainColumns O' T' P' W')
+equal-layings a o t p w = rw (a, o, t, p, w)
+
+module _ (S : Shape) (M : Columns) (q : Float) where
+  -- the rows of the chain
+  abbrev pub made : List (List Jump)
+  made = chainRows q 0 (model S M)
+
+  pub made-length : length made ≡ S .states
+  made-length = rows-length q 0 (model S M) ∙ model-length S M
+
+  pub made-at : (s : ℕ) → s < S .states → getD made s [] ≡ chainRow q s (row M s)
+  made-at s h = rows-at q (model S M) s (let l = model-length S M in omega arith) ∙ ap (chainRow q s) (model-at S M s h)
+
+  -- what `lay` leaves is the chain's
+  pub laid-is : (seen : List Float) (C : ChainColumns) (i : ℕ) (H : ChainShape) (s : StateId) (O T : List ℕ) (P W : List Float) → s .0 ≡ i
+      → (H ≡ shape (S .states) (length (layout.joined made)) s) × (O ≡ over (startsFrom 0 made) (C .offsets)) × (T ≡ over (targets (layout.joined made)) (C .targets)) × (P ≡ over (rates (layout.joined made)) (C .probabilities))
+      → W ≡ over (take (S .states) seen) (C .observations)
+      → laying H (chainColumns O T P W) ≡ laying (shapeOf (uniformise (model S M) q seen i)) (laid (columnsOf (uniformise (model S M) q seen i)) C)
+  unfolding uniformise shapeOf columnsOf
+  laid-is seen C i H s O T P W e (a, o, t, p) w =
+      let u : take (S .states) seen ≡ take (length (model S M)) seen = ap (λ (j : ℕ). take j seen) (sym (model-length S M)) in
+      let k : s ≡ record { 0 = i } = ap (λ (x : ℕ). record { 0 = x }) e in
+      equal-layings (a ∙ ap (λ (n : ℕ). shape n (length (layout.joined made)) s) (sym made-length) ∙ ap (shape (length made) (length (layout.joined made))) k) o t p (w ∙ ap (λ (l : List Float). over l (C .observations)) u)
+
+-- ---- `lay_chain`: which answer is due
+
+module _ (S : Shape) (M : Columns) (q : Float) (seen : List Float) (i : ℕ) (C : ChainColumns) (m : ℕ) (e : m ≡ modelRefusal S M) where
+  abbrev chain : Chain
+  chain = uniformise (model S M) q seen i
+
+  abbrev fits : Bool
+  fits = not (cramped (S .states) (S .edges) (length seen) C)
+
+  pub lay-refused : m ≢ 0 → (H : ChainShape) → H ≡ shape 0 0 (record { 0 = 0 }) → laying H C ≡ layChain S M q seen i C
+  unfolding layChain
+  lay-refused h H a = ap (λ (K : ChainShape). laying K C) a ∙ ap (λ (b : Bool). layIf (b && fits) chain C) (sym (ap (λ (k : ℕ). eqb k 0) (sym e) ∙ ne-eqb m 0 h))
+
+  passes : m ≡ 0 → eqb (modelRefusal S M) 0 ≡ true
+  passes z = eq-eqb _ _ (sym e ∙ z)
+
+  pub lay-cramped : m ≡ 0 → cramped (S .states) (S .edges) (length seen) C ≡ true → (H : ChainShape) → H ≡ shape 0 0 (record { 0 = 0 }) → laying H C ≡ layChain S M q seen i C
+  unfolding layChain
+  lay-cramped z c H a =
+      ap (λ (K : ChainShape). laying K C) a
+      ∙ sym (ap (λ (b : Bool). layIf (b && fits) chain C) (passes z) ∙ ap (λ (b : Bool). layIf (not b) chain C) c)
+
+  pub lay-made : m ≡ 0 → cramped (S .states) (S .edges) (length seen) C ≡ false → (X : Laying) → X ≡ laying (shapeOf chain) (laid (columnsOf chain) C) → X ≡ layChain S M q seen i C
+  unfolding layChain
+  lay-made z c X a = a ∙ sym (ap (λ (b : Bool). layIf (b && fits) chain C) (passes z) ∙ ap (λ (b : Bool). layIf (not b) chain C) c)
+
+-- ---- `uniformise`: the answer and the lists
 
 module _ (S : Shape) (M : Columns) (q : Float) (seen : List Float) (C : ChainColumns) (n : ℕ) (e : n ≡ uniformiseRefusal S M q seen C) where
   settled-refused : (k : ℕ) (A : Chain) → k ≢ 0 → ends (chains.Refused k) C ≡ settled k A C
@@ -140,30 +206,9 @@ module _ (S : Shape) (M : Columns) (q : Float) (seen : List Float) (C : ChainCol
   ready-to z =
       let (a, f) = first-none (modelRefusal S M) (later S M q seen C (modelRefusal S M) refl) (refusal-is S M q seen C (modelRefusal S M) refl ∙ sym e ∙ z) in
       let (g, h) = check-none 6 _ _ f in
-      let (b₁, c₁) = or-f (ltb (length seen) (S .states)) _ g in
-      let (b₂, c₂) = or-f (ltb (length (C .offsets)) (S .states + 1)) _ c₁ in
-      let (b₃, c₃) = or-f (ltb (length (C .targets)) (S .edges + S .states)) _ c₂ in
-      let (b₄, b₅) = or-f (ltb (length (C .probabilities)) (S .edges + S .states)) _ c₃ in
-      let o : S .states + 1 ≤ length (C .offsets) = ltb-false (length (C .offsets)) (S .states + 1) b₂ in
-      record { model-is = accepted S M a; seen-long = ltb-false _ _ b₁; offsets-long = omega arith; targets-long = ltb-false _ _ b₃; probabilities-long = ltb-false _ _ b₄; observations-long = ltb-false _ _ b₅ }
+      ready S M seen C a g
 
-  -- the rows of the chain
-  abbrev pub made : List (List Jump)
-  made = chainRows q 0 (model S M)
-
-  pub made-length : length made ≡ S .states
-  made-length = rows-length q 0 (model S M) ∙ model-length S M
-
-  pub made-at : (s : ℕ) → s < S .states → getD made s [] ≡ chainRow q s (row M s)
-  made-at s h = rows-at q (model S M) s (let l = model-length S M in omega arith) ∙ ap (chainRow q s) (model-at S M s h)
-
-  pub answer-made : n ≡ 0 → (k : ℕ) (s : StateId) (O T : List ℕ) (P W : List Float) → s .0 ≡ start (S .initial)
-      → (k ≡ length (layout.joined made)) × (O ≡ over (startsFrom 0 made) (C .offsets)) × (T ≡ over (targets (layout.joined made)) (C .targets)) × (P ≡ over (rates (layout.joined made)) (C .probabilities))
-      → W ≡ over (take (S .states) seen) (C .observations)
-      → ends (chains.Chain (record { states = S .states; entries = k; initial = s })) (chainColumns O T P W) ≡ uniformised S M q seen C
-  unfolding uniformised uniformise shapeOf columnsOf
-  answer-made z k s O T P W i (a, o, t, p) w =
-      let A = uniformise (model S M) q seen (start (S .initial)) in
-      let u : take (S .states) seen ≡ take (length (model S M)) seen = ap (λ (j : ℕ). take j seen) (sym (model-length S M)) in
-      equal-ends (sym made-length) a i o t p (w ∙ ap (λ (l : List Float). over l (C .observations)) u)
-      ∙ ap (λ (j : ℕ). settled j A C) (sym z ∙ e)
+  pub answer-made : n ≡ 0 → (X : Laying) → X ≡ laying (shapeOf (uniformise (model S M) q seen (start (S .initial)))) (laid (columnsOf (uniformise (model S M) q seen (start (S .initial)))) C)
+      → ends (chains.Chain (X .shape)) (X .lists) ≡ uniformised S M q seen C
+  unfolding uniformised
+  answer-made z X a = ap (λ (L : Laying). ends (chains.Chain (L .shape)) (L .lists)) a ∙ ap (λ (j : ℕ). settled j (uniformise (model S M) q seen (start (S .initial))) C) (sym z ∙ e)

@@ -1,7 +1,9 @@
 // `common_rate` and `uniformise` of kantorovich.rs.
+use crate::checks::cramped;
 use crate::checks::uniformise_refusal;
 use crate::rates::greatest_exit;
 use crate::rows::make_rows;
+use bisim_core::ids::StateId;
 use bisim_core::wlts::Shape;
 use bisim_core::wlts::model_refusal;
 use chain_theory::ChainShape;
@@ -9,12 +11,17 @@ use numbers::larger;
 use parts::refusals::earlier;
 use parts::starts::start;
 ghost use mathlib.Core.Path.{_≡_};
-ghost use Prim.Native.Nat.{_≤_};
-ghost use lib.ListN.{length, take};
+ghost use mathlib.Core.List.{List, []};
+ghost use Prim.Native.Nat.{ℕ, _+_, _≤_, _<_};
+ghost use lib.ListN.{length, getD, take};
 ghost use Rattle.numbers.specs.Lists.{over};
 ghost use Rattle.bisim_core.specs.Data.{columns};
-ghost use Rattle.chain_theory.specs.Columns.{chainColumns};
-ghost use Rattle.chain_theory.specs.Chain.{orOne};
+ghost use Rattle.bisim_core.specs.Model;
+ghost use Rattle.epsdelta_theory.specs.Jumps;
+ghost use Rattle.epsdelta_theory.specs.Jumps.{Jump, rates};
+ghost use Rattle.epsdelta_theory.proofs.RowsIn.{Readable};
+ghost use Rattle.chain_theory.specs.Columns.{chainColumns, startsFrom, joined};
+ghost use Rattle.chain_theory.specs.Chain.{orOne, chainRow};
 ghost use Rattle.chains.specs.Outcome;
 
 // The rate, or the number of the first check that fails.
@@ -90,6 +97,55 @@ fn copy(from: &[f64], n: usize, to: &mut [f64])
     }
 }
 
+// The rows of a model at a rate, and an observation of each state, in lists that are long enough.
+fn lay(
+    states: usize,
+    offsets: &[u32],
+    edge_targets: &[u32],
+    edge_weights: &[f64],
+    rate: f64,
+    observations: &[f64],
+    initial: StateId,
+    chain_offsets: &mut [u32],
+    chain_targets: &mut [u32],
+    chain_probs: &mut [f64],
+    chain_seen: &mut [f64],
+) -> ChainShape
+    requires { ⌜ Readable states (now offsets) (now «edge_targets») (now «edge_weights») × (states < length (now «chain_offsets»)) × (getD (now offsets) states 0 + states ≤ length (now «chain_targets»)) × (getD (now offsets) states 0 + states ≤ length (now «chain_probs»)) ⌝ }
+    requires { ⌜ (states ≤ length (now observations)) × (states ≤ length (now «chain_seen»)) ⌝ }
+    ensures { λ r. ⌜ ((D L : List ℕ) (R : List (List Jump)) → length R ≡ states → ((s : ℕ) → s < states → getD R s [] ≡ chainRow rate s (Model.row (columns D (now (offsets .entry)) L (now («edge_targets» .entry)) (now («edge_weights» .entry))) s))
+        → (r ≡ Outcome.shape states (length (joined R)) initial) × (now («chain_offsets» .exit) ≡ over (startsFrom 0 R) (now («chain_offsets» .entry))) × (now («chain_targets» .exit) ≡ over (Jumps.targets (joined R)) (now («chain_targets» .entry))) × (now («chain_probs» .exit) ≡ over (rates (joined R)) (now («chain_probs» .entry)))) ⌝ }
+    ensures { λ r. ⌜ now («chain_seen» .exit) ≡ over (take states (now (observations .entry))) (now («chain_seen» .entry)) ⌝ }
+{
+    let entries = make_rows(
+        states,
+        offsets,
+        edge_targets,
+        edge_weights,
+        rate,
+        chain_offsets,
+        chain_targets,
+        chain_probs,
+    );
+    copy(observations, states, chain_seen);
+    ChainShape {
+        states,
+        entries,
+        initial,
+    }
+}
+
+// No states.
+fn no_chain() -> ChainShape
+    ensures { λ r. ⌜ r ≡ Outcome.shape 0 0 (record { 0 = 0 }) ⌝ }
+{
+    ChainShape {
+        states: 0,
+        entries: 0,
+        initial: StateId(0),
+    }
+}
+
 // The chain of a model at a rate, with an observation of each state, in four lists that are lent: where the entries of each state begin, their targets and probabilities, and the observations.
 // The entries past them are as they were, and so are the lists after a refusal.
 pub fn uniformise(
@@ -125,22 +181,73 @@ pub fn uniformise(
     if refusal != 0 {
         return Uniformised::Refused(refusal);
     }
-    let entries = make_rows(
+    let initial = shape.initial;
+    let chain = lay(
         shape.states,
         offsets,
         edge_targets,
         edge_weights,
         rate,
+        observations,
+        start(initial),
         chain_offsets,
         chain_targets,
         chain_probs,
+        chain_seen,
     );
-    copy(observations, shape.states, chain_seen);
-    let initial = shape.initial;
-    let s = start(initial);
-    Uniformised::Chain(ChainShape {
-        states: shape.states,
-        entries: entries,
-        initial: s,
-    })
+    Uniformised::Chain(chain)
+}
+
+// The chain of a model at a rate from a state, as `uniformise` makes it, whatever the rate, the state and the observations. No states, and the lists as they were, where the model is refused or a list is short.
+pub fn lay_chain(
+    shape: Shape,
+    label_values: &[u32],
+    offsets: &[u32],
+    edge_labels: &[u32],
+    edge_targets: &[u32],
+    edge_weights: &[f64],
+    rate: f64,
+    observations: &[f64],
+    initial: StateId,
+    chain_offsets: &mut [u32],
+    chain_targets: &mut [u32],
+    chain_probs: &mut [f64],
+    chain_seen: &mut [f64],
+) -> ChainShape
+    ensures { λ r. ⌜ Outcome.laying r (chainColumns (now («chain_offsets» .exit)) (now («chain_targets» .exit)) (now («chain_probs» .exit)) (now («chain_seen» .exit))) ≡ Outcome.layChain shape (columns (now («label_values» .entry)) (now (offsets .entry)) (now («edge_labels» .entry)) (now («edge_targets» .entry)) (now («edge_weights» .entry))) rate (now (observations .entry)) (initial .0) (chainColumns (now («chain_offsets» .entry)) (now («chain_targets» .entry)) (now («chain_probs» .entry)) (now («chain_seen» .entry))) ⌝ }
+{
+    if model_refusal(
+        shape,
+        label_values,
+        offsets,
+        edge_labels,
+        edge_targets,
+        edge_weights,
+    ) != 0 {
+        return no_chain();
+    }
+    if cramped(
+        shape.states,
+        shape.edges,
+        observations,
+        chain_offsets,
+        chain_targets,
+        chain_probs,
+        chain_seen,
+    ) {
+        return no_chain();
+    }
+    lay(
+        shape.states,
+        offsets,
+        edge_targets,
+        edge_weights,
+        rate,
+        observations,
+        initial,
+        chain_offsets,
+        chain_targets,
+        chain_probs,
+        chain_seen,
+    )
 }

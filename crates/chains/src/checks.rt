@@ -9,15 +9,26 @@ use numbers::LEAST_OBSERVATION;
 use numbers::LEAST_WEIGHT;
 use parts::starts::absent;
 ghost use mathlib.Core.Path.{_≡_};
-ghost use Prim.Native.Nat.{_≤_};
+ghost use Prim.Native.Nat.{_+_};
+ghost use lib.Dec.{ltb};
 ghost use lib.ListN.{length};
 ghost use Rattle.bisim_core.specs.Data.{columns};
 ghost use Rattle.chain_theory.specs.Check;
 ghost use Rattle.chain_theory.specs.Columns.{chainColumns};
 ghost use Rattle.chains.specs.Outcome;
 
+// Whether n is below a + b.
+fn below_sum(n: usize, a: usize, b: usize) -> bool
+    ensures { λ r. ⌜ r ≡ ltb n (a + b) ⌝ }
+{
+    if n < a {
+        return true;
+    }
+    n - a < b
+}
+
 // Whether there are fewer observations than states, or a list lent for the chain is short.
-fn cramped(
+pub fn cramped(
     states: usize,
     edges: usize,
     observations: &[f64],
@@ -26,13 +37,12 @@ fn cramped(
     probs: &[f64],
     seen: &[f64],
 ) -> bool
-    requires { ⌜ (states ≤ 2000) × (edges ≤ 4096) ⌝ }
     ensures { λ r. ⌜ r ≡ Check.cramped states edges (length (now (observations .entry))) (chainColumns (now (offsets .entry)) (now (targets .entry)) (now (probs .entry)) (now (seen .entry))) ⌝ }
 {
-    let entries = edges + states;
     observations.len() < states
         || (offsets.len() <= states
-            || (targets.len() < entries || (probs.len() < entries || seen.len() < states)))
+            || (below_sum(targets.len(), edges, states)
+                || (below_sum(probs.len(), edges, states) || seen.len() < states)))
 }
 
 // The first check that fails, 0 if none does.

@@ -2,7 +2,6 @@
 use mathlib.Core.Path.{_≡_, sym, ap, _∙_}
 use mathlib.Core.Bool.{Bool, not}
 use Rattle.bisim_core.specs.Data.{Columns, columns}
-use Rattle.bisim_core.proofs.Accepted.{accepted}
 use Rattle.chain_theory.specs.Columns.{ChainColumns, chainColumns}
 use Rattle.chains.proofs.Answers.{refused-model, refused-7, refused-8, refused-11, refused-12, refused-none}
 use borrow.Author.Needs.{needs}
@@ -28,11 +27,7 @@ returns c =
     refused-model (s .args .shape) (given s) (s .args .rate) (s .args .observations .now) (lent s) _ (m .model-refusal .ensures) (c .if1 .taken)
 
 cramped-requires : tie.Need-cramped-requires
-cramped-requires c κs =
-    let m = c .before in
-    let s = m .before .before .before .before .before .before .before .before .before .before .before in
-    let A = accepted (s .args .shape) (given s) (sym (m .model-refusal .ensures) ∙ c .if1 .left) in
-    (A .states-few, A .edges-few)
+cramped-requires c κs = search needs
 
 returns-2 : tie.Need-returns-2
 returns-2 c =
