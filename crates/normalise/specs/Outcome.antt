@@ -1,10 +1,11 @@
 -- What `normalise` answers, and what it leaves in the observations of both chains.
 use Prim.Native.Nat.{ℕ, zero, suc}
-use mathlib.Core.Bool.{_||_}
+use mathlib.Core.Bool.{Bool, true, false, _&&_, _||_}
 use mathlib.Core.List.{List}
-use lib.ListN.{take}
+use lib.ListN.{length, take}
+use lib.Dec.{leb}
 use lib.Ieee.{Float}
-use Rattle.numbers.specs.Real.{leastObservation, greatestWeight}
+use Rattle.numbers.specs.Real.{nought, leastObservation, greatestWeight}
 use Rattle.numbers.specs.Refuse.{check}
 use Rattle.numbers.specs.Lists.{every, all, over}
 use Rattle.chain_theory.specs.Chain.{Scaled, normalise}
@@ -41,3 +42,22 @@ settled (suc n) s l r = ends (Refused (suc n)) l r
 unfoldable pub normalised : ChainShape → ChainColumns → ChainShape → ChainColumns → Outcome
 unfolding normaliseRefusal normalise
 normalised HL CL HR CR = settled (normaliseRefusal HL CL HR CR) (normalise (take (HL .states) (CL .observations)) (take (HR .states) (CR .observations))) (CL .observations) (CR .observations)
+
+-- ---- below the checks
+
+-- the difference of the greatest and the least, and both lists
+abbrev pub scaling : Float → List Float → List Float → Scaled
+scaling x l r = record { scale = x; left = l; right = r }
+
+-- scaled numbers over the front of what was there
+abbrev pub scaledOver : Scaled → List Float → List Float → Scaled
+scaledOver s l r = scaling (s .scale) (over (s .left) l) (over (s .right) r)
+
+abbrev pub scaledIf : Bool → Scaled → List Float → List Float → Scaled
+scaledIf true s l r = scaledOver s l r
+scaledIf false s l r = scaling nought l r
+
+-- the first n of one list and the first m of another; all as it was where a list is shorter
+unfoldable pub scaleTogether : ℕ → List Float → ℕ → List Float → Scaled
+unfolding normalise
+scaleTogether n l m r = scaledIf (leb n (length l) && leb m (length r)) (normalise (take n l) (take m r)) l r

@@ -74,6 +74,39 @@ fn rescale(list: &mut [f64], n: usize, least: f64, scale: f64)
     }
 }
 
+// The first numbers of two lists scaled together, by one least and one greatest over all of them. The difference of these.
+fn scale_in(left: &mut [f64], left_count: usize, right: &mut [f64], right_count: usize) -> f64
+    requires { ⌜ («left_count» ≤ length (now left)) × («right_count» ≤ length (now right)) ⌝ }
+    ensures { λ r. ⌜ Outcome.scaling r (now (left .exit)) (now (right .exit)) ≡ Outcome.scaledOver (Chain.normalise (take «left_count» (now (left .entry))) (take «right_count» (now (right .entry)))) (now (left .entry)) (now (right .entry)) ⌝ }
+{
+    let top = infinity();
+    let low = least_from(top, left, left_count);
+    let least = least_from(low, right, right_count);
+    let high = greatest_from(-top, left, left_count);
+    let scale = greatest_from(high, right, right_count) - least;
+    rescale(left, left_count, least, scale);
+    rescale(right, right_count, least, scale);
+    scale
+}
+
+// The same for any counts, as `normalise` does it below its checks. Where a list has fewer numbers than its count says, 0, and both lists are as they were.
+pub fn scale_together(
+    left: &mut [f64],
+    left_count: usize,
+    right: &mut [f64],
+    right_count: usize,
+) -> f64
+    ensures { λ r. ⌜ Outcome.scaling r (now (left .exit)) (now (right .exit)) ≡ Outcome.scaleTogether «left_count» (now (left .entry)) «right_count» (now (right .entry)) ⌝ }
+{
+    if left.len() < left_count {
+        return 0.0;
+    }
+    if right.len() < right_count {
+        return 0.0;
+    }
+    scale_in(left, left_count, right, right_count)
+}
+
 // The observations of two chains mapped to 0 to 1, by one least and one greatest over both; all to 0 where these are equal. Observations past the states are as they were, and so are all after a refusal.
 pub fn normalise(
     left: ChainShape,
@@ -111,12 +144,5 @@ pub fn normalise(
     if refusal != 0 {
         return Normalised::Refused(refusal);
     }
-    let top = infinity();
-    let low = least_from(top, left_seen, left.states);
-    let least = least_from(low, right_seen, right.states);
-    let high = greatest_from(-top, left_seen, left.states);
-    let scale = greatest_from(high, right_seen, right.states) - least;
-    rescale(left_seen, left.states, least, scale);
-    rescale(right_seen, right.states, least, scale);
-    Normalised::Scale(scale)
+    Normalised::Scale(scale_in(left_seen, left.states, right_seen, right.states))
 }
