@@ -67,7 +67,7 @@ module _ (SL : Shape) (ML : Columns) (SR : Shape) (MR : Columns) (x y n : ℕ) (
 
 -- ---- `uniformise`: what is refused
 
-split : (a b c d : Bool) (x : ℕ) → first (check 3 a (check 4 b (check 5 c (check 6 d 0)))) x ≡ check 3 a (check 4 b (check 5 c (check 6 d x)))
+pub split : (a b c d : Bool) (x : ℕ) → first (check 3 a (check 4 b (check 5 c (check 6 d 0)))) x ≡ check 3 a (check 4 b (check 5 c (check 6 d x)))
 split true b c d x = refl
 split false true c d x = refl
 split false false true d x = refl
