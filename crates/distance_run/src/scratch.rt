@@ -2,7 +2,8 @@
 ghost use mathlib.Core.Path.{_≡_};
 ghost use Rattle.distance_theory.specs.Outcome.{zeros, noughts};
 
-fn clear_states(list: &mut [u32])
+// Every entry of a list of states or places is 0.
+pub fn clear_states(list: &mut [u32])
     ensures { λ r. ⌜ now (list .exit) ≡ zeros (now (list .entry)) ⌝ }
 {
     let mut k = 0;
@@ -22,7 +23,8 @@ fn clear_codes(list: &mut [u64])
     }
 }
 
-fn clear_masses(list: &mut [f64])
+// Every entry of a list of masses or probabilities is 0.
+pub fn clear_masses(list: &mut [f64])
     ensures { λ r. ⌜ now (list .exit) ≡ noughts (now (list .entry)) ⌝ }
 {
     let mut k = 0;

@@ -1,0 +1,4 @@
+pub mod Making
+pub mod Readback
+pub mod Rows
+pub mod Measuring

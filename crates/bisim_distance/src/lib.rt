@@ -1,0 +1,3 @@
+// `bisim_distance` of kantorovich.rs: the distance of two models.
+mod make; // make.rt: the chains of both models
+mod measure; // measure.rt: their run
