@@ -1,4 +1,5 @@
 pub mod Making
-pub mod Readback
 pub mod Rows
+pub mod Readback
 pub mod Measuring
+pub mod Concluding

@@ -9,10 +9,9 @@ use lib.Dec.{ltb, leb}
 use lib.Ieee.{Float}
 use lib.ListN.{length, take, replicate}
 use lib.Seq.{take-all}
-use borrow.Author.Tests.{ltb-false, le-leb, not-false}
-use Rattle.numbers.specs.Lists.{all}
+use borrow.Author.Tests.{ltb-false, le-leb}
 use Rattle.numbers.specs.Real.{nought}
-use Rattle.numbers.proofs.Bools.{and-t, or-f, and-second}
+use Rattle.numbers.proofs.Bools.{or-f, and-second}
 use Rattle.bisim_core.specs.Data.{Edge, Columns}
 use Rattle.bisim_core.specs.declared.wlts.Shape.{Shape}
 use Rattle.bisim_core.specs.Model.{model}
@@ -23,13 +22,13 @@ use Rattle.chain_theory.specs.Columns.{ChainColumns, chainColumns, chainOf, sha
 use Rattle.chain_theory.specs.declared.ChainShape.{ChainShape}
 use Rattle.chain_theory.proofs.Chains.{rows-length}
 use Rattle.chains.specs.Outcome.{laid}
-use Rattle.distance_theory.specs.Pairs.{most}
-use Rattle.distance_theory.specs.Refusal.{short, excessive, bisimRefusal}
+use Rattle.distance_theory.specs.Refusal.{excessive, bisimRefusal}
 use Rattle.distance_theory.specs.Outcome.{Run, run, bisimRun, blank, zeros, noughts}
 use Rattle.distance_theory.specs.declared.MetricOptions.{MetricOptions}
-use Rattle.distance_run.specs.Run.{fits, roomy, runnable, Ran, ranAs, ranIf, ranOf}
+use Rattle.distance_run.specs.Run.{fits, runnable, Ran, ranAs, ranIf, ranOf}
 use Rattle.distance_run.specs.Told.{refusedWith, toldOf}
 use Rattle.distance_run.specs.declared.told.Told.{Told}
+use Rattle.distance.proofs.Concluding.{long-enough}
 use Rattle.bisim_checks.proofs.Passed.{Side, Passed, passed}
 use Rattle.bisim_distance.specs.Made.{Made, made, leftOf, rightOf, madeOf}
 use Rattle.bisim_distance.specs.Measure.{Measuring, measuring, measuredIf, bisimMeasure}
@@ -61,16 +60,7 @@ module _ {S : Shape} {M : Columns} {s : ℕ} {seen : List Float} {C : ChainColum
       let n = model-length S M in
       laid-fits chain C sized (let f = X .states-few in omega arith) (let f = P .state-in in omega arith) (λ i h. rows-slender X q i h)
 
--- ---- lists of pairs, and how many contributions are asked for
-
-has-room : (l r c k : ℕ) → short (l ∷ r ∷ c ∷ []) k ≡ false → roomy l r c ≡ true
-unfolding all
-has-room l r c k e =
-    let (a, f) = or-f (not (leb most l && (leb most r && (leb most c && true)))) (ltb k 64) e in
-    let (b, g) = and-t (leb most l) _ (not-false _ a) in
-    let (d, h) = and-t (leb most r) _ g in
-    let (i, j) = and-t (leb most c) _ h in
-    sym (and-second _ _ true b (sym (sym (and-second _ _ true d (sym i)))))
+-- ---- how many contributions are asked for
 
 few-asked : (o : MetricOptions) → excessive o ≡ false → leb (o .top) 64 ≡ true
 few-asked o e = let (a, b) = or-f (ltb 64 (o .top)) _ e in le-leb _ _ (ltb-false 64 (o .top) a)
@@ -80,7 +70,7 @@ few-asked o e = let (a, b) = or-f (ltb 64 (o .top)) _ e in le-leb _ _ (ltb-false
 run-as : (γ : Float) (o : MetricOptions) (store : ℕ) {X X' Y Y' : Chain} → X ≡ X' → Y ≡ Y' → run X Y γ o store ≡ run X' Y' γ o store
 run-as γ o store {X} {X'} {Y} {Y'} e f = ap (λ (Z : Chain). run Z Y γ o store) e ∙ ap (λ (Z : Chain). run X' Z γ o store) f
 
-bisim-run-is : (L : List (List Edge)) (s : ℕ) (seenL : List Float) (R : List (List Edge)) (t : ℕ) (seenR : List Float) (γ : Float) (o : MetricOptions) (store : ℕ)
+pub bisim-run-is : (L : List (List Edge)) (s : ℕ) (seenL : List Float) (R : List (List Edge)) (t : ℕ) (seenR : List Float) (γ : Float) (o : MetricOptions) (store : ℕ)
     → bisimRun L s seenL R t seenR γ o store ≡ run (leftOf L s seenL R seenR) (rightOf L seenL R t seenR) γ o store
 unfolding bisimRun
 bisim-run-is L s seenL R t seenR γ o store = refl
@@ -132,7 +122,7 @@ module _ (SL : Shape) (ML : Columns) (s : ℕ) (seenL : List Float) (CL : ChainC
     runs : runnable (shapeOf A) (laid (columnsOf A) CL) (shapeOf B) (laid (columnsOf B) CR) (o .top) (length l) (length r) (length c) ≡ true
     runs =
         sym (and-second _ _ true (can-run left-side (commonRate L R) _ left-long) (sym (sym (and-second _ _ true (can-run right-side (commonRate L R) _ right-long)
-        (sym (sym (and-second _ _ true (few-asked o (facts .modest)) (sym (has-room (length l) (length r) (length c) records (facts .long))))))))))
+        (sym (sym (and-second _ _ true (few-asked o (facts .modest)) (sym (long-enough (length l) (length r) (length c) records (facts .long))))))))))
 
     answers : toldOf (run (chainOf (shapeOf A) (laid (columnsOf A) CL)) (chainOf (shapeOf B) (laid (columnsOf B) CR)) γ o (min (length p) (length m))) ≡ answer
     answers = ap (λ (X : Run). toldOf X) (run-as γ o (min (length p) (length m)) (reads left-side (commonRate L R) _ left-long) (reads right-side (commonRate L R) _ right-long) ∙ sym (bisim-run-is L s seenL R t seenR γ o (min (length p) (length m))))

@@ -45,7 +45,7 @@ passed-fits H C a b e =
     let (k, g) = or-f (ltb 2000 (H .states)) _ f in
     fits-of H C (ltb-false 2000 (H .states) k) a (λ x h. proper-few _ (row-proper H C e x h) .1) (ltb-false (length (C .observations)) (H .states) b)
 
-long-enough : (l r c records : ℕ) → short (l ∷ r ∷ c ∷ []) records ≡ false → roomy l r c ≡ true
+pub long-enough : (l r c records : ℕ) → short (l ∷ r ∷ c ∷ []) records ≡ false → roomy l r c ≡ true
 long-enough l r c records e =
     let a = not-false _ (or-f (not (all (λ n. leb most n) (l ∷ r ∷ c ∷ []))) _ e .0) in
     let t : ℕ → Bool = λ n. leb most n in
@@ -116,17 +116,17 @@ none-in true cs rs = refl
 none-in false cs rs = refl
 
 -- nothing is written where nothing is told
-none-written : (cs rs : List PairContribution) → written cs 0 rs .records ≡ rs
+pub none-written : (cs rs : List PairContribution) → written cs 0 rs .records ≡ rs
 none-written cs rs = none-in (ltb (length rs) 64) cs rs
 
 take-few : {A : Type 0} (n : ℕ) (l : List A) → n ≤ 64 → length (take n l) ≤ 64
 take-few n l h = let z = length-take n l in omega arith
 
-run-few : (A B : Chain) (γ : Float) (o : MetricOptions) (store : ℕ) → o .top ≤ 64 → length (run A B γ o store .listed) ≤ 64
+pub run-few : (A B : Chain) (γ : Float) (o : MetricOptions) (store : ℕ) → o .top ≤ 64 → length (run A B γ o store .listed) ≤ 64
 unfolding run listed
 run-few A B γ o store h = take-few (o .top) _ h
 
-run-counts : (A B : Chain) (γ : Float) (o : MetricOptions) (store : ℕ) → run A B γ o store .distance .contributions ≡ length (run A B γ o store .listed)
+pub run-counts : (A B : Chain) (γ : Float) (o : MetricOptions) (store : ℕ) → run A B γ o store .distance .contributions ≡ length (run A B γ o store .listed)
 unfolding run
 run-counts A B γ o store = refl
 
