@@ -223,7 +223,9 @@ pub fn lay_chain(
         edge_labels,
         edge_targets,
         edge_weights,
-    ) != 0 {
+    )
+        != 0
+    {
         return no_chain();
     }
     if cramped(

@@ -27,10 +27,12 @@ same-length-4 c = search needs
 
 returns : tie.Need-returns
 returns c =
-    let s = c .before .before .before .before .before .before .before .before .before .before .before .before .before .before .before .before .before .before .before .before .before .before in
-    ((λ D L R e f.
-    let (a, o, t, p) = c .before .before .before .before .before .before .before .before .before .before .make-rows .ensures D L R e f in
-    (ap (λ (k : ℕ). shape (s .args .states) k (s .args .initial)) a, o, t, p)), c .before .before .copy .ensures)
+    let s = c .before .before .before .before .before .before .before .before .before .before .before .before .before .before .before .before .before .before .before .before .before .before in (
+      (λ D L R e f.
+          let (a, o, t, p) = c .before .before .before .before .before .before .before .before .before .before .make-rows .ensures D L R e f in
+          (ap (λ (k : ℕ). shape (s .args .states) k (s .args .initial)) a, o, t, p)),
+      c .before .before .copy .ensures,
+    )
 
 pub lay-spec : {M : Type 1} → statement M
 lay-spec =
