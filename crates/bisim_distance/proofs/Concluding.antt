@@ -30,9 +30,9 @@ use Rattle.distance_run.specs.Run.{ranAs}
 use Rattle.distance.specs.Measuring.{answerOf, Handed, handed, handOut, memory}
 use Rattle.distance.proofs.Concluding.{none-written, run-few, run-counts}
 use Rattle.bisim_checks.proofs.Passed.{Passed, passed}
-use Rattle.bisim_distance.specs.Made.{leftOf, rightOf}
-use Rattle.bisim_distance.specs.Measure.{Measuring, measuring, measuredIf, bisimMeasure}
-use Rattle.bisim_distance.proofs.Measuring.{bisim-run-is}
+use Rattle.bisim_measure.specs.Made.{leftOf, rightOf}
+use Rattle.bisim_measure.specs.Measure.{Measuring, measuring, measuredIf, bisimMeasure}
+use Rattle.bisim_measure.proofs.Measuring.{bisim-run-is}
 
 -- ---- at most 64 contributions, as many as are told
 

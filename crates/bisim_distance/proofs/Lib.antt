@@ -1,5 +1,1 @@
-pub mod Making
-pub mod Rows
-pub mod Readback
-pub mod Measuring
 pub mod Concluding

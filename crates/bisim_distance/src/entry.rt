@@ -1,7 +1,7 @@
 // `bisim_distance`, with the row of contribution records that is lent to it.
-use crate::measure::measure;
 use bisim_core::ids::StateId;
 use bisim_core::wlts::Shape;
+use bisim_measure::measure::measure;
 use distance::entry::hand_out;
 use distance_theory::Measured;
 use distance_theory::MetricOptions;

@@ -66,12 +66,12 @@ use Rattle.distance.proofs.entry.hand_out as hands
 use Rattle.distance.proofs.entry.hand_out.Symbol as hands-def
 use Rattle.distance.proofs.entry.hand_out.Symbol.{name as #hands}
 use Rattle.distance.proofs.entry.hand_out.Met as hands-thm
-use Rattle.bisim_distance.specs.Measure.{measuring, bisimMeasure}
+use Rattle.bisim_measure.specs.Measure.{measuring, bisimMeasure}
 use Rattle.bisim_distance.proofs.Concluding.{concludes}
-use Rattle.bisim_distance.proofs.measure.measure as measures
-use Rattle.bisim_distance.proofs.measure.measure.Symbol as measures-def
-use Rattle.bisim_distance.proofs.measure.measure.Symbol.{name as #measures}
-use Rattle.bisim_distance.proofs.measure.measure.Met as measures-thm
+use Rattle.bisim_measure.proofs.measure.measure as measures
+use Rattle.bisim_measure.proofs.measure.measure.Symbol as measures-def
+use Rattle.bisim_measure.proofs.measure.measure.Symbol.{name as #measures}
+use Rattle.bisim_measure.proofs.measure.measure.Met as measures-thm
 use Rattle.bisim_distance.proofs.entry.bisim_distance.Key.{name as #entry}
 use Rattle.bisim_distance.proofs.entry.bisim_distance as f
 use Rattle.bisim_distance.proofs.entry.bisim_distance.Statement as stated
@@ -301,5 +301,5 @@ bisim-distance-spec 𝓤 H 𝓜 𝓖 𝓡 =
     entered 𝓤 H (tripleOf 𝓤 H (𝓖 .A) f.signature (f.spec 𝓤 H (𝓖 .A) (𝓜 .mem) (𝓡 .run)))
     (tables 𝓤 H 𝓜 𝓡 code.env .C) (tables 𝓤 H 𝓜 𝓡 code.env .Λ) #entry code.function (code.unfolded 𝓤 H 𝓜 𝓡)
     (entry-meets 𝓤 H (𝓖 .A) (givenOf 𝓤 H 𝓜 𝓖) (𝓜 .mem) (𝓡 .run) (tablesOf 𝓤 H 𝓜 (tables 𝓤 H 𝓜 𝓡 code.env))
-    (cited 𝓤 H (Measures 𝓤 H (𝓖 .A) (𝓜 .mem) (𝓡 .run)) 𝓜 𝓡 code.env #measures measures-def.routine code.calls-bisim-distance·measure·measure (measures-thm.met 𝓤 H 𝓜 𝓖 𝓡))
+    (cited 𝓤 H (Measures 𝓤 H (𝓖 .A) (𝓜 .mem) (𝓡 .run)) 𝓜 𝓡 code.env #measures measures-def.routine code.calls-bisim-measure·measure·measure (measures-thm.met 𝓤 H 𝓜 𝓖 𝓡))
     (cited 𝓤 H (Hands 𝓤 H (𝓖 .A) (𝓜 .mem) (𝓡 .run)) 𝓜 𝓡 code.env #hands hands-def.routine code.calls-distance·entry·hand-out (hands-thm.met 𝓤 H 𝓜 𝓖 𝓡)))

@@ -18,7 +18,7 @@ ghost use Rattle.chain_theory.specs.Columns.{chainColumns};
 ghost use Rattle.distance_theory.specs.Outcome.{blank};
 ghost use Rattle.distance_theory.specs.Refusal.{bisimRefusal};
 ghost use Rattle.distance_run.specs.Run.{ranAs, ranOf};
-ghost use Rattle.bisim_distance.specs.Measure.{measuring, bisimMeasure};
+ghost use Rattle.bisim_measure.specs.Measure.{measuring, bisimMeasure};
 
 // Every entry of a chain's lists is 0.
 fn clear_chain(offsets: &mut [u32], targets: &mut [u32], probs: &mut [f64], seen: &mut [f64])
@@ -164,7 +164,7 @@ fn measure_passed(
 }
 
 // Two models measured: a refusal of the arguments leaves all as it was; else the chains are made and run, and every list is all zero.
-pub(crate) fn measure(
+pub fn measure(
     left: Shape,
     left_values: &[u32],
     left_offsets: &[u32],

@@ -1,8 +1,8 @@
 -- The rate is the common one, and what is laid and scaled is the chains of the definition.
-use Rattle.bisim_distance.proofs.Making.{rate-is, all-made}
+use Rattle.bisim_measure.proofs.Making.{rate-is, all-made}
 use borrow.Author.Needs.{needs}
-use Rattle.bisim_distance.proofs.make.make_chains.Statement.{statement}
-use Rattle.bisim_distance.proofs.make.make_chains.Tie as tie
+use Rattle.bisim_measure.proofs.make.make_chains.Statement.{statement}
+use Rattle.bisim_measure.proofs.make.make_chains.Tie as tie
 
 common-rate-requires : tie.Need-common-rate-requires
 common-rate-requires c κs = search needs

@@ -30,11 +30,11 @@ use Rattle.distance_run.specs.Told.{refusedWith, toldOf}
 use Rattle.distance_run.specs.declared.told.Told.{Told}
 use Rattle.distance.proofs.Concluding.{long-enough}
 use Rattle.bisim_checks.proofs.Passed.{Side, Passed, passed}
-use Rattle.bisim_distance.specs.Made.{Made, made, leftOf, rightOf, madeOf}
-use Rattle.bisim_distance.specs.Measure.{Measuring, measuring, measuredIf, bisimMeasure}
-use Rattle.bisim_distance.proofs.Making.{left-size, right-size, seen-size}
-use Rattle.bisim_distance.proofs.Readback.{read-back, laid-fits}
-use Rattle.bisim_distance.proofs.Rows.{rows-slender}
+use Rattle.bisim_measure.specs.Made.{Made, made, leftOf, rightOf, madeOf}
+use Rattle.bisim_measure.specs.Measure.{Measuring, measuring, measuredIf, bisimMeasure}
+use Rattle.bisim_measure.proofs.Making.{left-size, right-size, seen-size}
+use Rattle.bisim_measure.proofs.Readback.{read-back, laid-fits}
+use Rattle.bisim_measure.proofs.Rows.{rows-slender}
 
 -- ---- a chain made of a model can be run, and is read back
 

@@ -24,7 +24,7 @@ use Rattle.chains.specs.declared.chain.Rated.{Rated}
 use Rattle.chains.proofs.Answers.{ready}
 use Rattle.normalise.specs.Outcome.{scaling, scaledOver, scaledIf, scaleTogether}
 use Rattle.bisim_checks.proofs.Passed.{Side}
-use Rattle.bisim_distance.specs.Made.{rateOf, Made, made, madeOf}
+use Rattle.bisim_measure.specs.Made.{rateOf, Made, made, madeOf}
 
 -- ---- a list over another
 

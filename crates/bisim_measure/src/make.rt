@@ -11,7 +11,7 @@ ghost use Rattle.bisim_core.specs.Data.{columns};
 ghost use Rattle.bisim_core.specs.Model.{model};
 ghost use Rattle.chain_theory.specs.Columns.{chainColumns};
 ghost use Rattle.bisim_checks.proofs.Passed.{Side};
-ghost use Rattle.bisim_distance.specs.Made.{rateOf, made, madeOf};
+ghost use Rattle.bisim_measure.specs.Made.{rateOf, made, madeOf};
 
 // Counts and initial states of both chains.
 pub struct Chains {

@@ -2,10 +2,10 @@
 use mathlib.Core.Path.{_≡_}
 use Rattle.chain_theory.specs.Columns.{ChainColumns}
 use Rattle.distance_run.specs.Run.{Ran}
-use Rattle.bisim_distance.specs.Measure.{measuring}
+use Rattle.bisim_measure.specs.Measure.{measuring}
 use borrow.Author.Needs.{needs}
-use Rattle.bisim_distance.proofs.measure.run_chains.Statement.{statement}
-use Rattle.bisim_distance.proofs.measure.run_chains.Tie as tie
+use Rattle.bisim_measure.proofs.measure.run_chains.Statement.{statement}
+use Rattle.bisim_measure.proofs.measure.run_chains.Tie as tie
 
 equal-measurings : {x y : Ran} {C C' D D' : ChainColumns} → x ≡ y → C ≡ C' → D ≡ D' → measuring x C D ≡ measuring y C' D'
 equal-measurings e f g = rw (e, f, g)

@@ -5,8 +5,8 @@ use Prim.Native.Nat.{ℕ}
 use lib.Ieee.{Float}
 use Rattle.chain_theory.specs.Columns.{chainColumns}
 use borrow.Author.Needs.{needs}
-use Rattle.bisim_distance.proofs.measure.clear_chain.Statement.{statement}
-use Rattle.bisim_distance.proofs.measure.clear_chain.Tie as tie
+use Rattle.bisim_measure.proofs.measure.clear_chain.Statement.{statement}
+use Rattle.bisim_measure.proofs.measure.clear_chain.Tie as tie
 
 equal-columns : {O O' T T' : List ℕ} {P P' W W' : List Float} → O ≡ O' → T ≡ T' → P ≡ P' → W ≡ W' → chainColumns O T P W ≡ chainColumns O' T' P' W'
 equal-columns o t p w = rw (o, t, p, w)

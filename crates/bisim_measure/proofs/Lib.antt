@@ -1,0 +1,4 @@
+pub mod Making
+pub mod Rows
+pub mod Readback
+pub mod Measuring
