@@ -1,4 +1,7 @@
 -- The arm says which variant the answer is, so that `ofNormalised` computes.
+use mathlib.Core.Path.{sym, ap}
+use Rattle.normalise.specs.declared.Normalised.{Normalised}
+use Rattle.replies.specs.Chains.{ofNormalised}
 use borrow.Author.Needs.{needs}
 use Rattle.replies.proofs.chain_answers.put_scale.Statement.{statement}
 use Rattle.replies.proofs.chain_answers.put_scale.Tie as tie
@@ -10,10 +13,10 @@ enum-known-answer-2 : tie.Need-enum-known-answer-2
 enum-known-answer-2 c = search needs
 
 returns : tie.Need-returns
-returns c = search needs
+returns c = let a = c .before .before .before .args in ap (λ (x : Normalised). ofNormalised x (a .scale .now)) (sym (c .before .answer .given .1))
 
 returns-2 : tie.Need-returns-2
-returns-2 c = rw (c .before .answer2 .given .1)
+returns-2 c = let a = c .before .before .before .args in ap (λ (x : Normalised). ofNormalised x (a .scale .now)) (sym (c .before .answer2 .given .1))
 
 pub put-scale-spec : {M : Type 1} → statement M
 put-scale-spec = tie.close (tie.spec enum-known-answer enum-known-answer-2 returns returns-2)
