@@ -9,7 +9,7 @@ ghost use mathlib.Core.Bool.{false};
 ghost use lib.Ieee.{binary64, nan, add, sub, le};
 ghost use Rattle.numbers.specs.Real.{nought};
 ghost use Rattle.numbers.specs.Choice;
-ghost use Rattle.flow_routes.proofs.Coding.{Room, Giving};
+ghost use Rattle.flow_routes.proofs.Coding.{Room, Giving, Shut};
 
 // Copies the rates of a row to the front of a list.
 pub(crate) fn copy(from: &[f64], to: &mut [f64])
@@ -42,7 +42,22 @@ fn give(
     x
 }
 
-// Target i of s gives to each target of t; gives the flow then.
+// Up to which of the first n targets of t nothing is left, `from` at least.
+fn first_open(rights: &[f64], from: usize, n: usize) -> usize
+    requires { ⌜ (n ≤ length (now rights)) × Shut from (now rights) ⌝ }
+    ensures { λ r. ⌜ Shut r (now (rights .entry)) ⌝ }
+{
+    let mut k = from;
+    while k < n {
+        if remains(rights[k]) {
+            return k;
+        }
+        k += 1;
+    }
+    k
+}
+
+// Target i of s gives to each target of t from `from` on, those before having nothing left; gives the flow then.
 fn give_row(
     left_targets: &[u32],
     right_targets: &[u32],
@@ -52,14 +67,15 @@ fn give_row(
     rights: &mut [f64],
     flows: &mut [f64],
     i: usize,
+    from: usize,
     before: f64,
 ) -> f64
-    requires { ⌜ Room (now «left_targets») (now «right_targets») states (now lefts) (now rights) (now flows) × (i < length (now «left_targets»)) ⌝ }
-    ensures { λ r. ⌜ Giving (now («left_targets» .entry)) (now («right_targets» .entry)) states (now (relation .entry)) (now (lefts .entry)) (now (rights .entry)) (now (flows .entry)) before i (now (lefts .exit)) (now (rights .exit)) (now (flows .exit)) r (i + 1) 0 ⌝ }
+    requires { ⌜ Room (now «left_targets») (now «right_targets») states (now lefts) (now rights) (now flows) × (i < length (now «left_targets»)) × Shut from (now rights) ⌝ }
+    ensures { λ r. ⌜ Shut from (now (rights .exit)) × Giving (now («left_targets» .entry)) (now («right_targets» .entry)) states (now (relation .entry)) (now (lefts .entry)) (now (rights .entry)) (now (flows .entry)) before i (now (lefts .exit)) (now (rights .exit)) (now (flows .exit)) r (i + 1) 0 ⌝ }
 {
     let base = left_targets[i] as usize * states;
     let mut total = before;
-    let mut k: usize = 0;
+    let mut k = from;
     while k < right_targets.len() {
         if !remains(lefts[i]) {
             return total;
@@ -90,6 +106,7 @@ pub(crate) fn give_rows(
     ensures { λ r. ⌜ ((i : ℕ) × (le need r ≡ false → length (now («left_targets» .entry)) ≤ i) × Giving (now («left_targets» .entry)) (now («right_targets» .entry)) states (now (relation .entry)) (now (lefts .entry)) (now (rights .entry)) (now (flows .entry)) nought 0 (now (lefts .exit)) (now (rights .exit)) (now (flows .exit)) r i 0) ⌝ }
 {
     let mut total = 0.0;
+    let mut from: usize = 0;
     let mut i: usize = 0;
     while i < left_targets.len() {
         total = give_row(
@@ -101,12 +118,14 @@ pub(crate) fn give_rows(
             rights,
             flows,
             i,
+            from,
             total,
         );
         i += 1;
         if need <= total {
             return total;
         }
+        from = first_open(rights, from, right_targets.len());
     }
     total
 }

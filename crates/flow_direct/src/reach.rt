@@ -102,6 +102,32 @@ fn reach_small(
     )
 }
 
+// The same for rows of at most 12.
+fn reach_middle(
+    left_targets: &[u32],
+    left_rates: &[f64],
+    right_targets: &[u32],
+    right_rates: &[f64],
+    states: usize,
+    relation: &[u8],
+    need: f64,
+) -> Verdict
+    requires { ⌜ (states ≤ 2000) × (length (now «left_targets») ≤ 12) × (length (now «right_targets») ≤ 12) × (length (now «left_rates») ≡ length (now «left_targets»)) × (length (now «right_rates») ≡ length (now «right_targets»)) ⌝ }
+    ensures { λ r. ⌜ Told (now («left_targets» .entry)) (now («left_rates» .entry)) (now («right_targets» .entry)) (now («right_rates» .entry)) states (now (relation .entry)) need (r .known) (r .passes) ⌝ }
+{
+    let mut flows = [0.0f64; 144];
+    reach_in(
+        left_targets,
+        left_rates,
+        right_targets,
+        right_rates,
+        states,
+        relation,
+        need,
+        &mut flows,
+    )
+}
+
 // The same for rows of at most 31 targets.
 fn reach_large(
     left_targets: &[u32],
@@ -144,6 +170,19 @@ fn reach(
     if left_targets.len() <= 8 {
         if right_targets.len() <= 8 {
             return reach_small(
+                left_targets,
+                left_rates,
+                right_targets,
+                right_rates,
+                states,
+                relation,
+                need,
+            );
+        }
+    }
+    if left_targets.len() <= 12 {
+        if right_targets.len() <= 12 {
+            return reach_middle(
                 left_targets,
                 left_rates,
                 right_targets,

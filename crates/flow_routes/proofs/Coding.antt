@@ -61,6 +61,38 @@ pub record FirstOf (n r : ℕ) (P : ℕ → Type 0) : Type 0 where
   pub found : r < n → P r
   pub none : (j : ℕ) → j < r → P j → ⊥
 
+-- of the numbers from j on, r is the first below n of which P holds, or n
+pub record FirstFrom (n j r : ℕ) (P : ℕ → Type 0) : Type 0 where
+  pub upto : r ≤ n
+  pub found : r < n → P r
+  pub none : (i : ℕ) → j ≤ i → i < r → P i → ⊥
+
+pub from-begins : (n : ℕ) (P : ℕ → Type 0) → FirstFrom n n n P
+from-begins n P = record { upto = omega arith; found = λ h. absurd (omega arith); none = λ i h g. absurd (omega arith) }
+
+-- one number down: q is j where P holds of it, and else r
+pub from-down : {n j r : ℕ} {P : ℕ → Type 0} → FirstFrom n j r P → 0 < j → j ≤ n → {q : ℕ} → ((q ≡ j - 1) × P (j - 1)) ⊎ ((q ≡ r) × (P (j - 1) → ⊥)) → FirstFrom n (j - 1) q P
+from-down {n} {j} {r} {P} I lo hi {q} (inl (e, x)) = record { upto = omega arith; found = λ _. subst⁻¹ P e x; none = λ i h g. absurd (omega arith) }
+from-down {n} {j} {r} {P} I lo hi {q} (inr (e, f)) = record {
+  upto = let u = I .upto in omega arith;
+  found = λ h. subst⁻¹ P e (I .found (omega arith));
+  none = λ i h g x. pick i h g x (eq-or-ne i (j - 1));
+}
+  where
+    pick : (i : ℕ) → j - 1 ≤ i → i < q → P i → (i ≡ j - 1) ⊎ (i ≢ j - 1) → ⊥
+    pick i h g x (inl z) = f (subst P z x)
+    pick i h g x (inr d) = I .none i (omega arith) (omega arith) x
+
+-- `lower`: of two tests that hold where P's parts do
+pub both-or-none : {j r q : ℕ} {X Y : Type 0} (one two : Bool) → (one ≡ true → two ≡ true → q ≡ j) × (one ≡ false → q ≡ r) × (two ≡ false → q ≡ r) → (one ≡ true → X) → (one ≡ false → X → ⊥) → (two ≡ true → Y) → (two ≡ false → Y → ⊥)
+    → ((q ≡ j) × (X × Y)) ⊎ ((q ≡ r) × (X × Y → ⊥))
+both-or-none true true (a, b, c) f g h k = inl (a refl refl, (f refl, h refl))
+both-or-none true false (a, b, c) f g h k = inr (c refl, λ p. k refl (p .1))
+both-or-none false two (a, b, c) f g h k = inr (b refl, λ p. g refl (p .0))
+
+pub from-ends : {n j r : ℕ} {P : ℕ → Type 0} → FirstFrom n j r P → j ≤ 0 → FirstOf n r P
+from-ends I h = record { upto = I .upto; found = I .found; none = λ i g. I .none i (omega arith) g }
+
 -- P holds of no number below j
 pub record NoneOf (n j : ℕ) (P : ℕ → Type 0) : Type 0 where
   pub upto : j ≤ n
@@ -77,14 +109,8 @@ module _ {n j : ℕ} {P : ℕ → Type 0} (I : NoneOf n j P) where
       pick i g x (inl e) = f (subst P e x)
       pick i g x (inr d) = I .none i (omega arith) x
 
-  pub first-found : j < n → P j → FirstOf n j P
-  first-found h x = record { upto = I .upto; found = λ _. x; none = I .none }
-
   pub first-none : n ≤ j → FirstOf n n P
   first-none h = let u = I .upto in record { upto = omega arith; found = λ g. absurd (omega arith); none = λ i g. I .none i (omega arith) }
-
-  pub first-end : n ≤ j → FirstOf n j P
-  first-end h = record { upto = I .upto; found = λ g. absurd (omega arith); none = I .none }
 
 -- ---- a copy
 
@@ -108,6 +134,21 @@ module _ {s d₀ d : List Float} {i : ℕ} (I : Copying s d₀ d i) where
   copy-ends h = (I .size, λ k g. I .copied k (omega arith))
 
 -- ---- the first pushes
+
+-- nothing is left of the first f targets of t
+pub record Shut (f : ℕ) (B : List Float) : Type 0 where
+  pub at : (q : ℕ) → q < f → lt eps (getD B q nan) ≡ false
+
+pub shut-on : {f k : ℕ} {B : List Float} → Shut f B → f ≤ k → (x : Float) → Shut f (set B k x)
+shut-on {f} {k} {B} h l x = record { at = λ q m. ap (lt eps) (getD-set-other B k q x nan (omega arith)) ∙ h .at q m }
+
+-- nor of the next one
+pub shut-next : {f : ℕ} {B : List Float} → Shut f B → lt eps (getD B f nan) ≡ false → Shut (f + 1) B
+shut-next {f} {B} h o = record { at = λ q m. pick q m (eq-or-ne q f) }
+  where
+    pick : (q : ℕ) → q < f + 1 → (q ≡ f) ⊎ (q ≢ f) → lt eps (getD B q nan) ≡ false
+    pick q m (inl e) = ap (λ (y : ℕ). lt eps (getD B y nan)) e ∙ o
+    pick q m (inr d) = h .at q (omega arith)
 
 -- from the state A₀ B₀ F₀ t₀ with the turn at i₀ to the state A B F t with the turn at i and k
 pub record Giving (us ts : List ℕ) (n : ℕ) (store : List ℕ) (A₀ B₀ F₀ : List Float) (t₀ : Float) (i₀ : ℕ) (A B F : List Float) (t : Float) (i k : ℕ) : Type 0 where
@@ -151,10 +192,18 @@ module _ {us ts : List ℕ} {n : ℕ} {store : List ℕ} {A₀ B₀ F₀ : List 
   pub giving-turns : (lt eps (getD A i nan) ≡ true → length ts ≤ k) → Giving us ts n store A₀ B₀ F₀ t₀ i₀ A B F t (i + 1) 0
   giving-turns f = record { sized = I .sized; state = λ G R S K. let (X, Y) = I .state G R S K in (X, cursor-turns Y (λ a. rw (R .rights) (f a))) }
 
+  -- the first targets of t have nothing left
+  pub giving-from : k ≡ 0 → {f : ℕ} → Shut f B → Giving us ts n store A₀ B₀ F₀ t₀ i₀ A B F t i f
+  giving-from e h = record { sized = I .sized; state = λ G R S K. let (X, Y) = I .state G R S K in (X, record { rows = Y .rows; row = λ q l m u o. h .at q l }) }
+
 -- the same lists and flow under other names
 pub giving-same : {us ts : List ℕ} {n : ℕ} {store : List ℕ} {A₀ B₀ F₀ : List Float} {t₀ : Float} {i₀ : ℕ} {A B F : List Float} {t : Float} {i k : ℕ} → Giving us ts n store A₀ B₀ F₀ t₀ i₀ A B F t i k
     → {A' B' F' : List Float} {t' : Float} → A' ≡ A → B' ≡ B → F' ≡ F → t' ≡ t → Giving us ts n store A₀ B₀ F₀ t₀ i₀ A' B' F' t' i k
 giving-same I ea eb ef et = rw (ea, eb, ef, et) I
+
+pub given-on : {us ts : List ℕ} {n : ℕ} {store : List ℕ} {A₀ B₀ F₀ : List Float} {t₀ : Float} {i₀ : ℕ} {A B F : List Float} {t : Float} {i k f : ℕ} → f ≤ k → Shut f B → Giving us ts n store A₀ B₀ F₀ t₀ i₀ A B F t i (k + 1)
+    → {A' B' F' : List Float} {t' : Float} → A' ≡ A → B' ≡ B → F' ≡ F → t' ≡ t → Giving us ts n store A₀ B₀ F₀ t₀ i₀ A' B' F' t' i (k + 1) × (f ≤ k + 1) × Shut f B'
+given-on {f = f} l h I ea eb ef et = (giving-same I ea eb ef et, omega arith, subst⁻¹ (Shut f) eb h)
 
 -- from one turn to a later one
 pub giving-joins : {us ts : List ℕ} {n : ℕ} {store : List ℕ} {A₀ B₀ F₀ : List Float} {t₀ : Float} {i₀ : ℕ} {A₁ B₁ F₁ : List Float} {t₁ : Float} {i₁ : ℕ} {A B F : List Float} {t : Float} {i : ℕ}
