@@ -1,17 +1,16 @@
--- Noted strikes as code reads and writes them: places passed one by one, levels that fall, and what a turn leaves noted.
+-- Noted strikes as code reads and writes them: places passed one by one, a sweep that is over, and what a turn leaves noted.
 use mathlib.Core.Path.{_≡_, sym, ap, subst, subst⁻¹, _∙_}
 use mathlib.Core.Logic.{_⊎_, inl, inr, _≢_}
 use mathlib.Core.Bool.{Bool, true, false, _&&_, true≢false}
 use mathlib.Core.List.{List}
-use Prim.Native.Nat.{ℕ, _+_, _*_, _/_, _≤_, _<_}
+use Prim.Native.Nat.{ℕ, _+_, _*_, _≤_, _<_}
 use native.Mathlib.Omega.{arith}
 use lib.Ieee.{Float, nan}
-use lib.ListN.{length, getD, set, take, replicate, getD-replicate}
-use lib.Seq.{getD-take, getD-set-same, getD-set-other}
+use lib.ListN.{length, getD, set, replicate, length-set, length-replicate, getD-replicate}
+use lib.Seq.{getD-set-same, getD-set-other}
 use Rattle.numbers.specs.Real.{isZero}
 use Rattle.numbers.specs.Bits.{packed, bitAt}
 use Rattle.numbers.proofs.Bools.{eq-or-ne, and-t}
-use Rattle.numbers.proofs.Parts.{take-replicate-length}
 use Rattle.epsdelta_theory.proofs.Pairs.{packed-holds}
 use Rattle.epsdelta_theory.proofs.TasksIn.{RowsFit, testIn}
 use Rattle.epsdelta_theory.proofs.Unchanged.{Noted, noted-next}
@@ -24,33 +23,39 @@ one-more A c k all e j h l = pick (eq-or-ne j k)
     pick (inl p) = subst A (sym p) e
     pick (inr p) = all j h (omega arith)
 
--- the levels of n states, at first
-pub first-levels : (n m : ℕ) → 64 * n ≤ m → (n * 64 ≤ length (take (64 * n) (replicate {A = ℕ} m 2))) × ((i : ℕ) → i < n * 64 → getD (take (64 * n) (replicate {A = ℕ} m 2)) i 0 ≡ 2)
-first-levels n m h =
-    let z = take-replicate-length {A = ℕ} (64 * n) m 2 h in
-    (omega arith, λ i l. getD-take (64 * n) (replicate m 2) i 0 (omega arith) ∙ getD-replicate m i 2 0 (omega arith))
+-- the words of n states, at first
+pub first-words : (n m : ℕ) → 2 * n < m → (2 * n < length (replicate {A = ℕ} m 0)) × (getD (replicate {A = ℕ} m 0) (2 * n) 0 ≡ 0)
+first-words n m h = let z = length-replicate {A = ℕ} m 0 in (omega arith, getD-replicate m (2 * n) 0 0 h)
 
--- levels before place i have fallen, the others not yet
-pub record Falling (C out : List ℕ) (i : ℕ) : Type 0 where
+-- the strikes of the states before u are those of the sweep before, the others not yet
+pub record Fading (C out : List ℕ) (u : ℕ) : Type 0 where
   pub long : length out ≡ length C
-  pub fallen : (j : ℕ) → getD out j 0 < 1 → getD C j 0 < 3
-  pub left : (j : ℕ) → i ≤ j → getD out j 0 ≡ getD C j 0
+  pub faded : (v : ℕ) → v < u → getD out (2 * v + 1) 0 ≡ getD C (2 * v) 0
+  pub left : (v : ℕ) → u ≤ v → getD out (2 * v) 0 ≡ getD C (2 * v) 0
 
-pub falls : (C out : List ℕ) (i : ℕ) → i < length C → Falling C out i → length (set out i (getD out i 0 / 3)) ≡ length out → Falling C (set out i (getD out i 0 / 3)) (i + 1)
-falls C out i h F z = record {
-  long = z ∙ F .long;
-  fallen = λ j l. pick j l (eq-or-ne j i);
-  left = λ j l. getD-set-other out i j (getD out i 0 / 3) 0 (λ e. omega arith) ∙ F .left j (omega arith);
+pub fades : (C out : List ℕ) (u : ℕ) → 2 * u + 1 < length C → Fading C out u → Fading C (set (set out (2 * u + 1) (getD out (2 * u) 0)) (2 * u) 0) (u + 1)
+fades C out u h F = record {
+  long = length-set (set out (2 * u + 1) x) (2 * u) 0 ∙ length-set out (2 * u + 1) x ∙ F .long;
+  faded = λ v l. pick v l (eq-or-ne v u);
+  left = λ v l. getD-set-other (set out (2 * u + 1) x) (2 * u) (2 * v) 0 0 (omega arith) ∙ getD-set-other out (2 * u + 1) (2 * v) x 0 (omega arith) ∙ F .left v (omega arith);
 }
   where
-    pick : (j : ℕ) → getD (set out i (getD out i 0 / 3)) j 0 < 1 → (j ≡ i) ⊎ (j ≢ i) → getD C j 0 < 3
-    pick j l (inl e) =
-        let k : i < length out = let w = F .long in omega arith in
-        let g : getD (set out i (getD out i 0 / 3)) j 0 ≡ getD out i 0 / 3 = ap (λ (x : ℕ). getD (set out i (getD out i 0 / 3)) x 0) e ∙ getD-set-same out i (getD out i 0 / 3) 0 k in
-        let o = F .left i (omega arith) in
-        let c : getD C j 0 ≡ getD C i 0 = ap (λ (x : ℕ). getD C x 0) e in
-        omega arith
-    pick j l (inr d) = let g = getD-set-other out i j (getD out i 0 / 3) 0 d in F .fallen j (omega arith)
+    x : ℕ
+    x = getD out (2 * u) 0
+
+    pick : (v : ℕ) → v < u + 1 → (v ≡ u) ⊎ (v ≢ u) → getD (set (set out (2 * u + 1) (getD out (2 * u) 0)) (2 * u) 0) (2 * v + 1) 0 ≡ getD C (2 * v) 0
+    pick v l (inl e) =
+        let k : 2 * u + 1 < length out = let w = F .long in omega arith in
+        getD-set-other (set out (2 * u + 1) (getD out (2 * u) 0)) (2 * u) (2 * v + 1) 0 0 (omega arith)
+        ∙ ap (λ (y : ℕ). getD (set out (2 * u + 1) (getD out (2 * u) 0)) (2 * y + 1) 0) e
+        ∙ getD-set-same out (2 * u + 1) (getD out (2 * u) 0) 0 k ∙ F .left u (omega arith) ∙ ap (λ (y : ℕ). getD C (2 * y) 0) (sym e)
+    pick v l (inr d) =
+        getD-set-other (set out (2 * u + 1) (getD out (2 * u) 0)) (2 * u) (2 * v + 1) 0 0 (omega arith)
+        ∙ getD-set-other out (2 * u + 1) (2 * v + 1) (getD out (2 * u) 0) 0 (omega arith) ∙ F .faded v (omega arith)
+
+-- and the sweep is not the first any more
+pub fades-last : (C out : List ℕ) (n u : ℕ) → n ≤ u → Fading C out u → (v : ℕ) → v < n → getD (set out (2 * n) 1) (2 * v + 1) 0 ≡ getD C (2 * v) 0
+fades-last C out n u h F v l = getD-set-other out (2 * n) (2 * v + 1) 1 0 (omega arith) ∙ F .faded v (omega arith)
 
 -- ---- after a turn without a strike
 

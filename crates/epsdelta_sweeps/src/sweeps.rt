@@ -71,11 +71,11 @@ fn still_passes(
     states: usize,
     need: f64,
     relation: &[u8],
-    changed: &[u8],
+    changed: &[u64],
     s: usize,
     t: usize,
 ) -> bool
-    requires { ⌜ RowsFit states (now starts) (now targets) (now probs) × (states * 64 ≤ length (now changed)) × (s < states) × (t < states) × Settled states (now starts) (now targets) (now probs) need (now relation) (now changed) s t ⌝ }
+    requires { ⌜ RowsFit states (now starts) (now targets) (now probs) × (2 * states < length (now changed)) × (s < states) × (t < states) × Settled states (now starts) (now targets) (now probs) need (now relation) (now changed) s t ⌝ }
     ensures { λ r. ⌜ ((R : List Bool) → now (relation .entry) ≡ packed R → r ≡ (testIn states (now (starts .entry)) (now (targets .entry)) (now (probs .entry)) need R s t && testIn states (now (starts .entry)) (now (targets .entry)) (now (probs .entry)) need R t s)) ⌝ }
 {
     if unchanged(starts, targets, states, changed, s, t) {
@@ -93,7 +93,7 @@ fn turn(
     states: usize,
     need: f64,
     relation: &mut [u8],
-    changed: &mut [u8],
+    changed: &mut [u64],
     s: usize,
     t: usize,
     struck: bool,
@@ -133,7 +133,7 @@ fn sweep_row(
     states: usize,
     need: f64,
     relation: &mut [u8],
-    changed: &mut [u8],
+    changed: &mut [u64],
     s: usize,
     before: bool,
 ) -> bool
@@ -170,7 +170,7 @@ fn sweep(
     states: usize,
     need: f64,
     relation: &mut [u8],
-    changed: &mut [u8],
+    changed: &mut [u64],
 ) -> bool
     requires { ⌜ RowsFit states (now starts) (now targets) (now probs) × (states ≤ length (now exits)) × Noted states (now exits) (now starts) (now targets) (now probs) need (now relation) (now changed) 0 1 ⌝ }
     ensures { λ r. ⌜ Makes states (now (exits .entry)) (now (starts .entry)) (now (targets .entry)) (now (probs .entry)) need (λ Q. Sweeps.sweepRows Q states 0) (now (relation .entry)) false (now (relation .exit)) r × Noted states (now (exits .entry)) (now (starts .entry)) (now (targets .entry)) (now (probs .entry)) need (now (relation .exit)) (now (changed .exit)) states (states + 1) ⌝ }
@@ -195,7 +195,7 @@ fn sweep(
     struck
 }
 
-// Sweeps until one without a strike, with levels lent.
+// Sweeps until one without a strike, with words for strikes lent.
 fn run_in(
     exits: &[f64],
     starts: &[u32],
@@ -204,11 +204,11 @@ fn run_in(
     states: usize,
     need: f64,
     relation: &mut [u8],
-    changed: &mut [u8],
+    changed: &mut [u64],
 )
     requires { ⌜ RowsFit states (now starts) (now targets) (now probs) × (states ≤ length (now exits)) ⌝ }
     requires { ⌜ ((R : List Bool) × (now relation ≡ packed R) × (length R ≡ states * states)) ⌝ }
-    requires { ⌜ (states * 64 ≤ length (now changed)) × ((i : ℕ) → i < states * 64 → getD (now changed) i 0 ≡ 2) ⌝ }
+    requires { ⌜ (2 * states < length (now changed)) × (getD (now changed) (2 * states) 0 ≡ 0) ⌝ }
     ensures { λ r. ⌜ RunsTo states (now (exits .entry)) (now (starts .entry)) (now (targets .entry)) (now (probs .entry)) need (now (relation .entry)) (now (relation .exit)) ⌝ }
 {
     let mut struck = true;
@@ -223,11 +223,11 @@ fn run_in(
             relation,
             changed,
         );
-        fade(changed);
+        fade(states, changed);
     }
 }
 
-// The same with levels for 2,000 states.
+// The same with words for 2,000 states.
 fn run_large(
     exits: &[f64],
     starts: &[u32],
@@ -241,8 +241,7 @@ fn run_large(
     requires { ⌜ ((R : List Bool) × (now relation ≡ packed R) × (length R ≡ states * states)) ⌝ }
     ensures { λ r. ⌜ RunsTo states (now (exits .entry)) (now (starts .entry)) (now (targets .entry)) (now (probs .entry)) need (now (relation .entry)) (now (relation .exit)) ⌝ }
 {
-    let mut changed = [2u8; 128000];
-    let levels = 64 * states;
+    let mut changed = [0u64; 4001];
     run_in(
         exits,
         starts,
@@ -251,11 +250,11 @@ fn run_large(
         states,
         need,
         relation,
-        &mut changed[..levels],
+        &mut changed,
     );
 }
 
-// The same; 4,096 levels are enough for the states of a card.
+// The same; 129 words are enough for the states of a card.
 pub(crate) fn run(
     exits: &[f64],
     starts: &[u32],
@@ -270,8 +269,7 @@ pub(crate) fn run(
     ensures { λ r. ⌜ RunsTo states (now (exits .entry)) (now (starts .entry)) (now (targets .entry)) (now (probs .entry)) need (now (relation .entry)) (now (relation .exit)) ⌝ }
 {
     if states <= 64 {
-        let mut changed = [2u8; 4096];
-        let levels = 64 * states;
+        let mut changed = [0u64; 129];
         run_in(
             exits,
             starts,
@@ -280,7 +278,7 @@ pub(crate) fn run(
             states,
             need,
             relation,
-            &mut changed[..levels],
+            &mut changed,
         );
         return;
     }

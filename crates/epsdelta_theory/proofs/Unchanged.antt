@@ -1,13 +1,16 @@
 -- Flow tests that need no run. A test reads of the relation only the entries of targets of one state with targets of the other, so a pair that passed passes again if none of them was cleared since.
--- Code notes strikes as levels: entry u * 64 + v % 64 of a list is 3 after a strike of u and v in this sweep, 1 after one in the sweep before, 2 everywhere else in the first sweep, and 0 otherwise; states v that are 64 apart share it.
+-- Code notes strikes as bits of words: bit v % 64 of word 2 u of a list is set after a strike of u and v in this sweep, that of word 2 u + 1 after one in the sweep before; states v that are 64 apart share it. Word 2 n, of n states, is 0 in the first sweep alone.
 -- A strike of u and v comes in the turns of the lower of them, so one with a state below a came before every turn of a in its sweep.
-use mathlib.Core.Path.{_≡_, refl, sym, ap, subst, _∙_}
-use Prim.Native.Nat.{ℕ, suc, _≤_, _<_, _+_, _*_, _%_}
+use mathlib.Core.Path.{_≡_, refl, sym, ap, subst, subst⁻¹, _∙_}
+use Prim.Native.Nat.{ℕ, suc, _≤_, _<_, _+_, _*_, _/_, _%_, _^_, max}
 use mathlib.Core.Bool.{Bool, true, false, true≢false}
 use mathlib.Core.Logic.{_≢_, _⊎_, inl, inr}
 use mathlib.Core.List.{List, [], _∷_, _++_}
 use native.Mathlib.Omega.{arith}
+use native.Mathlib.Nat.{one-mul, mod-eq-of-lt, div-self, max-le, le-max-left, le-max-right}
 use lib.Ieee.{Float, nan, le}
+use lib.Bits.{bitOr, bitAnd, or-step, or-shr, and-mask}
+use lib.Pow.{pow-lt, pow-pos}
 use lib.ListN.{length, getD, set, take, length-set}
 use lib.Seq.{slice, length-slice, getD-take, getD-drop, getD-set-same, getD-set-other}
 use Rattle.numbers.specs.Real.{isZero}
@@ -82,17 +85,29 @@ module _ (n : ℕ) (R R' : List Bool) where
 
 -- ---- the words of the contracts
 
--- before the turn of a pair of a: no strike of u and v is noted since its turn in the sweep before
+-- bit q of a word is not set
+abbrev pub Off : ℕ → ℕ → Type 0
+Off x q = x / 2 ^ q % 2 ≡ 0
+
+-- before the turn of a pair of a: no strike of u and v is noted since its turn in the sweep before, and there was one
 abbrev pub QuietAt : ℕ → List ℕ → ℕ → ℕ → ℕ → Type 0
-QuietAt n C a u v = (u < n) × (v < n) × (getD C (u * 64 + v % 64) 0 < 2) × (a ≤ u → a ≤ v → getD C (u * 64 + v % 64) 0 < 1)
+QuietAt n C a u v = (u < n) × (v < n) × (0 < getD C (2 * n) 0) × Off (getD C (2 * u) 0) (v % 64) × (a ≤ u → a ≤ v → Off (getD C (2 * u + 1) 0) (v % 64))
 
 -- after it: none is noted since its turn in this sweep
 abbrev pub StillAt : ℕ → List ℕ → ℕ → ℕ → ℕ → Type 0
-StillAt n C a u v = (u < n) × (v < n) × (a ≤ u → a ≤ v → getD C (u * 64 + v % 64) 0 < 3)
+StillAt n C a u v = (u < n) × (v < n) × (a ≤ u → a ≤ v → Off (getD C (2 * u) 0) (v % 64))
 
--- the levels after a strike of s and t
+-- the word of v alone
+abbrev pub mark : ℕ → ℕ
+mark v = 1 * 2 ^ (v % 64) % 18446744073709551616
+
+-- v marked in word e
+abbrev pub marked : List ℕ → ℕ → ℕ → List ℕ
+marked C e v = set C e (bitOr (getD C e 0) (mark v))
+
+-- the words after a strike of s and t
 abbrev pub noted : List ℕ → ℕ → ℕ → List ℕ
-noted C s t = set (set C (s * 64 + t % 64) 3) (t * 64 + s % 64) 3
+noted C s t = marked (marked C (2 * s) t) (2 * t) s
 
 -- X holds of any entry that the tests of a and b read, and they read some
 pub record Quiet (S T : List ℕ) (X : ℕ → ℕ → Type 0) (a b : ℕ) : Type 0 where
@@ -112,7 +127,7 @@ Settled n S T P need store C a b = (R : List Bool) → store ≡ packed R → Qu
 pub record Noted (n : ℕ) (E : List Float) (S T : List ℕ) (P : List Float) (need : Float) (store C : List ℕ) (s t : ℕ) : Type 0 where
   pub relation : List Bool
   pub bytes : store ≡ packed relation
-  pub long : n * 64 ≤ length C
+  pub long : 2 * n < length C
   pub earlier : (a b : ℕ) → a < b → b < n → Quiet S T (QuietAt n C a) a b → Passes n E S T P need relation a b
   pub swept : (a b : ℕ) → a < b → b < n → a ≤ s → (a ≡ s → b < t) → Quiet S T (StillAt n C a) a b → Passes n E S T P need relation a b
 
@@ -121,19 +136,62 @@ pub record Noted (n : ℕ) (E : List Float) (S T : List ℕ) (P : List Float) (n
 pub quiet-map : {S T : List ℕ} {X Y : ℕ → ℕ → Type 0} {a b : ℕ} → ((u v : ℕ) → X u v → Y u v) → Quiet S T X a b → Quiet S T Y a b
 quiet-map {T = T} f Q = record { some = Q .some; more = Q .more; at = λ i k x y z w. f (getD T i 0) (getD T k 0) (Q .at i k x y z w) }
 
--- an entry below 3 of a list with 3 stored at two places is at neither, and is as it was
-unnoted : (C : List ℕ) (p q x : ℕ) → p < length C → q < length C → getD (set (set C p 3) q 3) x 0 < 3 → (x ≢ p) × (x ≢ q) × (getD (set (set C p 3) q 3) x 0 ≡ getD C x 0)
-unnoted C p q x hp hq h = pick (eq-or-ne x q) (eq-or-ne x p)
+-- a bit that is not set in one of two words joined is set in neither
+pub off-or : (x y q : ℕ) → Off (bitOr x y) q → Off x q × Off y q
+off-or x y q h =
+    let e = ap (λ (z : ℕ). z % 2) (or-shr x y q) in
+    let X = x / 2 ^ q in
+    let Y = y / 2 ^ q in
+    let f = or-step X Y in
+    let a : X % 2 ≤ max (X % 2) (Y % 2) = le-max-left (X % 2) (Y % 2) in
+    let b : Y % 2 ≤ max (X % 2) (Y % 2) = le-max-right (X % 2) (Y % 2) in
+    let c : max (X % 2) (Y % 2) ≤ 1 = max-le (omega arith) (omega arith) in
+    let g : bitOr X Y % 2 ≡ 0 = sym e ∙ h in
+    (omega arith, omega arith)
+
+-- what the words `now` and `before` say of u, of n states: a bit that is not set in them is not set in the words of u, those of the sweep before where u is not below a
+abbrev pub Told : ℕ → List ℕ → ℕ → ℕ → ℕ → ℕ → Type 0
+Told n C a u now before = (u < n) × ((q : ℕ) → Off now q → Off (getD C (2 * u) 0) q) × ((q : ℕ) → a ≤ u → Off before q → Off (getD C (2 * u + 1) 0) q)
+
+-- v is in none of them, in those of the sweep before where it is not below a
+abbrev pub Missed : ℕ → ℕ → ℕ → ℕ → ℕ → Type 0
+Missed n a v now before = (v < n) × Off now (v % 64) × (a ≤ v → Off before (v % 64))
+
+pub told-more : (n : ℕ) (C : List ℕ) (a u now before x y : ℕ) → Told n C a u now before → Told n C a u (bitOr now x) (bitOr before y)
+told-more n C a u now before x y (h, f, g) = (h, λ q o. f q (off-or now x q o .0), λ q l o. g q l (off-or before y q o .0))
+
+pub told-this : (n : ℕ) (C : List ℕ) (a u now before y : ℕ) → u < n → (a ≤ u → y ≡ getD C (2 * u + 1) 0) → Told n C a u (bitOr now (getD C (2 * u) 0)) (bitOr before y)
+told-this n C a u now before y h f = (h, λ q o. off-or now (getD C (2 * u) 0) q o .1, λ q l o. subst (λ (z : ℕ). Off z q) (f l) (off-or before y q o .1))
+
+pub told-missed : (n : ℕ) (C : List ℕ) (a u v now before : ℕ) → 0 < getD C (2 * n) 0 → Told n C a u now before → Missed n a v now before → QuietAt n C a u v
+told-missed n C a u v now before z (x, f, g) (y, o, p) = (x, y, z, f (v % 64) o, λ i j. g (v % 64) i (p j))
+
+-- a bit that is read as not set
+pub reads-off : (x q : ℕ) → (bitAnd (x / 2 ^ q) 1 ≡ 1 → ⊥) → Off x q
+reads-off x q h = pick (eq-or-ne (x / 2 ^ q % 2) 1)
   where
-    pick : (x ≡ q) ⊎ (x ≢ q) → (x ≡ p) ⊎ (x ≢ p) → (x ≢ p) × (x ≢ q) × (getD (set (set C p 3) q 3) x 0 ≡ getD C x 0)
-    pick (inl e) z =
-        let k : q < length (set C p 3) = subst (λ (y : ℕ). q < y) (sym (length-set C p 3)) hq in
-        let g : getD (set (set C p 3) q 3) x 0 ≡ 3 = ap (λ (y : ℕ). getD (set (set C p 3) q 3) y 0) e ∙ getD-set-same (set C p 3) q 3 0 k in
-        absurd (omega arith)
-    pick (inr d) (inl e) =
-        let g : getD (set (set C p 3) q 3) x 0 ≡ 3 = getD-set-other (set C p 3) q x 3 0 d ∙ ap (λ (y : ℕ). getD (set C p 3) y 0) e ∙ getD-set-same C p 3 0 hp in
-        absurd (omega arith)
-    pick (inr d) (inr e) = (e, d, getD-set-other (set C p 3) q x 3 0 d ∙ getD-set-other C p x 3 0 e)
+    pick : (x / 2 ^ q % 2 ≡ 1) ⊎ (x / 2 ^ q % 2 ≢ 1) → Off x q
+    pick (inl z) = absurd (h (and-mask (x / 2 ^ q) 1 ∙ z))
+    pick (inr z) = omega arith
+
+-- v's own bit is set in its word
+off-mark : (v q : ℕ) → Off (mark v) q → q ≢ v % 64
+off-mark v q h e =
+    let l : 2 ^ (v % 64) < 2 ^ 64 = pow-lt {i = v % 64} {j = 64} (omega arith) in
+    let m : mark v ≡ 2 ^ (v % 64) = ap (λ (y : ℕ). y % 18446744073709551616) (one-mul (2 ^ (v % 64))) ∙ mod-eq-of-lt l in
+    let d : mark v / 2 ^ q % 2 ≡ 1 = ap (λ (y : ℕ). y / 2 ^ q % 2) m ∙ ap (λ (y : ℕ). 2 ^ (v % 64) / 2 ^ y % 2) e ∙ ap (λ (y : ℕ). y % 2) (div-self (pow-pos (v % 64))) in
+    absurd (omega arith)
+
+-- a bit of a word that is off after a mark was off before, and is not the mark's
+off-marked : (C : List ℕ) (e v x q : ℕ) → e < length C → Off (getD (marked C e v) x 0) q → Off (getD C x 0) q × (x ≡ e → q ≢ v % 64)
+off-marked C e v x q h o = pick (eq-or-ne x e)
+  where
+    pick : (x ≡ e) ⊎ (x ≢ e) → Off (getD C x 0) q × (x ≡ e → q ≢ v % 64)
+    pick (inl z) =
+        let g : getD (marked C e v) x 0 ≡ bitOr (getD C e 0) (mark v) = ap (λ (y : ℕ). getD (marked C e v) y 0) z ∙ getD-set-same C e (bitOr (getD C e 0) (mark v)) 0 h in
+        let (a, b) = off-or (getD C e 0) (mark v) q (subst (λ (y : ℕ). Off y q) g o) in
+        (subst⁻¹ (λ (y : ℕ). Off (getD C y 0) q) z a, λ _. off-mark v q b)
+    pick (inr d) = (subst (λ (y : ℕ). Off y q) (getD-set-other C e x (bitOr (getD C e 0) (mark v)) 0 d) o, λ z. absurd (d z))
 
 -- a pair of row s up to t, but not (s, t), is before it
 not-last : (a b s t : ℕ) → a ≡ s → b < t + 1 → ((a ≡ s) → (b ≡ t) → ⊥) → b < t
@@ -148,25 +206,32 @@ abbrev Apart : ℕ → ℕ → ℕ → ℕ → ℕ → Type 0
 Apart n s t u v = (u < n) × (v < n) × (u ≡ s → v ≡ t → ⊥) × (u ≡ t → v ≡ s → ⊥)
 
 -- a strike of s and t leaves what reads nothing noted as it was
-module _ (n : ℕ) (C : List ℕ) (long : n * 64 ≤ length C) {s t : ℕ} (hs : s < n) (ht : t < n) where
-  un : (u v : ℕ) → getD (noted C s t) (u * 64 + v % 64) 0 < 3
-      → (u * 64 + v % 64 ≢ s * 64 + t % 64) × (u * 64 + v % 64 ≢ t * 64 + s % 64) × (getD (noted C s t) (u * 64 + v % 64) 0 ≡ getD C (u * 64 + v % 64) 0)
-  un u v h = unnoted C (s * 64 + t % 64) (t * 64 + s % 64) (u * 64 + v % 64) (omega arith) (omega arith) h
+module _ (n : ℕ) (C : List ℕ) (long : 2 * n < length C) {s t : ℕ} (hs : s < n) (ht : t < n) where
+  off-noted : (x q : ℕ) → Off (getD (noted C s t) x 0) q → Off (getD C x 0) q × (x ≡ 2 * s → q ≢ t % 64) × (x ≡ 2 * t → q ≢ s % 64)
+  off-noted x q o =
+      let z : length (marked C (2 * s) t) ≡ length C = length-set C (2 * s) (bitOr (getD C (2 * s) 0) (mark t)) in
+      let (a, b) = off-marked (marked C (2 * s) t) (2 * t) s x q (omega arith) o in
+      let (c, d) = off-marked C (2 * s) t x q (omega arith) a in
+      (c, d, b)
 
-  not-st : (u v : ℕ) → getD (noted C s t) (u * 64 + v % 64) 0 < 3 → u ≡ s → v ≡ t → ⊥
-  not-st u v h a b = un u v h .0 (ap (λ (i : ℕ). i * 64 + v % 64) a ∙ ap (λ (i : ℕ). s * 64 + i % 64) b)
+  other : (x : ℕ) → x ≢ 2 * s → x ≢ 2 * t → getD (noted C s t) x 0 ≡ getD C x 0
+  other x d e = getD-set-other (marked C (2 * s) t) (2 * t) x (bitOr (getD (marked C (2 * s) t) (2 * t) 0) (mark s)) 0 e ∙ getD-set-other C (2 * s) x (bitOr (getD C (2 * s) 0) (mark t)) 0 d
 
-  not-ts : (u v : ℕ) → getD (noted C s t) (u * 64 + v % 64) 0 < 3 → u ≡ t → v ≡ s → ⊥
-  not-ts u v h a b = un u v h .1 (ap (λ (i : ℕ). i * 64 + v % 64) a ∙ ap (λ (i : ℕ). t * 64 + i % 64) b)
+  not-st : (u v : ℕ) → Off (getD (noted C s t) (2 * u) 0) (v % 64) → u ≡ s → v ≡ t → ⊥
+  not-st u v h a b = off-noted (2 * u) (v % 64) h .1 (ap (λ (i : ℕ). 2 * i) a) (ap (λ (i : ℕ). i % 64) b)
+
+  not-ts : (u v : ℕ) → Off (getD (noted C s t) (2 * u) 0) (v % 64) → u ≡ t → v ≡ s → ⊥
+  not-ts u v h a b = off-noted (2 * u) (v % 64) h .2 (ap (λ (i : ℕ). 2 * i) a) (ap (λ (i : ℕ). i % 64) b)
 
   quiet-before : (a u v : ℕ) → QuietAt n (noted C s t) a u v → QuietAt n C a u v
-  quiet-before a u v (x, y, l, f) = let (p, q, e) = un u v (omega arith) in (x, y, omega arith, λ i j. (let k = f i j in omega arith))
+  quiet-before a u v (x, y, w, l, f) =
+      (x, y, subst (λ (z : ℕ). 0 < z) (other (2 * n) (omega arith) (omega arith)) w, off-noted (2 * u) (v % 64) l .0, λ i j. off-noted (2 * u + 1) (v % 64) (f i j) .0)
 
   quiet-apart : (a u v : ℕ) → QuietAt n (noted C s t) a u v → Apart n s t u v
-  quiet-apart a u v (x, y, l, f) = (x, y, not-st u v (omega arith), not-ts u v (omega arith))
+  quiet-apart a u v (x, y, w, l, f) = (x, y, not-st u v l, not-ts u v l)
 
   still-before : (a u v : ℕ) → StillAt n (noted C s t) a u v → StillAt n C a u v
-  still-before a u v (x, y, f) = (x, y, λ i j. (let k = f i j in let (p, q, e) = un u v k in omega arith))
+  still-before a u v (x, y, f) = (x, y, λ i j. off-noted (2 * u) (v % 64) (f i j) .0)
 
   still-apart : (a u v : ℕ) → a ≤ s → s < t → StillAt n (noted C s t) a u v → Apart n s t u v
   still-apart a u v l m (x, y, f) = (x, y, λ i j. not-st u v (f (omega arith) (omega arith)) i j, λ i j. not-ts u v (f (omega arith) (omega arith)) i j)
@@ -217,7 +282,7 @@ module _ {n : ℕ} {E : List Float} {S T : List ℕ} {P : List Float} {need : Fl
   noted-strike N hs ht hst = record {
     relation = clear n (N .relation) s t;
     bytes = ap (λ (l : List ℕ). cleared (cleared l (s * n + t)) (t * n + s)) (N .bytes) ∙ packed-cleared n (N .relation) s t;
-    long = (let z : length (noted C s t) ≡ length C = length-set (set C (s * 64 + t % 64) 3) (t * 64 + s % 64) 3 ∙ length-set C (s * 64 + t % 64) 3 in let l = N .long in omega arith);
+    long = (let z : length (noted C s t) ≡ length C = length-set (marked C (2 * s) t) (2 * t) (bitOr (getD (marked C (2 * s) t) (2 * t) 0) (mark s)) ∙ length-set C (2 * s) (bitOr (getD C (2 * s) 0) (mark t)) in let l = N .long in omega arith);
     earlier = λ a b l h Q. kept F hs ht (N .relation) E need a b l h (quiet-map (quiet-apart n C (N .long) hs ht a) Q) (N .earlier a b l h (quiet-map (quiet-before n C (N .long) hs ht a) Q));
     swept = λ a b l h k f Q. pick a b l h k f Q (pair-cases a b s t);
   }
@@ -240,27 +305,26 @@ module _ {n : ℕ} {E : List Float} {S T : List ℕ} {P : List Float} {need : Fl
       above a b l k f (inl x) = let g = f x in absurd (omega arith)
       above a b l k f (inr x) = omega arith
 
-  -- from the end of a sweep to the next: every level falls to its third
-  pub noted-again : Noted n E S T P need store C s t → n ≤ s → (C' : List ℕ) → length C' ≡ length C → ((i : ℕ) → getD C' i 0 < 1 → getD C i 0 < 3) → Noted n E S T P need store C' 0 1
+  -- from the end of a sweep to the next: its strikes are those of the sweep before
+  pub noted-again : Noted n E S T P need store C s t → n ≤ s → (C' : List ℕ) → length C' ≡ length C → ((u : ℕ) → u < n → getD C' (2 * u + 1) 0 ≡ getD C (2 * u) 0) → Noted n E S T P need store C' 0 1
   noted-again N e C' z f = record {
     relation = N .relation;
     bytes = N .bytes;
     long = (let l = N .long in omega arith);
     earlier = λ a b l h Q. N .swept a b l h (omega arith) (λ x. absurd (omega arith))
-        (quiet-map (λ u v g. (g .0, g .1, λ p q. f (u * 64 + v % 64) (g .3 p q))) Q);
+        (quiet-map (λ u v g. (g .0, g .1, λ p q. subst (λ (y : ℕ). Off y (v % 64)) (f u (g .0)) (g .4 p q))) Q);
     swept = λ a b l h k g Q. let w : a ≡ 0 = omega arith in let r = g w in absurd (omega arith);
   }
 
--- before the first sweep every level is 2, so that nothing is passed over
+-- before the first sweep nothing is passed over
 pub noted-start : {n : ℕ} {E : List Float} {S T : List ℕ} {P : List Float} {need : Float} {store C : List ℕ}
-    → (R : List Bool) → store ≡ packed R → n * 64 ≤ length C → ((i : ℕ) → i < n * 64 → getD C i 0 ≡ 2) → Noted n E S T P need store C 0 1
+    → (R : List Bool) → store ≡ packed R → 2 * n < length C → getD C (2 * n) 0 ≡ 0 → Noted n E S T P need store C 0 1
 noted-start {n} {E} {S} {T} {P} {need} {store} {C} R e l f = record {
   relation = R;
   bytes = e;
   long = l;
   earlier = λ a b x h Q.
-      let (u, v, w, _) = Q .at (getD S a 0) (getD S b 0) (omega arith) (Q .some) (omega arith) (Q .more) in
-      let g = f (getD T (getD S a 0) 0 * 64 + getD T (getD S b 0) 0 % 64) (omega arith) in
+      let (u, v, w, _, _) = Q .at (getD S a 0) (getD S b 0) (omega arith) (Q .some) (omega arith) (Q .more) in
       absurd (omega arith);
   swept = λ a b x h k g Q. let w : a ≡ 0 = omega arith in let r = g w in absurd (omega arith);
 }

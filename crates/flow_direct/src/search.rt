@@ -83,17 +83,26 @@ pub(crate) fn first_back(
     r
 }
 
+// Whether both hold.
+fn both(one: bool, two: bool) -> bool
+    ensures { λ r. ⌜ (r ≡ true → (one ≡ true) × (two ≡ true)) ⌝ }
+{
+    if one {
+        return two;
+    }
+    false
+}
+
 // Whether none of the first n labels is g.
 pub(crate) fn none_at(labels: &[usize], n: usize, g: usize) -> bool
     requires { ⌜ n ≤ length (now labels) ⌝ }
     ensures { λ r. ⌜ (r ≡ true → (j : ℕ) → j < n → getD (now (labels .entry)) j 0 ≢ g) ⌝ }
 {
+    let mut none = true;
     let mut j: usize = 0;
     while j < n {
-        if labels[j] == g {
-            return false;
-        }
+        none = both(none, labels[j] != g);
         j += 1;
     }
-    true
+    none
 }

@@ -1,4 +1,4 @@
--- The pairs are in the relation, and their levels in the list.
+-- The pairs are in the relation, and their words in the list.
 use mathlib.Core.Path.{refl, ap, _∙_}
 use mathlib.Core.List.{List}
 use Prim.Native.Nat.{ℕ, _+_, _*_}
@@ -32,17 +32,41 @@ clear-bit-requires-2 c κs = search needs
 mul-changed : tie.Need-mul-changed
 mul-changed c = search needs
 
-add-changed : tie.Need-add-changed
-add-changed c = search needs
+mul-changed-2 : tie.Need-mul-changed-2
+mul-changed-2 c = search needs
+
+slice-read-changed : tie.Need-slice-read-changed
+slice-read-changed c = search needs
+
+shl-changed : tie.Need-shl-changed
+shl-changed c = search needs
+
+mul-changed-3 : tie.Need-mul-changed-3
+mul-changed-3 c = search needs
+
+mul-changed-4 : tie.Need-mul-changed-4
+mul-changed-4 c = search needs
 
 slice-write-changed : tie.Need-slice-write-changed
 slice-write-changed c = search needs
 
-mul-changed-2 : tie.Need-mul-changed-2
-mul-changed-2 c = search needs
+mul-changed-5 : tie.Need-mul-changed-5
+mul-changed-5 c = search needs
 
-add-changed-2 : tie.Need-add-changed-2
-add-changed-2 c = search needs
+mul-changed-6 : tie.Need-mul-changed-6
+mul-changed-6 c = search needs
+
+slice-read-changed-2 : tie.Need-slice-read-changed-2
+slice-read-changed-2 c = simp length-set (omega arith)
+
+shl-changed-2 : tie.Need-shl-changed-2
+shl-changed-2 c = search needs
+
+mul-changed-7 : tie.Need-mul-changed-7
+mul-changed-7 c = search needs
+
+mul-changed-8 : tie.Need-mul-changed-8
+mul-changed-8 c = search needs
 
 slice-write-changed-2 : tie.Need-slice-write-changed-2
 slice-write-changed-2 c = simp length-set (omega arith)
@@ -54,7 +78,7 @@ same-length-2 : tie.Need-same-length-2
 same-length-2 c = search needs
 
 returns : tie.Need-returns
-returns c = (c .before .before .clear-bit2 .ensures ∙ ap (λ (l : List ℕ). cleared l (c .before .before .before .before .before .before .before .before .before .before .args .t * c .before .before .before .before .before .before .before .before .before .before .args .states + c .before .before .before .before .before .before .before .before .before .before .args .s)) (c .before .before .before .before .before .before .clear-bit .ensures), refl)
+returns c = (c .before .before .before .before .clear-bit2 .ensures ∙ ap (λ (l : List ℕ). cleared l (c .before .before .before .before .before .before .before .before .before .before .before .before .args .t * c .before .before .before .before .before .before .before .before .before .before .before .before .args .states + c .before .before .before .before .before .before .before .before .before .before .before .before .args .s)) (c .before .before .before .before .before .before .before .before .clear-bit .ensures), refl)
 
 pub strike-spec : {M : Type 1} → statement M
 strike-spec =
@@ -67,10 +91,18 @@ strike-spec =
     add-clear-bit-2
     clear-bit-requires-2
     mul-changed
-    add-changed
-    slice-write-changed
     mul-changed-2
-    add-changed-2
+    slice-read-changed
+    shl-changed
+    mul-changed-3
+    mul-changed-4
+    slice-write-changed
+    mul-changed-5
+    mul-changed-6
+    slice-read-changed-2
+    shl-changed-2
+    mul-changed-7
+    mul-changed-8
     slice-write-changed-2
     same-length
     same-length-2

@@ -1,7 +1,9 @@
--- By the cases of the tests.
+-- By the cases of the tests: the words of the strikes say of each target of s, and of each target of t, that nothing is noted.
 use mathlib.Core.Bool.{false≢true}
-use Prim.Native.Nat.{_+_}
+use Prim.Native.Nat.{_+_, _<_}
 use native.Mathlib.Omega.{arith}
+use lib.ListN.{getD}
+use Rattle.epsdelta_theory.proofs.Unchanged.{told-missed}
 use borrow.Author.Needs.{needs}
 use Rattle.epsdelta_sweeps.proofs.changes.unchanged.Statement.{statement}
 use Rattle.epsdelta_sweeps.proofs.changes.unchanged.Tie as tie
@@ -48,17 +50,43 @@ shared-slice-read-d c = search needs
 cast-d : tie.Need-cast-d
 cast-d c = omega (arith, c .shared-slice-known7 .given (c .before .before .before .before .before .before .before .args .t + 1))
 
-quiet-requires : tie.Need-quiet-requires
-quiet-requires c κs = (c .before .before .before .before .before .before .before .before .before .pre .0, c .before .before .before .before .before .before .before .before .before .pre .1, c .before .before .before .before .before .before .before .before .before .pre .6, c .before .before .before .before .before .before .before .before .before .pre .5)
+mul-if1 : tie.Need-mul-if1
+mul-if1 c = search needs
+
+mul-if1-2 : tie.Need-mul-if1-2
+mul-if1-2 c = search needs
+
+shared-slice-read-if1 : tie.Need-shared-slice-read-if1
+shared-slice-read-if1 c = search needs
 
 returns : tie.Need-returns
-returns c = λ e. record { some = c .before .before .if1 .taken; more = c .before .if2 .taken; at = c .quiet .ensures e }
+returns c = λ e. absurd (false≢true e)
+
+strikes-of-requires : tie.Need-strikes-of-requires
+strikes-of-requires c κs = search needs
+
+untouched-requires : tie.Need-untouched-requires
+untouched-requires c κs = search needs
 
 returns-2 : tie.Need-returns-2
-returns-2 c = λ e. absurd (false≢true e)
+returns-2 c = λ e.
+    let a = c .before .before .before .before .before .before .before .before .before .before .before .before .before .before .args in
+    let m = c .before .before .strikes-of .result in
+    let n = c .before .before .before .before .before .if1 .left in
+    record {
+      some = c .before .before .before .before .if2 .taken;
+      more = c .before .before .before .if3 .taken;
+      at = λ i k x y z w. told-missed (a .states) (a .changed .now) (a .s) (getD (a .targets .now) i 0) (getD (a .targets .now) k 0) (m .recent) (m .before) (omega arith) (c .before .before .strikes-of .ensures (c .before .if4 .taken) i x y) (c .untouched .ensures e k z w);
+    }
 
 returns-3 : tie.Need-returns-3
 returns-3 c = λ e. absurd (false≢true e)
+
+returns-4 : tie.Need-returns-4
+returns-4 c = λ e. absurd (false≢true e)
+
+returns-5 : tie.Need-returns-5
+returns-5 c = λ e. absurd (false≢true e)
 
 pub unchanged-spec : {M : Type 1} → statement M
 unchanged-spec =
@@ -78,7 +106,13 @@ unchanged-spec =
     mul-d
     shared-slice-read-d
     cast-d
-    quiet-requires
+    mul-if1
+    mul-if1-2
+    shared-slice-read-if1
     returns
+    strikes-of-requires
+    untouched-requires
     returns-2
-    returns-3)
+    returns-3
+    returns-4
+    returns-5)

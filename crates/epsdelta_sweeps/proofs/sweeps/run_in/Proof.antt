@@ -27,7 +27,7 @@ sweep-requires : tie.Need-sweep-requires Inv-loop μ-loop
 sweep-requires c κs = (c .before .before .before .before .before .before .before .before .before .before .pre .0 .0, c .before .before .before .before .before .before .before .before .before .before .pre .0 .1, c .before .before .before .loop .inv .4)
 
 fade-requires : tie.Need-fade-requires Inv-loop μ-loop
-fade-requires c κs = search needs
+fade-requires c κs = (c .before .before .before .before .before .before .before .before .before .before .before .before .before .before .before .before .pre .0 .0 .few, c .before .before .before .before .before .sweep .ensures .1 .long)
 
 loop-less : tie.Need-loop-less Inv-loop μ-loop
 loop-less c =
@@ -40,10 +40,10 @@ loop-again c =
     let a = c .before .before .before .before .before .before .before .before .before .before .before .before .before .before .before .before .before .before .before .args in
     let l = c .before .before .before .before .before .before .before .before .before .before .before .before .loop in (
       c .before .before .before .before .before .before .before .before .sweep .kept .1 .1 .1 .1 .1 .1 .0 ∙ l .inv .0,
-      c .before .before .fade .kept .0 ∙ c .before .before .before .before .before .before .before .before .sweep .kept .1 .1 .1 .1 .1 .1 .1 .0 ∙ l .inv .1,
+      c .before .before .fade .kept .1 .0 ∙ c .before .before .before .before .before .before .before .before .sweep .kept .1 .1 .1 .1 .1 .1 .1 .0 ∙ l .inv .1,
       bytes-kept (a .states) (a .exits .now) (a .starts .now) (a .targets .now) (a .probs .now) (a .need) (l .inv .2) (c .before .before .before .before .before .before .before .before .sweep .ensures .0),
       going-next (a .states) (a .exits .now) (a .starts .now) (a .targets .now) (a .probs .now) (a .need) (a .relation .now) (l .relation) (l .struck) (c .before .before .before .before .before .before .before .before .sweep .last .1 .1 .1 .1 .1 .1 .0) (c .before .before .before .before .before .before .before .before .sweep .result) (c .before .before .before .before .before .before .before .before .before .before .before .loop-test .taken) (l .inv .3) (c .before .before .before .before .before .before .before .before .sweep .ensures .0),
-      noted-again (c .before .before .before .before .before .before .before .before .before .before .before .before .before .before .before .before .before .before .before .pre .0 .0) (c .before .before .before .before .before .before .before .before .sweep .ensures .1) (le-refl (a .states)) (c .before .before .fade .last .0) (c .before .before .fade .kept .0) (c .before .before .fade .ensures),
+      noted-again (c .before .before .before .before .before .before .before .before .before .before .before .before .before .before .before .before .before .before .before .pre .0 .0) (c .before .before .before .before .before .before .before .before .sweep .ensures .1) (le-refl (a .states)) (c .before .before .fade .last .1 .0) (c .before .before .fade .kept .1 .0) (c .before .before .fade .ensures),
     )
 
 same-length : tie.Need-same-length Inv-loop μ-loop
