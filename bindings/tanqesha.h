@@ -1,5 +1,5 @@
-/* Tanqesha for C and C++: when are two queue models alike? The functions of the six static libraries exports,
- * exports_flow, exports_relation, exports_card, exports_transport and exports_chains.
+/* Tanqesha for C and C++: when are two queue models alike? The functions of the seven static libraries exports,
+ * exports_flow, exports_relation, exports_card, exports_transport, exports_chains and exports_distance.
  *
  * Each function is proved to give the answer of its definition for every input, to stay within the memory lent to it, and
  * to end; crates/NAME/src/lib.rt of the library has its contract. No function keeps anything between calls, allocates
@@ -14,7 +14,8 @@
  *
  * Refusals. A function that can refuse returns the refusal's number (enum tanqesha_refusal), or 0 with its answer behind the
  * last pointers. A refusal returns its number and nothing else: all memory lent to the call, and what the last pointers
- * point to, is then as it was. Where several apply, the lowest is given. The comment of a function lists its refusals.
+ * point to, is then as it was, but for the scratch of a distance, which is all zero after 16 to 19. Where several apply, the
+ * lowest is given, but for 16, which stands after 18 in a distance. The comment of a function lists its refusals.
  *
  * Results in lent memory go over the front of a slice; what stands behind the result's end is kept.
  */
@@ -380,6 +381,80 @@ uint32_t tanqesha_normalise(size_t left_states, size_t left_entries, uint32_t le
                             const uint32_t *right_targets, size_t right_targets_length,
                             const double *right_probabilities, size_t right_probabilities_length,
                             double *right_observations, size_t right_observations_length, double *scale);
+
+/* ---- exports_distance: distances */
+
+/* A pair of states, how far its observations are apart, the discounted time spent in it, and the product of the two. */
+struct tanqesha_contribution {
+    uint32_t left;
+    uint32_t right;
+    double gap;
+    double occupancy;
+    double contribution;
+};
+
+/* The distance of the initial states of two chains, discounted by gamma, with observations from 0 to 1. A tolerance that is NaN or
+ * below 1e-12 counts as 1e-12. Behind the pointers: the distance, its error bound (infinite without a round; that the true distance
+ * is within it is not claimed), gamma, how many pairs there are to look at, how many contributions are listed (at most top), and
+ * how many rounds of improvement were made (at most max_rounds). The contributions are over the front of the records, largest
+ * first, equal ones in the order of their discovery.
+ * The lists of pairs (lefts, rights, index) and the coupling store (places, masses) are scratch: all zero after any call that is
+ * not refused with 4 to 14, which leave them as they were.
+ * Needs an observation for each state; 4,096 entries in each list of pairs; 64 records; and in places and in masses as many
+ * entries as the row lengths of each pair to look at multiplied, added up (never more than left_entries x right_entries).
+ * Refusals: 4; 7; 11; 12; 13; 14; 17; 18; 16; 19, in this order. */
+uint32_t tanqesha_distance(size_t left_states, size_t left_entries, uint32_t left_initial,
+                           const uint32_t *left_offsets, size_t left_offsets_length,
+                           const uint32_t *left_targets, size_t left_targets_length,
+                           const double *left_probabilities, size_t left_probabilities_length,
+                           const double *left_observations, size_t left_observations_length,
+                           size_t right_states, size_t right_entries, uint32_t right_initial,
+                           const uint32_t *right_offsets, size_t right_offsets_length,
+                           const uint32_t *right_targets, size_t right_targets_length,
+                           const double *right_probabilities, size_t right_probabilities_length,
+                           const double *right_observations, size_t right_observations_length,
+                           double gamma, double tolerance, size_t max_rounds, size_t top,
+                           uint32_t *lefts, size_t lefts_length, uint32_t *rights, size_t rights_length,
+                           uint64_t *index, size_t index_length,
+                           uint32_t *places, size_t places_length, double *masses, size_t masses_length,
+                           struct tanqesha_contribution *records, size_t records_length,
+                           double *value, double *error_bound, double *discount,
+                           size_t *pairs_explored, size_t *contributions, size_t *rounds);
+
+/* The distance of a state of each of two models, by what is observed of their states: both are made chains at their common rate,
+ * and the observations are scaled together to 0 to 1, as by tanqesha_uniformise and tanqesha_normalise. The rest as in
+ * tanqesha_distance. The lists of both chains are scratch too.
+ * Needs for each model what tanqesha_uniformise needs; in places and masses never more than the entries of both chains multiplied.
+ * Refusals: 3; 4, of the states asked for too; 5; 6; 7; 8; 11; 12; 14; 17; 18; 16; 19, in this order. */
+uint32_t tanqesha_bisim_distance(size_t left_states, size_t left_edges, size_t left_labels, uint32_t left_present, uint32_t left_start,
+                                 const uint32_t *left_label_values, size_t left_label_values_length,
+                                 const uint32_t *left_offsets, size_t left_offsets_length,
+                                 const uint32_t *left_edge_labels, size_t left_edge_labels_length,
+                                 const uint32_t *left_edge_targets, size_t left_edge_targets_length,
+                                 const double *left_edge_weights, size_t left_edge_weights_length,
+                                 uint32_t left_state, const double *left_observations, size_t left_observations_length,
+                                 uint32_t *left_chain_offsets, size_t left_chain_offsets_length,
+                                 uint32_t *left_chain_targets, size_t left_chain_targets_length,
+                                 double *left_chain_probabilities, size_t left_chain_probabilities_length,
+                                 double *left_chain_observations, size_t left_chain_observations_length,
+                                 size_t right_states, size_t right_edges, size_t right_labels, uint32_t right_present, uint32_t right_start,
+                                 const uint32_t *right_label_values, size_t right_label_values_length,
+                                 const uint32_t *right_offsets, size_t right_offsets_length,
+                                 const uint32_t *right_edge_labels, size_t right_edge_labels_length,
+                                 const uint32_t *right_edge_targets, size_t right_edge_targets_length,
+                                 const double *right_edge_weights, size_t right_edge_weights_length,
+                                 uint32_t right_state, const double *right_observations, size_t right_observations_length,
+                                 uint32_t *right_chain_offsets, size_t right_chain_offsets_length,
+                                 uint32_t *right_chain_targets, size_t right_chain_targets_length,
+                                 double *right_chain_probabilities, size_t right_chain_probabilities_length,
+                                 double *right_chain_observations, size_t right_chain_observations_length,
+                                 double gamma, double tolerance, size_t max_rounds, size_t top,
+                                 uint32_t *lefts, size_t lefts_length, uint32_t *rights, size_t rights_length,
+                                 uint64_t *index, size_t index_length,
+                                 uint32_t *places, size_t places_length, double *masses, size_t masses_length,
+                                 struct tanqesha_contribution *records, size_t records_length,
+                                 double *value, double *error_bound, double *discount,
+                                 size_t *pairs_explored, size_t *contributions, size_t *rounds);
 
 #ifdef __cplusplus
 }

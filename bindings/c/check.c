@@ -486,6 +486,169 @@ static void scaling(void)
     CHECK(NORMALISE(0, targets) == 0 && scale == 4.0 && SAME(left, left_after) && SAME(right, right_after));
 }
 
+/* ---- distances */
+
+/* The memory lent to a distance. */
+struct lent {
+    uint32_t lefts[4096], rights[4096];
+    uint64_t index[4096];
+    uint32_t places[9];
+    double masses[9];
+    struct tanqesha_contribution records[64];
+    uint32_t chain_offsets[2][4], chain_targets[2][5];
+    double chain_probabilities[2][5], chain_observations[2][3];
+    double value, error_bound, discount;
+    size_t pairs_explored, contributions, rounds;
+};
+
+static struct lent lent, before, zeros;
+
+/* Fills the memory before a call. */
+static void mark(void)
+{
+    memset(&before, 0x5e, sizeof before);
+    memcpy(&lent, &before, sizeof before);
+}
+
+/* Whether all scratch is zero, in the chains too if there are any. */
+static int swept(int chains)
+{
+    return SAME(lent.lefts, zeros.lefts) && SAME(lent.rights, zeros.rights) && SAME(lent.index, zeros.index) &&
+           SAME(lent.places, zeros.places) && SAME(lent.masses, zeros.masses) &&
+           (!chains || (SAME(lent.chain_offsets, zeros.chain_offsets) && SAME(lent.chain_targets, zeros.chain_targets) &&
+                        SAME(lent.chain_probabilities, zeros.chain_probabilities) &&
+                        SAME(lent.chain_observations, zeros.chain_observations)));
+}
+
+/* Whether the records from k on, and what the last pointers point to, are as they were. */
+static int untouched(size_t k)
+{
+    const double reals[] = {lent.value, lent.error_bound, lent.discount};
+    const double reals_before[] = {before.value, before.error_bound, before.discount};
+    const size_t counts[] = {lent.pairs_explored, lent.contributions, lent.rounds};
+    const size_t counts_before[] = {before.pairs_explored, before.contributions, before.rounds};
+    if (memcmp(lent.records + k, before.records + k, (64 - k) * sizeof lent.records[0]) != 0)
+        return 0;
+    return k > 0 || (SAME(reals, reals_before) && SAME(counts, counts_before));
+}
+
+static void distances(void)
+{
+    const uint32_t offsets[] = {0, 2, 3}, targets[] = {0, 1, 1}, falling[] = {1, 0, 1};
+    const double probabilities[] = {0.5, 0.5, 1.0}, left[] = {0.0, 1.0}, right[] = {0.0, 0.0}, outside[] = {0.0, 1.5};
+    size_t cut = WHOLE, rounds = 200, top = 10, places = 9, masses = 9;
+    double gamma = 0.5;
+#define RUN                                                                                                           \
+    gamma, 1e-6, rounds, top, lent.lefts, LENGTH(lent.lefts, 8), lent.rights, LENGTH(lent.rights, 9), lent.index,      \
+        LENGTH(lent.index, 10), lent.places, places, lent.masses, masses,                                              \
+        lent.records, LENGTH(lent.records, 11), &lent.value, &lent.error_bound, &lent.discount, &lent.pairs_explored,  \
+        &lent.contributions, &lent.rounds
+#define DISTANCE(start, leads, seen)                                                                                  \
+    tanqesha_distance(2, 3, start, offsets, LENGTH(offsets, 0), leads, LENGTH(targets, 1), probabilities,              \
+                      LENGTH(probabilities, 2), seen, LENGTH(left, 3), 2, 3, 0, offsets, LENGTH(offsets, 4), targets,   \
+                      LENGTH(targets, 5), probabilities, LENGTH(probabilities, 6), right, LENGTH(right, 7), RUN)
+    mark();
+    for (cut = 0; cut < 12; cut++)
+        CHECK(DISTANCE(0, targets, left) == (cut == 3 || cut >= 7 ? TANQESHA_STORE : TANQESHA_OUT_OF_RANGE));
+    cut = WHOLE;
+    CHECK(DISTANCE(2, targets, left) == TANQESHA_OUT_OF_RANGE);
+    CHECK(DISTANCE(0, falling, left) == TANQESHA_CHAIN);
+    CHECK(DISTANCE(0, falling, outside) == TANQESHA_OBSERVATION);
+    gamma = 1.0;
+    CHECK(DISTANCE(0, falling, outside) == TANQESHA_DISCOUNT_OR_RATE);
+    gamma = 0.5;
+    top = 65;
+    CHECK(DISTANCE(0, targets, left) == TANQESHA_TOP_OR_ROUNDS);
+    top = 10;
+    rounds = 10001;
+    CHECK(DISTANCE(0, targets, left) == TANQESHA_TOP_OR_ROUNDS);
+    rounds = 200;
+    CHECK(memcmp(&lent, &before, sizeof before) == 0);
+    /* pairs (0, 0), (0, 1), (1, 0), (1, 1): 4 + 2 + 2 + 1 couplings */
+    places = 8;
+    mark();
+    CHECK(DISTANCE(0, targets, left) == TANQESHA_COUPLING_STORE && untouched(0));
+    CHECK(SAME(lent.lefts, zeros.lefts) && SAME(lent.index, zeros.index) && SAME(lent.masses, zeros.masses));
+    CHECK(lent.places[7] == 0 && lent.places[8] == before.places[8]);
+    places = 9;
+    masses = 8;
+    mark();
+    CHECK(DISTANCE(0, targets, left) == TANQESHA_COUPLING_STORE && untouched(0));
+    CHECK(SAME(lent.rights, zeros.rights) && SAME(lent.places, zeros.places) && lent.masses[7] == 0.0);
+    masses = 9;
+    mark();
+    gamma = 1.0 - 1e-6;
+    rounds = 0;
+    CHECK(DISTANCE(0, targets, left) == TANQESHA_OCCUPANCY && untouched(0) && swept(0));
+    /* without a round, the couplings are the product of the rows */
+    gamma = 0.5;
+    CHECK(DISTANCE(0, targets, left) == 0 && swept(0) && untouched(2) && lent.value == 0.0 && lent.error_bound == INFINITY);
+    CHECK(lent.discount == 0.5 && lent.pairs_explored == 4 && lent.contributions == 2 && lent.rounds == 0);
+    mark();
+    rounds = 200;
+    top = 1;
+    CHECK(DISTANCE(0, targets, left) == 0 && swept(0) && untouched(1) && lent.contributions == 1 && lent.pairs_explored == 4);
+    CHECK(lent.value > 0.333 && lent.value < 0.334 && lent.error_bound < 1e-6 && lent.rounds >= 1);
+    CHECK(lent.records[0].left == 1 && lent.records[0].gap == 1.0);
+    CHECK(lent.records[0].contribution == lent.records[0].occupancy * lent.records[0].gap);
+}
+
+static void model_distances(void)
+{
+    const double left[] = {0.0, 2.0}, right[] = {0.0, 2.0}, nan_seen[] = {0.0, NAN};
+    struct model bad;
+    size_t cut = WHOLE, rounds = 200, top = 10, places = 9, masses = 9;
+    double gamma = 0.5;
+    uint32_t number;
+    unsigned k;
+#define BISIM(m, s, seen)                                                                                             \
+    tanqesha_bisim_distance(                                                                                          \
+        MODEL(m), s, seen, LENGTH(left, 0), lent.chain_offsets[0], (size_t)4 - (cut == 1 ? 2 : 0), lent.chain_targets[0], \
+        (size_t)5 - (cut == 2 ? 3 : 0), lent.chain_probabilities[0], (size_t)5 - (cut == 3 ? 3 : 0),                   \
+        lent.chain_observations[0], (size_t)3 - (cut == 4 ? 2 : 0), MODEL(&at_4), 0, right, LENGTH(right, 5),          \
+        lent.chain_offsets[1], (size_t)4 - (cut == 6 ? 2 : 0), lent.chain_targets[1], (size_t)5 - (cut == 7 ? 3 : 0),  \
+        lent.chain_probabilities[1], (size_t)5 - (cut == 12 ? 3 : 0), lent.chain_observations[1],                      \
+        (size_t)3 - (cut == 13 ? 2 : 0), RUN)
+    mark();
+    for (cut = 0; cut < 14; cut++)
+        CHECK(BISIM(&at_2, 0, left) == TANQESHA_STORE);
+    cut = WHOLE;
+    for (k = 0; (number = damage(&bad, k)) != 0; k++)
+        CHECK(BISIM(&bad, 0, left) == number);
+    CHECK(BISIM(&at_2, 2, left) == TANQESHA_OUT_OF_RANGE);
+    bad = at_2;
+    bad.present = 0;
+    gamma = 0.0;
+    CHECK(BISIM(&bad, 0, nan_seen) == TANQESHA_NO_INITIAL_STATE);
+    CHECK(BISIM(&at_2, 0, nan_seen) == TANQESHA_DISCOUNT_OR_RATE);
+    gamma = 0.5;
+    top = 65;
+    CHECK(BISIM(&at_2, 0, nan_seen) == TANQESHA_OBSERVATION);
+    CHECK(BISIM(&at_2, 0, left) == TANQESHA_TOP_OR_ROUNDS);
+    CHECK(memcmp(&lent, &before, sizeof before) == 0);
+    top = 10;
+    /* pairs (0, 0), (0, 1), (1, 1): 2 + 2 + 1 couplings */
+    places = 4;
+    mark();
+    CHECK(BISIM(&at_2, 0, left) == TANQESHA_COUPLING_STORE && untouched(0) && SAME(lent.chain_targets, zeros.chain_targets));
+    places = 5;
+    masses = 4;
+    mark();
+    CHECK(BISIM(&at_2, 0, left) == TANQESHA_COUPLING_STORE && untouched(0) && SAME(lent.chain_offsets, zeros.chain_offsets));
+    places = masses = 9;
+    mark();
+    gamma = 1.0 - 1e-6;
+    rounds = 0;
+    CHECK(BISIM(&at_2, 0, left) == TANQESHA_OCCUPANCY && untouched(0) && swept(1));
+    gamma = 0.5;
+    rounds = 200;
+    /* at rate 4 the left model stays or moves by halves, and the right one moves: seen 0 and 1 until it moves too */
+    CHECK(BISIM(&at_2, 0, left) == 0 && swept(1) && untouched(1) && lent.pairs_explored == 3 && lent.contributions == 1);
+    CHECK(lent.value > 0.166 && lent.value < 0.167 && lent.records[0].left == 0 && lent.records[0].right == 1);
+    /* a model is at distance 0 from itself */
+    CHECK(BISIM(&at_4, 0, left) == 0 && lent.value == 0.0 && lent.contributions == 0 && lent.rounds == 1);
+}
+
 int main(void)
 {
     numbers();
@@ -501,6 +664,8 @@ int main(void)
     transports();
     chains();
     scaling();
+    distances();
+    model_distances();
     printf("C: %u checks, %u failed\n", checks, failures);
     return failures != 0;
 }

@@ -3,13 +3,14 @@
 use std::path::{Path, PathBuf};
 
 /// Their names: one for each crate of exported functions.
-const LIBRARIES: [&str; 6] = [
+const LIBRARIES: [&str; 7] = [
     "exports",
     "exports_flow",
     "exports_relation",
     "exports_card",
     "exports_transport",
     "exports_chains",
+    "exports_distance",
 ];
 
 fn folder() -> PathBuf {

@@ -2,6 +2,13 @@
 
 use crate::text::{Field, Value};
 
+mod distance;
+
+pub use distance::{
+    BisimArgs, BisimSide, ChainRooms, DistanceArgs, Lent, Options, Record, Rooms, marked,
+    real_marked, real_state_of, state_of,
+};
+
 /// An input of one kind of case.
 pub trait Input: Clone {
     const KIND: &'static str;

@@ -1,10 +1,12 @@
 //! Inputs for the comparison: short ones exhaustively, random ones at each limit, damaged copies of good ones.
 //!
-//! Everything follows from a seed. Parts of `metric` serve entries that are compared later.
+//! Everything follows from a seed.
 
+pub mod bisim;
 pub mod build;
 pub mod card;
 pub mod damage;
+pub mod distance;
 pub mod faults;
 pub mod labels;
 pub mod lines;

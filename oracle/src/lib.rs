@@ -7,6 +7,7 @@ pub mod bisim_core;
 pub mod bisim_metric;
 pub mod card;
 pub mod chain;
+pub mod distance;
 pub mod generate;
 pub mod network;
 #[cfg(feature = "ours")]

@@ -3,6 +3,7 @@
 
 pub mod card;
 pub mod chain;
+pub mod distance;
 pub mod network;
 pub mod relation;
 pub mod transport;

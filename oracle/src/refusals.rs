@@ -11,8 +11,10 @@ use crate::args::{
 use std::collections::{BTreeMap, BTreeSet};
 
 mod chain;
+mod distance;
 
 pub use chain::{common_rate_refusal, normalise_refusal, uniformise_refusal};
+pub use distance::{bisim_distance_refusal, couplings, discovered, distance_refusal, run_refusal};
 
 /// 3: a model's states.
 pub const MAX_STATES: usize = 2_000;

@@ -28,6 +28,12 @@ pub const ROWS: &[(&str, &[u32])] = &[
     ("common_rate", &[3, 4, 5, 6]),
     ("uniformise", &[3, 4, 5, 6, 7, 8, 11, 12]),
     ("normalise", &[4, 7, 12, 13]),
+    // 16 can't be met inside them (POINTS.md, P53)
+    ("distance", &[4, 7, 11, 12, 13, 14, 17, 18, 19]),
+    (
+        "bisim_distance",
+        &[3, 4, 5, 6, 7, 8, 11, 12, 14, 17, 18, 19],
+    ),
     ("report", &[7]),
 ];
 
@@ -49,5 +55,13 @@ pub fn floors(name: &str) -> (u64, u64) {
         // 0 to 66 nodes are accepted, which is 67 inputs
         "new" => (1_000, 67),
         _ => (10_000, 200),
+    }
+}
+
+/// Least number of comparisons for a refusal number of the entry's row, or for none: a run that 19 ends has 1,000,000 rounds.
+pub fn floor(name: &str, number: u32) -> u64 {
+    match number {
+        19 => 24,
+        _ => floors(name).1,
     }
 }

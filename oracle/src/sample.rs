@@ -1,9 +1,11 @@
 //! The fixed list of cases that is replayed without Rust: figures of document 01, some of the short inputs, random ones.
 //! The networks, its second part, are in `flow`, the relations, its third, in `relation`, the cards, its fourth, in
-//! `card`, the transports, its fifth, in `transport`, the chains, its sixth, in `chain`.
+//! `card`, the transports, its fifth, in `transport`, the chains, its sixth, in `chain`, the distances, its seventh, in
+//! `distance`.
 
 pub mod card;
 pub mod chain;
+pub mod distance;
 pub mod flow;
 pub mod relation;
 pub mod transport;
@@ -308,7 +310,8 @@ mod tests {
         let cards = (card::text(), &["card"][..]);
         let transports = (transport::text(), &["transport"][..]);
         let chains = (chain::text(), &["rate", "uniformise", "normalise"][..]);
-        for (text, kinds) in [flows, relations, cards, transports, chains] {
+        let distances = (distance::text(), &["distance", "bisim_distance"][..]);
+        for (text, kinds) in [flows, relations, cards, transports, chains, distances] {
             let cases = read_cases(&text).unwrap();
             assert_eq!(cases.iter().map(write_case).collect::<String>(), text);
             for kind in kinds {
@@ -328,10 +331,13 @@ mod tests {
         let (transports, chains) = (transport::text(), chain::text());
         assert!(transports.len() < 400_000, "{} bytes", transports.len());
         assert!(chains.len() < 640_000, "{} bytes", chains.len());
+        let distances = distance::text();
+        assert!(distances.len() < 800_000, "{} bytes", distances.len());
         let mut counts: BTreeMap<(&str, u32), usize> = BTreeMap::new();
-        for case in
-            read_cases(&(models + &flows + &relations + &cards + &transports + &chains)).unwrap()
-        {
+        let texts = [
+            models, flows, relations, cards, transports, chains, distances,
+        ];
+        for case in read_cases(&texts.concat()).unwrap() {
             for field in case.fields {
                 if let Value::Answer(refusal, _) = field.value {
                     *counts.entry((field.name, refusal)).or_default() += 1;

@@ -270,29 +270,59 @@ const NORMALISE: Shape = &[
     ],
 ];
 
-/// Two chains and options; what `distance` gives: value, bound, γ, pairs, rounds; then the contributions.
-const DISTANCE: Shape = &[&[
-    ("left_initial", Number),
-    ("left_offsets", Numbers),
-    ("left_targets", Numbers),
-    ("left_probabilities", Reals),
-    ("left_observations", Reals),
-    ("right_initial", Number),
-    ("right_offsets", Numbers),
-    ("right_targets", Numbers),
-    ("right_probabilities", Reals),
-    ("right_observations", Reals),
+/// What a run takes beside chains or models: how long the lists lent to it are, all filled with marks.
+const OPTIONS: Lines = &[
     ("gamma", Real),
     ("tolerance", Real),
     ("max_rounds", Number),
     ("top", Number),
-    ("distance", Answer(&[Real, Real, Real, Number, Number])),
+    ("rooms", Numbers),
+];
+
+/// Value, bound, γ, pairs, contributions, rounds.
+const GIVEN: Form = Answer(&[Real, Real, Real, Number, Number, Number]);
+
+/// The contributions, and of each list lent whether it holds its marks (0), zeros (1) or anything else (2), the records
+/// behind the contributions last.
+const CONTRIBUTIONS: Lines = &[
     ("lefts", Numbers),
     ("rights", Numbers),
     ("gaps", Reals),
     ("occupancies", Reals),
     ("contributions", Reals),
-]];
+    ("swept", Numbers),
+];
+
+/// Two chains and options, and what `distance` gives.
+const DISTANCE: Shape = &[
+    CHAIN_COUNTS,
+    CHAIN,
+    CHAIN_COUNTS,
+    CHAIN,
+    OPTIONS,
+    &[("distance", GIVEN)],
+    CONTRIBUTIONS,
+];
+
+/// Of a model the state that is asked for, the observations, and how long the lists lent for its chain are.
+const SIDE: Lines = &[
+    ("state", Number),
+    ("observations", Reals),
+    ("rooms", Numbers),
+];
+
+/// Two models and options, and what `bisim_distance` gives.
+const BISIM_DISTANCE: Shape = &[
+    COUNTS,
+    COLUMNS,
+    SIDE,
+    COUNTS,
+    COLUMNS,
+    SIDE,
+    OPTIONS,
+    &[("bisim_distance", GIVEN)],
+    CONTRIBUTIONS,
+];
 
 /// A card, the bytes lent and the byte that all of them hold; the length of the text, and the text.
 const CARD: Shape = &[&[
@@ -320,6 +350,7 @@ pub const SHAPES: &[(&str, Shape)] = &[
     ("uniformise", UNIFORMISE),
     ("normalise", NORMALISE),
     ("distance", DISTANCE),
+    ("bisim_distance", BISIM_DISTANCE),
     ("card", CARD),
 ];
 

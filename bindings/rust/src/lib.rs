@@ -1,6 +1,6 @@
 //! When are two queue models alike? The proved library Tanqesha, safely from Rust: models that are built of transitions,
-//! the relation between two of them, flows, transports, chains, and the report of a card. README.md of the repository says
-//! what is proved; each function here calls the exported one, which is total, refuses bad input by number and states its
+//! the relation between two of them, flows, transports, chains, distances, and the report of a card. README.md of the
+//! repository says what is proved; each function here calls the exported one, which is total, refuses bad input by number and states its
 //! complete outcome.
 //!
 //! ```
@@ -30,6 +30,7 @@
 
 pub mod card;
 mod chain;
+mod distance;
 mod ids;
 mod model;
 mod network;
@@ -41,6 +42,7 @@ pub mod sys;
 mod transport;
 
 pub use chain::{Chain, common_rate, normalise, uniformise};
+pub use distance::{Distance, MetricOptions, PairContribution, bisim_distance, distance};
 pub use ids::{LabelId, Labels, StateId};
 pub use model::{Columns, Edge, Model, Transition};
 pub use network::{Flow, Network, Rows};

@@ -2,7 +2,7 @@
 //! parameters and its answer as they are. All `unsafe` code of this crate is in this module, in one macro.
 //!
 //! A function that can refuse returns the refusal's number, or 0 with its answer behind the references at its end. A
-//! refusal leaves all lent memory and these references as they were.
+//! refusal leaves all lent memory and these references as they were, but for scratch, which is all zero after 16 to 19.
 
 /// The number of links of a network, reverses included, that its memory has room for.
 pub const LINKS: usize = 2_176;
@@ -10,6 +10,10 @@ pub const LINKS: usize = 2_176;
 pub const STARTS: usize = 67;
 /// The bytes of the longest report of a card.
 pub const REPORT: usize = 13_331;
+/// The entries of each list of pairs that a distance needs.
+pub const PAIRS: usize = 4_096;
+/// The contribution records that a distance needs.
+pub const RECORDS: usize = 64;
 
 /// A built model: counts, initial state and columns, as the functions take them. Nothing is assumed of it.
 #[derive(Debug, Clone, Copy)]
@@ -63,6 +67,22 @@ pub struct Link {
     pub cap: f64,
     /// The cost for a unit.
     pub cost: f64,
+}
+
+/// A pair of states, how far its observations are apart, the discounted time spent in it, and the product of the two.
+#[repr(C)]
+#[derive(Debug, Clone, Copy, PartialEq, Default)]
+pub struct PairContribution {
+    /// The left state.
+    pub left: u32,
+    /// The right state.
+    pub right: u32,
+    /// How far the observations are apart.
+    pub gap: f64,
+    /// The discounted time spent in the pair.
+    pub occupancy: f64,
+    /// The product of the two.
+    pub contribution: f64,
 }
 
 /// A network in memory: links 2k and 2k + 1 are an added link and its reverse; the links that leave node u are
@@ -310,5 +330,34 @@ entries! {
     /// The observations of two chains mapped to 0 to 1 together. Refuses with 4, 7, 12, 13.
     fn normalise = tanqesha_normalise(
         left: chain, left_observations: [mut f64], right: chain, right_observations: [mut f64], scale: &mut f64
+    ) -> u32;
+}
+
+// exports_distance: distances
+entries! {
+    /// The distance of two chains, with its contributions over the front of the records; the lists of pairs (`lefts`, `rights`,
+    /// `index`) and the coupling store (`places`, `masses`) are zero at the end. Refuses with 4, 7, 11 to 14, 16 to 19.
+    fn distance = tanqesha_distance(
+        left: chain, left_observations: [f64], right: chain, right_observations: [f64],
+        gamma: f64, tolerance: f64, max_rounds: usize, top: usize,
+        lefts: [mut u32], rights: [mut u32], index: [mut u64], places: [mut u32], masses: [mut f64],
+        records: [mut PairContribution],
+        value: &mut f64, error_bound: &mut f64, discount: &mut f64,
+        pairs_explored: &mut usize, contributions: &mut usize, rounds: &mut usize
+    ) -> u32;
+    /// The distance of a state of each of two models, by their chains at the common rate and observations scaled together; the
+    /// lists of the chains are zero at the end too. Refuses with 3 to 8, 11, 12, 14, 16 to 19.
+    fn bisim_distance = tanqesha_bisim_distance(
+        left: model, left_state: u32, left_observations: [f64],
+        left_chain_offsets: [mut u32], left_chain_targets: [mut u32],
+        left_chain_probabilities: [mut f64], left_chain_observations: [mut f64],
+        right: model, right_state: u32, right_observations: [f64],
+        right_chain_offsets: [mut u32], right_chain_targets: [mut u32],
+        right_chain_probabilities: [mut f64], right_chain_observations: [mut f64],
+        gamma: f64, tolerance: f64, max_rounds: usize, top: usize,
+        lefts: [mut u32], rights: [mut u32], index: [mut u64], places: [mut u32], masses: [mut f64],
+        records: [mut PairContribution],
+        value: &mut f64, error_bound: &mut f64, discount: &mut f64,
+        pairs_explored: &mut usize, contributions: &mut usize, rounds: &mut usize
     ) -> u32;
 }

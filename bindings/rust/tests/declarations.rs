@@ -114,9 +114,11 @@ fn in_c(kind: &str, name: &str) -> String {
         "usize" => "size_t",
         "u32" => "uint32_t",
         "u8" => "uint8_t",
+        "u64" => "uint64_t",
         "f64" => "double",
         "bool" => "bool",
         "FlowNetwork" => "struct tanqesha_network",
+        "PairContribution" => "struct tanqesha_contribution",
         _ => panic!("{kind}"),
     };
     let item = |kind: &'static str, text: &str| {
@@ -179,7 +181,7 @@ fn every_library_is_built_and_linked() {
 #[test]
 fn the_header_has_each_function_as_it_is_exported() {
     let expected: Vec<_> = exported().iter().map(prototype).collect();
-    assert!(expected.len() >= 29);
+    assert!(expected.len() >= 31);
     let prototypes = prototypes();
     for (prototype, expected) in prototypes.iter().zip(&expected) {
         assert_eq!(prototype, expected);

@@ -9,12 +9,12 @@ use std::process::ExitCode;
 use oracle::args::{FlowArgs, RunArgs};
 use oracle::card::printed;
 use oracle::generate::{
-    Rng, build, card, labels, model, network, normalise, rate, related, relation, remainders,
-    transport,
+    Rng, bisim, build, card, distance, labels, model, network, normalise, rate, related, relation,
+    remainders, transport,
 };
 use oracle::ours::Ours;
 use oracle::pairs::{alike, first_difference, paired};
-use oracle::rows::{PARTS, ROWS, floors, printed_numbers};
+use oracle::rows::{PARTS, ROWS, floor, floors, printed_numbers};
 use oracle::sample;
 use oracle::text::{Case, Field, Value, write_case};
 
@@ -135,7 +135,7 @@ impl Tally {
         let (least, per_outcome) = floors(name);
         let low = |numbers: &[u32], counts: &BTreeMap<u32, u64>| {
             let mut numbers = numbers.iter().chain(&[0]);
-            numbers.any(|&number| count(counts, number) < per_outcome)
+            numbers.any(|&number| count(counts, number) < floor(name, number))
         };
         let mut short = entry.compared < least || low(row, &entry.refused);
         let numbers = printed_numbers(name);
@@ -175,6 +175,12 @@ fn samples(tally: &mut Tally) {
     sample::chain::rates().iter().for_each(|a| tally.check(a));
     sample::chain::chains().iter().for_each(|a| tally.check(a));
     sample::chain::pairs().iter().for_each(|a| tally.check(a));
+    sample::distance::distances()
+        .iter()
+        .for_each(|a| tally.check(a));
+    sample::distance::bisims()
+        .iter()
+        .for_each(|a| tally.check(a));
 }
 
 fn reals_and_labels(tally: &mut Tally, rng: &mut Rng, scale: usize) {
@@ -257,6 +263,11 @@ fn chains(tally: &mut Tally, rng: &mut Rng, scale: usize) {
     normalise::pairs(rng, scale, &mut |a| tally.check(&a));
 }
 
+fn distances(tally: &mut Tally, rng: &mut Rng, scale: usize) {
+    distance::distances(rng, scale, &mut |a| tally.check(&a));
+    bisim::distances(rng, scale, &mut |a| tally.check(&a));
+}
+
 /// Seed and scale.
 fn options() -> Option<(u64, usize)> {
     let (mut seed, mut scale) = (1, 1);
@@ -288,6 +299,7 @@ fn main() -> ExitCode {
     cards(&mut tally, &mut rng, scale);
     transports(&mut tally, &mut rng, scale);
     chains(&mut tally, &mut rng, scale);
+    distances(&mut tally, &mut rng, scale);
     let entries = ROWS.iter().chain(PARTS);
     let low = entries.filter(|row| tally.report(row.0, row.1)).count();
     let compared: u64 = tally.entries.values().map(|e| e.compared).sum();

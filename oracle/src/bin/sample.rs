@@ -11,6 +11,7 @@ fn text(part: &str) -> Option<String> {
         "cards" => Some(sample::card::text()),
         "transports" => Some(sample::transport::text()),
         "chains" => Some(sample::chain::text()),
+        "distances" => Some(sample::distance::text()),
         _ => None,
     }
 }
@@ -19,7 +20,7 @@ fn main() {
     let mut args = std::env::args().skip(1);
     let part = args.next().unwrap_or_default();
     let (Some(text), None) = (text(&part), args.next()) else {
-        eprintln!("one part: models, networks, relations, cards, transports or chains");
+        eprintln!("one part: models, networks, relations, cards, transports, chains or distances");
         std::process::exit(2);
     };
     print!("{text}");

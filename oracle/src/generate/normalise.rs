@@ -92,7 +92,7 @@ fn side<'a>(rng: &mut Rng, a: &'a mut NormaliseArgs) -> &'a mut ChainArgs {
 }
 
 /// A way to change a chain; an intact one, of at least one state and with rows that are not empty.
-type Change = fn(&mut Rng, &mut ChainArgs);
+pub type Change = fn(&mut Rng, &mut ChainArgs);
 
 /// A row of so many entries in place of a chain.
 fn long_row(rng: &mut Rng, entries: usize) -> ChainArgs {
@@ -218,7 +218,7 @@ pub fn at_the_allowance(rng: &mut Rng, c: &mut ChainArgs) {
 }
 
 /// True where every change can be made.
-fn intact(c: &ChainArgs) -> bool {
+pub(super) fn intact(c: &ChainArgs) -> bool {
     let l = &c.lists;
     let entries = [l.targets.len(), l.probabilities.len()];
     (1..=2_000).contains(&c.states)

@@ -22,7 +22,7 @@ pub fn uniformise(a: &UniformiseArgs, lists: &mut ChainLists, entries: &mut usiz
 }
 
 /// A chain as the interface takes it, without its observations.
-fn chain(c: &ChainArgs) -> ChainView<'_> {
+pub(super) fn chain(c: &ChainArgs) -> ChainView<'_> {
     ChainView {
         states: c.states,
         entries: c.entries,

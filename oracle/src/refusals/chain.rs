@@ -61,7 +61,7 @@ pub fn normalise_refusal(a: &NormaliseArgs) -> u32 {
 /// "A state number is not below its ... chain's state count; or a ... chain handed in has too few offsets (states + 1 are
 /// needed) ... [or] entries ... for its counts, or offsets that don't run from 0 to its count of ... entries without
 /// falling". Of the targets those of its entries are read (P47).
-fn chain_misshapen(c: &ChainArgs) -> bool {
+pub(super) fn chain_misshapen(c: &ChainArgs) -> bool {
     let l = &c.lists;
     initial_outside(Some(c.initial), c.states)
         || l.offsets.len() <= c.states
@@ -87,14 +87,14 @@ fn uniformise_short(a: &UniformiseArgs) -> bool {
 }
 
 /// "An observation per state".
-fn observations_short(c: &ChainArgs) -> bool {
+pub(super) fn observations_short(c: &ChainArgs) -> bool {
     c.lists.observations.len() < c.states
 }
 
 // 12. "An observation is NaN or ... (in `uniformise`, `normalise` and `bisim_distance`, outside -2^40 to 2^40)."
 
 /// Those of the states; what follows is not read.
-fn any_observation_wrong(observations: &[f64], states: usize) -> bool {
+pub(super) fn any_observation_wrong(observations: &[f64], states: usize) -> bool {
     let wrong = |x: &f64| !(-MAX_OBSERVATION..=MAX_OBSERVATION).contains(x);
     first_of(observations, states).iter().any(wrong)
 }
@@ -102,7 +102,7 @@ fn any_observation_wrong(observations: &[f64], states: usize) -> bool {
 // 13. Chains.
 
 /// "A chain has no or over 2,000 states, a row of ...": only for chains that pass 4.
-fn chain_wrong(c: &ChainArgs) -> bool {
+pub(super) fn chain_wrong(c: &ChainArgs) -> bool {
     c.states == 0 || c.states > MAX_STATES || (0..c.states).any(|s| row_wrong(c, s))
 }
 

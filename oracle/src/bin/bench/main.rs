@@ -3,10 +3,11 @@
 //! Prints `NAME rust_ns A ours_ns B ratio A/B`, medians over the samples. The Rust side is a new builder, each
 //! transition added, `build` and the release of the model. Our side is `build` into stores that are allocated once and
 //! not cleared between calls. The readers are left out. The flow is in `flow`, whole runs of `epsdelta` in `relation`, reports
-//! of cards in `card`, `transport` in `transport`, `uniformise` and `normalise` in `chain`.
+//! of cards in `card`, `transport` in `transport`, `uniformise` and `normalise` in `chain`, distances in `distance`.
 
 mod card;
 mod chain;
+mod distance;
 mod flow;
 mod relation;
 mod transport;
@@ -140,5 +141,12 @@ fn main() {
     }
     for (name, case) in chain::pairs().iter().filter(|case| chosen(case.0)) {
         chain::measure_normalise(name, case);
+    }
+    for (name, case) in distance::pairs().iter().filter(|case| chosen(case.0)) {
+        distance::measure_distance(name, case);
+    }
+    let models = distance::model_pairs();
+    for (name, case) in models.iter().filter(|case| chosen(case.0)) {
+        distance::measure_bisim(name, case);
     }
 }
