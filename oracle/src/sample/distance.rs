@@ -146,13 +146,17 @@ pub fn bisims() -> Vec<BisimArgs> {
     list
 }
 
-/// Whether the replay takes the case: numbers of at most 33 bits, lists of at most 80 entries, rooms of at most 4,200.
+/// Whether the replay takes the case: numbers of at most 33 bits, lists of at most 80 entries, rooms of at most 4,200, those of the
+/// chains inside of at most 200.
 fn fits(case: &Case) -> bool {
+    let within = |rooms: &[u64]| {
+        let most = if rooms.len() == 4 { 200 } else { 4_200 };
+        rooms.iter().all(|&n| n <= most)
+    };
     case.fields.iter().all(|field| match &field.value {
         Value::Number(n) => *n <= 1 << 32,
-        Value::Numbers(list) => {
-            list.len() <= 80 && (field.name != "rooms" || list.iter().all(|&n| n <= 4_200))
-        }
+        Value::Numbers(list) if field.name == "rooms" => within(list),
+        Value::Numbers(list) => list.len() <= 80,
         Value::Reals(list) => list.len() <= 80,
         _ => true,
     })
