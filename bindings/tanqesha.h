@@ -1,5 +1,5 @@
-/* Tanqesha for C and C++: when are two queue models alike? The functions of the seven static libraries exports,
- * exports_flow, exports_relation, exports_card, exports_transport, exports_chains and exports_distance.
+/* Tanqesha for C and C++: when are two queue models alike? The functions of the eight static libraries exports,
+ * exports_flow, exports_relation, exports_card, exports_transport, exports_chains, exports_distance and exports_bisim.
  *
  * Each function is proved to give the answer of its definition for every input, to stay within the memory lent to it, and
  * to end; crates/NAME/src/lib.rt of the library has its contract. No function keeps anything between calls, allocates
@@ -420,6 +420,8 @@ uint32_t tanqesha_distance(size_t left_states, size_t left_entries, uint32_t lef
                            struct tanqesha_contribution *records, size_t records_length,
                            double *value, double *error_bound, double *discount,
                            size_t *pairs_explored, size_t *contributions, size_t *rounds);
+
+/* ---- exports_bisim: distances of models */
 
 /* The distance of a state of each of two models, by what is observed of their states: both are made chains at their common rate,
  * and the observations are scaled together to 0 to 1, as by tanqesha_uniformise and tanqesha_normalise. The rest as in

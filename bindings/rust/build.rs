@@ -3,7 +3,7 @@
 use std::path::{Path, PathBuf};
 
 /// Their names: one for each crate of exported functions.
-const LIBRARIES: [&str; 7] = [
+const LIBRARIES: [&str; 8] = [
     "exports",
     "exports_flow",
     "exports_relation",
@@ -11,6 +11,7 @@ const LIBRARIES: [&str; 7] = [
     "exports_transport",
     "exports_chains",
     "exports_distance",
+    "exports_bisim",
 ];
 
 fn folder() -> PathBuf {

@@ -4,6 +4,7 @@
 
 pub mod bisim;
 pub mod build;
+pub mod capped;
 pub mod card;
 pub mod damage;
 pub mod distance;

@@ -333,7 +333,7 @@ entries! {
     ) -> u32;
 }
 
-// exports_distance: distances
+// exports_distance: distances of chains
 entries! {
     /// The distance of two chains, with its contributions over the front of the records; the lists of pairs (`lefts`, `rights`,
     /// `index`) and the coupling store (`places`, `masses`) are zero at the end. Refuses with 4, 7, 11 to 14, 16 to 19.
@@ -345,6 +345,10 @@ entries! {
         value: &mut f64, error_bound: &mut f64, discount: &mut f64,
         pairs_explored: &mut usize, contributions: &mut usize, rounds: &mut usize
     ) -> u32;
+}
+
+// exports_bisim: distances of models
+entries! {
     /// The distance of a state of each of two models, by their chains at the common rate and observations scaled together; the
     /// lists of the chains are zero at the end too. Refuses with 3 to 8, 11, 12, 14, 16 to 19.
     fn bisim_distance = tanqesha_bisim_distance(

@@ -8,11 +8,53 @@ use crate::scratch;
 use bisim_core::ids::StateId;
 use bisim_core::wlts::Shape;
 use bisim_distance::measure::measure;
+use distance_run::told::Told;
 use replay_text::columns;
 use replay_text::lists;
 use replay_text::tally;
 use replay_text::text;
 use replay_text::text::Reader;
+
+// The answer, and what each list holds then.
+fn expect(
+    buf: &mut [u8; 65536],
+    r: Reader,
+    told: Told,
+    lefts: &[u32],
+    rights: &[u32],
+    codes: &[u64],
+    places: &[u32],
+    masses: &[f64],
+    left_chain_offsets: &[u32],
+    left_chain_targets: &[u32],
+    left_chain_probs: &[f64],
+    left_chain_seen: &[f64],
+    right_chain_offsets: &[u32],
+    right_chain_targets: &[u32],
+    right_chain_probs: &[f64],
+    right_chain_seen: &[f64],
+) -> Reader {
+    let s = answer::expect(buf, r, told);
+    let t = scratch::expect_lists(buf, s, 14);
+    let u = scratch::expect_run(buf, t, lefts, rights, codes, places, masses);
+    let v = scratch::expect_chain(
+        buf,
+        u,
+        left_chain_offsets,
+        left_chain_targets,
+        left_chain_probs,
+        left_chain_seen,
+    );
+    let w = scratch::expect_chain(
+        buf,
+        v,
+        right_chain_offsets,
+        right_chain_targets,
+        right_chain_probs,
+        right_chain_seen,
+    );
+    scratch::expect_kept(buf, w)
+}
 
 fn check(
     buf: &mut [u8; 65536],
@@ -83,26 +125,24 @@ fn check(
         masses,
         records,
     );
-    let s = answer::expect(buf, r, told);
-    let t = scratch::expect_lists(buf, s, 14);
-    let u = scratch::expect_run(buf, t, lefts, rights, codes, places, masses);
-    let v = scratch::expect_chain(
+    expect(
         buf,
-        u,
+        r,
+        told,
+        lefts,
+        rights,
+        codes,
+        places,
+        masses,
         left_chain_offsets,
         left_chain_targets,
         left_chain_probs,
         left_chain_seen,
-    );
-    let w = scratch::expect_chain(
-        buf,
-        v,
         right_chain_offsets,
         right_chain_targets,
         right_chain_probs,
         right_chain_seen,
-    );
-    scratch::expect_kept(buf, w)
+    )
 }
 
 // The lists lent for the chains.

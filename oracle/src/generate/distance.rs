@@ -1,6 +1,7 @@
 //! Inputs of `distance`: chains of few states, point masses, rows of up to 32 entries, copies with few changes, options of all
 //! kinds, runs of 1,000,000 rounds on few pairs, and a fault for each number.
 
+use super::capped;
 use super::metric::{chain, masses};
 use super::normalise::{self, intact, listed, still};
 use super::{Rng, all_digits, place};
@@ -621,7 +622,11 @@ fn edges(rng: &mut Rng, scale: usize, f: &mut dyn FnMut(DistanceArgs)) {
     }
     // 1,000,000 sweeps, then no round of the occupancy
     (0..4 * scale).for_each(|_| f(slow(rng, gammas[5], true)));
-    // two states a side, one more than there may be, and 2,000 that stay
+    // mass that is left out at the cap of rounds of `transport`
+    for (tolerance, top) in [(1e-12, 0), (1e-3, 64)] {
+        f(capped::pair(tolerance, top));
+    }
+    // 2,000 states that stay
     f(DistanceArgs {
         left: still(&[0.5; 2_000]),
         right: still(&[0.25; 2_000]),
