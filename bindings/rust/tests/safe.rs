@@ -4,8 +4,9 @@ mod common;
 
 use common::{fan, refused, sample};
 use tanqesha::{
-    Chain, Columns, Edge, LabelId, Labels, Model, Network, Refusal, StateId, Transition, card,
-    common_rate, epsdelta, epsdelta_bisimilar, min_epsilon, normalise, real, transport, uniformise,
+    Chain, Columns, Edge, LabelId, Labels, MetricOptions, Model, Network, Refusal, StateId,
+    Transition, bisim_distance, card, common_rate, distance, epsdelta, epsdelta_bisimilar,
+    min_epsilon, normalise, real, transport, uniformise,
 };
 
 /// The sample, built of transitions.
@@ -390,6 +391,13 @@ fn a_small_stack() {
         let rate = common_rate(&model, &model);
         let mut chain = uniformise(&model, rate, &[0.5; 164]).unwrap();
         normalise(&mut chain.clone(), &mut chain).unwrap();
+        let options = MetricOptions {
+            max_rounds: 2,
+            ..MetricOptions::default()
+        };
+        distance(&chain, &chain, 0.5, options).unwrap();
+        let at = (&model, StateId(0), &[0.5; 164][..]);
+        bisim_distance(at, at, 0.5, options).unwrap();
         let (model, classes) = (crowd(8, 248), [0; 39]);
         epsdelta(&model, &model, &classes, &classes, 0.125, 4.0).unwrap();
         epsdelta_bisimilar(&model, &model, &classes, &classes, 0.125, 4.0).unwrap();

@@ -7,7 +7,7 @@ use crate::entries;
 use crate::scratch;
 use bisim_core::ids::StateId;
 use bisim_core::wlts::Shape;
-use bisim_distance::measure::measure;
+use bisim_measure::measure::measure;
 use distance_run::told::Told;
 use replay_text::columns;
 use replay_text::lists;
