@@ -3,6 +3,9 @@
 use crate::text::{Field, Value};
 
 mod distance;
+mod leaves;
+
+pub use leaves::{Held, Leaf, Leaves};
 
 pub use distance::{
     BisimArgs, BisimSide, ChainRooms, DistanceArgs, Lent, Options, Record, Rooms, marked,

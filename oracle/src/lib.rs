@@ -8,6 +8,7 @@ pub mod bisim_metric;
 pub mod card;
 pub mod chain;
 pub mod distance;
+pub mod fuzz;
 pub mod generate;
 pub mod network;
 #[cfg(feature = "ours")]
@@ -17,5 +18,6 @@ pub mod refusals;
 pub mod relation;
 pub mod rows;
 pub mod sample;
+pub mod shrink;
 pub mod text;
 pub mod transport;

@@ -243,14 +243,14 @@ fn rooms(list: &[usize]) -> Field {
 
 impl ChainArgs {
     /// Entries that are listed.
-    fn listed(&self) -> usize {
+    pub(super) fn listed(&self) -> usize {
         let l = &self.lists;
         let listed = l.targets.len().min(l.probabilities.len());
         listed.min(self.entries)
     }
 
     /// Without the entries `from..to`.
-    fn without(&self, from: usize, to: usize) -> Self {
+    pub(super) fn without(&self, from: usize, to: usize) -> Self {
         let l = &self.lists;
         let mut c = self.clone();
         c.entries -= to - from;

@@ -1,12 +1,15 @@
 //! Runs the Rust and the static library on the same inputs and compares answers and lent memory.
 //!
-//! `compare [--seed N] [--scale K]`: K times as many random inputs. Exit status 1 where something differs or a floor
-//! is not reached, 2 on bad usage.
+//! `compare [--seed N] [--scale K] [--soak SECONDS] [PART..]`: K times as many random inputs. With `--soak` the parts are run
+//! again and again with fresh seeds, on all cores. Exit status 1 where something differs or a floor is not reached (of all
+//! parts, without `--soak`), 2 on bad usage.
 
 use std::collections::BTreeMap;
 use std::process::ExitCode;
+use std::sync::Mutex;
+use std::time::{Duration, Instant, SystemTime};
 
-use oracle::args::{FlowArgs, RunArgs};
+use oracle::args::{FlowArgs, Leaves, RunArgs};
 use oracle::card::printed;
 use oracle::generate::{
     Rng, bisim, build, card, distance, labels, model, network, normalise, rate, related, relation,
@@ -16,13 +19,11 @@ use oracle::ours::Ours;
 use oracle::pairs::{alike, first_difference, paired};
 use oracle::rows::{PARTS, ROWS, floor, floors, printed_numbers};
 use oracle::sample;
+use oracle::shrink::least;
 use oracle::text::{Case, Field, Value, write_case};
 
 /// Differences printed of each entry.
 const SHOWN: u64 = 3;
-/// Steps to make a difference shorter.
-const STEPS: usize = 600;
-
 #[derive(Default)]
 struct Entry {
     compared: u64,
@@ -48,40 +49,31 @@ fn listed(numbers: &[u32], counts: &BTreeMap<u32, u64>) -> String {
     each.collect::<Vec<_>>().join(", ")
 }
 
+fn add_counts(counts: &mut BTreeMap<u32, u64>, other: BTreeMap<u32, u64>) {
+    for (number, n) in other {
+        *counts.entry(number).or_default() += n;
+    }
+}
+
 #[derive(Default)]
 struct Tally {
     entries: BTreeMap<&'static str, Entry>,
+    /// No input is compared after this.
+    end: Option<Instant>,
 }
 
-fn differs<C: Ours>(case: &C) -> bool {
-    !alike(&case.oracle(), &case.ours())
+/// Whether the two sides differ in the answer of this entry.
+fn differs<C: Ours>(case: &C, entry: &str) -> bool {
+    let (oracle, ours) = (case.oracle(), case.ours());
+    let pairs = paired(&oracle, &ours);
+    let named = |side: &[Field]| side.first().is_some_and(|head| head.name == entry);
+    let mut pairs = pairs.iter().filter(|(a, b)| named(a) || named(b));
+    pairs.any(|(a, b)| !alike(a, b))
 }
 
-/// Takes parts out as long as the two sides still differ on what is left, in at most [`STEPS`] steps.
-fn shrunk<C: Ours>(case: &C) -> C {
-    let mut least = case.clone();
-    let (mut at, mut chunk) = (0, least.parts());
-    for _ in 0..STEPS {
-        if chunk == 0 {
-            break;
-        }
-        if at + chunk > least.parts() {
-            (at, chunk) = (0, chunk / 2);
-            continue;
-        }
-        let shorter = least.without(at, at + chunk);
-        if differs(&shorter) {
-            least = shorter;
-        } else {
-            at += chunk;
-        }
-    }
-    least
-}
-
-/// Prints the case, shortened, and what the library answers.
-fn show<C: Ours>(case: &C) {
-    let case = shrunk(case);
+/// Prints a smallest case of the difference, and what the library answers.
+fn show<C: Ours + Leaves>(case: &C, entry: &str) {
+    let case = least(case, &mut |case| differs(case, entry));
     let (expected, got) = (case.oracle(), case.ours());
     let place = first_difference(&expected, &got);
     let ours = Case {
@@ -114,17 +106,40 @@ impl Tally {
         differs && entry.differ <= SHOWN
     }
 
-    fn check<C: Ours>(&mut self, case: &C) {
+    fn check<C: Ours + Leaves>(&mut self, case: &C) {
+        if self.end.is_some_and(|end| Instant::now() > end) {
+            return;
+        }
         let (oracle, ours) = (case.oracle(), case.ours());
         for (expected, got) in paired(&oracle, &ours) {
             if self.count(expected, got) {
-                show(case);
+                let side = if expected.is_empty() { got } else { expected };
+                show(case, side[0].name);
             }
         }
     }
 
-    /// Prints the entry's line; true where a floor is not reached.
-    fn report(&self, name: &str, row: &[u32]) -> bool {
+    /// Comparisons and differences of all entries.
+    fn sums(&self) -> (u64, u64) {
+        let entries = self.entries.values();
+        entries.fold((0, 0), |(compared, differ), e| {
+            (compared + e.compared, differ + e.differ)
+        })
+    }
+
+    /// With the counts of another one.
+    fn add(&mut self, other: Tally) {
+        for (name, from) in other.entries {
+            let entry = self.entries.entry(name).or_default();
+            entry.compared += from.compared;
+            entry.differ += from.differ;
+            add_counts(&mut entry.refused, from.refused);
+            add_counts(&mut entry.printed, from.printed);
+        }
+    }
+
+    /// Prints the entry's line; true where a floor is not reached, so far as there is one.
+    fn report(&self, name: &str, row: &[u32], floors_hold: bool) -> bool {
         let none = Entry::default();
         let entry = self.entries.get(name).unwrap_or(&none);
         let refused = listed(row, &entry.refused);
@@ -145,6 +160,7 @@ impl Tally {
             println!("{name}: {relations} relations printed (refusals printed: {printed})");
             short |= low(numbers, &entry.printed);
         }
+        short &= floors_hold;
         if short {
             println!("{name}: floor of {least} compared, {per_outcome} per outcome, not reached");
         }
@@ -268,42 +284,144 @@ fn distances(tally: &mut Tally, rng: &mut Rng, scale: usize) {
     bisim::distances(rng, scale, &mut |a| tally.check(&a));
 }
 
-/// Seed and scale.
-fn options() -> Option<(u64, usize)> {
-    let (mut seed, mut scale) = (1, 1);
+type Part = (&'static str, fn(&mut Tally, &mut Rng, usize));
+
+/// The parts by name; those after the first take seeds.
+const ALL: &[Part] = &[
+    ("samples", |tally, _, _| samples(tally)),
+    ("labels", reals_and_labels),
+    ("builds", builds),
+    ("models", models),
+    ("networks", networks),
+    ("relations", relations),
+    ("cards", cards),
+    ("transports", transports),
+    ("chains", chains),
+    ("distances", distances),
+];
+
+/// How many times the usual number of random inputs a turn of the soak has, so that the short inputs, which are the same in
+/// every turn, are few.
+const SOAK_SCALE: usize = 4;
+
+struct Options {
+    seed: Option<u64>,
+    scale: Option<usize>,
+    soak: Option<u64>,
+    parts: Vec<&'static Part>,
+}
+
+fn options() -> Option<Options> {
+    let mut options = Options {
+        seed: None,
+        scale: None,
+        soak: None,
+        parts: Vec::new(),
+    };
     let mut words = std::env::args().skip(1);
     while let Some(word) = words.next() {
-        let value = words.next();
         match word.as_str() {
-            "--seed" => seed = value?.parse().ok()?,
-            "--scale" => scale = value?.parse().ok()?,
-            _ => return None,
+            "--seed" => options.seed = Some(words.next()?.parse().ok()?),
+            "--scale" => options.scale = Some(words.next()?.parse().ok()?),
+            "--soak" => options.soak = Some(words.next()?.parse().ok()?),
+            name => options.parts.push(ALL.iter().find(|part| part.0 == name)?),
         }
     }
-    Some((seed, scale))
+    Some(options)
+}
+
+/// A seed that no run had before.
+fn fresh() -> u64 {
+    let time = SystemTime::now().duration_since(SystemTime::UNIX_EPOCH);
+    Rng::new(time.map_or(0, |t| t.as_nanos() as u64)).bits() % 1_000_000_000
+}
+
+/// Runs turns until the time is over: each a part with a seed of its own.
+fn soak_turns(
+    parts: &[&Part],
+    scale: usize,
+    end: Instant,
+    next: &Mutex<(usize, u64)>,
+    sum: &Mutex<Tally>,
+) {
+    while Instant::now() < end {
+        let (part, seed) = {
+            let mut next = next.lock().expect("no turn panics");
+            let turn = *next;
+            *next = match turn.0 + 1 < parts.len() {
+                true => (turn.0 + 1, turn.1),
+                false => (0, turn.1 + 1),
+            };
+            (parts[turn.0], turn.1)
+        };
+        let mut tally = Tally {
+            end: Some(end),
+            ..Tally::default()
+        };
+        part.1(&mut tally, &mut Rng::new(seed), scale);
+        let (compared, differ) = tally.sums();
+        let name = part.0;
+        println!("--seed {seed} --scale {scale} {name}: {compared} compared, {differ} differ");
+        sum.lock().expect("no turn panics").add(tally);
+    }
+}
+
+/// The parts again and again for so many seconds, on all cores.
+fn soak(options: &Options, seconds: u64) -> Tally {
+    let parts: Vec<&Part> = match options.parts.is_empty() {
+        true => ALL[1..].iter().collect(),
+        false => options.parts.clone(),
+    };
+    let seed = options.seed.unwrap_or_else(fresh);
+    let scale = options.scale.unwrap_or(SOAK_SCALE);
+    let cores = std::thread::available_parallelism().map_or(1, usize::from);
+    println!("soak of {seconds} s on {cores} cores, from seed {seed} on");
+    let end = Instant::now() + Duration::from_secs(seconds);
+    let (next, sum) = (Mutex::new((0, seed)), Mutex::new(Tally::default()));
+    std::thread::scope(|scope| {
+        for _ in 0..cores {
+            scope.spawn(|| soak_turns(&parts, scale, end, &next, &sum));
+        }
+    });
+    sum.into_inner().expect("no turn panics")
+}
+
+/// Each part once, or those that are named.
+fn once(options: &Options) -> Tally {
+    let (seed, scale) = (options.seed.unwrap_or(1), options.scale.unwrap_or(1));
+    println!("seed {seed}");
+    let (mut tally, mut rng) = (Tally::default(), Rng::new(seed));
+    let all: Vec<&Part> = ALL.iter().collect();
+    let parts = match options.parts.is_empty() {
+        true => &all,
+        false => &options.parts,
+    };
+    for part in parts {
+        part.1(&mut tally, &mut rng, scale);
+    }
+    tally
 }
 
 fn main() -> ExitCode {
-    let Some((seed, scale)) = options() else {
-        eprintln!("usage: compare [--seed N] [--scale K]");
+    let Some(options) = options() else {
+        let names: Vec<&str> = ALL.iter().map(|part| part.0).collect();
+        let names = names.join(" ");
+        eprintln!(
+            "usage: compare [--seed N] [--scale K] [--soak SECONDS] [PART..]\nparts: {names}"
+        );
         return ExitCode::from(2);
     };
-    let mut tally = Tally::default();
-    let mut rng = Rng::new(seed);
-    samples(&mut tally);
-    reals_and_labels(&mut tally, &mut rng, scale);
-    builds(&mut tally, &mut rng, scale);
-    models(&mut tally, &mut rng, scale);
-    networks(&mut tally, &mut rng, scale);
-    relations(&mut tally, &mut rng, scale);
-    cards(&mut tally, &mut rng, scale);
-    transports(&mut tally, &mut rng, scale);
-    chains(&mut tally, &mut rng, scale);
-    distances(&mut tally, &mut rng, scale);
-    let entries = ROWS.iter().chain(PARTS);
-    let low = entries.filter(|row| tally.report(row.0, row.1)).count();
-    let compared: u64 = tally.entries.values().map(|e| e.compared).sum();
-    let differ: u64 = tally.entries.values().map(|e| e.differ).sum();
+    let tally = match options.soak {
+        Some(seconds) => soak(&options, seconds),
+        None => once(&options),
+    };
+    let whole = options.soak.is_none() && options.parts.is_empty();
+    let met = |row: &&(&str, &[u32])| whole || tally.entries.contains_key(row.0);
+    let entries = ROWS.iter().chain(PARTS).filter(met);
+    let low = entries
+        .filter(|row| tally.report(row.0, row.1, whole))
+        .count();
+    let (compared, differ) = tally.sums();
     println!("{compared} compared, {differ} differ");
     ExitCode::from(u8::from(low > 0 || differ > 0))
 }
