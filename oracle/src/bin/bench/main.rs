@@ -1,4 +1,5 @@
-//! Times the Rust and the static library on the same inputs, in turn; `bench [NAME..]` selects cases by prefix.
+//! Times the Rust and the static library on the same inputs, in turn; `bench [--runs N] [--write] [NAME..]` selects cases by
+//! prefix, runs them N times, and writes docs/BENCH.md and docs/bench.svg of the medians.
 //!
 //! Prints `NAME rust_ns A ours_ns B ratio A/B`, medians over the samples. The Rust side is a new builder, each
 //! transition added, `build` and the release of the model. Our side is `build` into stores that are allocated once and
@@ -9,10 +10,13 @@ mod card;
 mod chain;
 mod distance;
 mod flow;
+mod plot;
 mod relation;
+mod table;
 mod transport;
 
 use std::hint::black_box;
+use std::process::ExitCode;
 use std::time::Instant;
 
 use oracle::answers::built;
@@ -114,13 +118,11 @@ fn measure(name: &str, args: &BuildArgs) {
 fn print(name: &str, rust: u128, ours: u128) {
     let ratio = rust as f64 / ours.max(1) as f64;
     println!("{name} rust_ns {rust} ours_ns {ours} ratio {ratio:.2}");
+    table::record(name, rust, ours);
 }
 
-fn main() {
-    let names: Vec<String> = std::env::args().skip(1).collect();
-    let chosen = |name: &str| {
-        names.is_empty() || names.iter().any(|prefix| name.starts_with(prefix.as_str()))
-    };
+/// Each chosen case once.
+fn run(chosen: &dyn Fn(&str) -> bool) {
     for (name, args) in cases().iter().filter(|case| chosen(case.0)) {
         measure(name, args);
     }
@@ -128,6 +130,9 @@ fn main() {
         flow::measure(name, test);
     }
     for (name, case) in relation::cases().iter().filter(|case| chosen(&case.0)) {
+        relation::measure(name, case);
+    }
+    for (name, case) in relation::growth().iter().filter(|case| chosen(&case.0)) {
         relation::measure(name, case);
     }
     for (name, case) in card::cases().iter().filter(|case| chosen(case.0)) {
@@ -148,5 +153,42 @@ fn main() {
     let models = distance::model_pairs();
     for (name, case) in models.iter().filter(|case| chosen(case.0)) {
         distance::measure_bisim(name, case);
+    }
+}
+
+/// How many runs, whether to write, and prefixes of names.
+fn options() -> Option<(usize, bool, Vec<String>)> {
+    let (mut runs, mut write, mut names) = (1, false, Vec::new());
+    let mut words = std::env::args().skip(1);
+    while let Some(word) = words.next() {
+        match word.as_str() {
+            "--runs" => runs = words.next()?.parse().ok().filter(|&runs| runs > 0)?,
+            "--write" => write = true,
+            _ if word.starts_with('-') => return None,
+            _ => names.push(word),
+        }
+    }
+    Some((runs, write, names))
+}
+
+fn main() -> ExitCode {
+    let Some((runs, write, names)) = options() else {
+        eprintln!("usage: bench [--runs N] [--write] [NAME..]");
+        return ExitCode::from(2);
+    };
+    let load = table::load();
+    let chosen = |name: &str| {
+        names.is_empty() || names.iter().any(|prefix| name.starts_with(prefix.as_str()))
+    };
+    (0..runs).for_each(|_| run(&chosen));
+    if !write {
+        return ExitCode::SUCCESS;
+    }
+    match table::write(runs, &load) {
+        Ok(()) => ExitCode::SUCCESS,
+        Err(e) => {
+            eprintln!("not written: {e}");
+            ExitCode::from(2)
+        }
     }
 }

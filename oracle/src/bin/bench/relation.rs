@@ -117,6 +117,22 @@ pub fn cases() -> Vec<(String, RelationArgs)> {
     list
 }
 
+/// Queues of more and more states, by degree and the states of both models together.
+pub fn growth() -> Vec<(String, RelationArgs)> {
+    let sides: [(usize, &[usize]); 2] = [
+        (3, &[10, 25, 50, 100, 200, 400, 700, 1_000]),
+        (12, &[25, 50, 100, 200, 300]),
+    ];
+    let mut list = Vec::new();
+    for (degree, sides) in sides {
+        for &states in sides {
+            let name = format!("growth_{degree}_{}", 2 * states);
+            list.push((name, case(false, states, degree, false)));
+        }
+    }
+    list
+}
+
 pub fn measure(name: &str, case: &RelationArgs) {
     let (left, right) = models(case);
     let (left_class, right_class) = (class(&case.left_classes), class(&case.right_classes));
