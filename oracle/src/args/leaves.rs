@@ -8,6 +8,9 @@ use super::{
     Rooms, RowsArgs, RunArgs, TransportArgs, UniformiseArgs,
 };
 
+use crate::generate::network::list_links;
+use crate::network::LINKS;
+
 /// A place of an input.
 #[derive(Debug)]
 pub enum Leaf<'a> {
@@ -348,6 +351,26 @@ impl NetworkArgs {
         move_up(&mut n.heads, u);
         n
     }
+
+    /// Node u is made one with the node before it; links between the two are left out, and the node lists made anew.
+    fn merged(&self, u: usize) -> Option<Self> {
+        if self.count > LINKS || self.count % 2 == 1 || self.nodes > LINKS {
+            return None;
+        }
+        let mut n = self.clone();
+        n.heads.resize(n.count, 0);
+        n.caps.resize(n.count, 0.0);
+        n.costs.resize(n.count, 0.0);
+        merge(&mut n.heads, u);
+        n.nodes -= 1;
+        for k in (0..n.pairs()).rev() {
+            if n.heads[2 * k] == n.heads[2 * k + 1] {
+                n = n.without(k, k + 1);
+            }
+        }
+        list_links(&mut n);
+        Some(n)
+    }
 }
 
 /// The number of a node after node u is gone.
@@ -482,6 +505,14 @@ impl Leaves for FlowArgs {
             sink: moved_up(self.sink, u),
         }
     }
+
+    fn merged(&self, u: usize) -> Option<Self> {
+        Some(Self {
+            network: self.network.merged(u)?,
+            source: moved_up(self.source, u - 1),
+            sink: moved_up(self.sink, u - 1),
+        })
+    }
 }
 
 impl Leaves for EdgeArgs {
@@ -505,6 +536,15 @@ impl Leaves for EdgeArgs {
             to: moved_up(self.to, u),
             ..*self
         }
+    }
+
+    fn merged(&self, u: usize) -> Option<Self> {
+        Some(Self {
+            network: self.network.merged(u)?,
+            from: moved_up(self.from, u - 1),
+            to: moved_up(self.to, u - 1),
+            ..*self
+        })
     }
 }
 
@@ -546,6 +586,10 @@ impl Leaves for RowsArgs {
 
     fn without_state(&self, u: usize) -> Self {
         Self(self.0.without_state(u))
+    }
+
+    fn merged(&self, u: usize) -> Option<Self> {
+        self.0.merged(u).map(Self)
     }
 }
 
@@ -868,37 +912,73 @@ impl Leaves for RelatedArgs {
 const HEAD: usize = 3;
 const COLUMN: usize = 6;
 
+impl CardArgs {
+    fn with(&self, card: Vec<u8>) -> Self {
+        let out = self.out.clone();
+        Self { card, out }
+    }
+
+    /// Without a line, and with one less in a column of a line of three columns, so that what is counted there is fewer;
+    /// none past the last such way.
+    fn without_line(&self, k: usize) -> Result<Self, usize> {
+        let lines = self.card.split_inclusive(|&b| b == b'\n');
+        let mut lines: Vec<Vec<u8>> = lines.map(Vec::from).collect();
+        let long = |line: &Vec<u8>| line.len() == HEAD * COLUMN + 1;
+        let heads = (0..lines.len()).filter(|&i| long(&lines[i])).take(2);
+        let heads: Vec<usize> = heads.collect();
+        let ways = 1 + HEAD * heads.len();
+        let (line, way) = (k / ways, k % ways);
+        if line >= lines.len() {
+            return Err(k - ways * lines.len());
+        }
+        if way > 0 {
+            let (head, column) = (heads[(way - 1) / HEAD], (way - 1) % HEAD);
+            let column = &mut lines[head][column * COLUMN..(column + 1) * COLUMN];
+            let less = number(column).unwrap_or(0).saturating_sub(1);
+            column.copy_from_slice(format!("{less:>6}").as_bytes());
+        }
+        lines.remove(line);
+        Ok(self.with(lines.concat()))
+    }
+
+    /// The columns that hold a number, with smaller ones.
+    fn smaller(&self) -> Vec<(usize, usize)> {
+        let mut list = Vec::new();
+        let mut at = 0;
+        while at + COLUMN <= self.card.len() {
+            if self.card[at] == b'\n' {
+                at += 1;
+                continue;
+            }
+            if let Some(n) = number(&self.card[at..at + COLUMN]) {
+                let fewer = [0, n / 2, n.saturating_sub(1)];
+                list.extend(fewer.into_iter().filter(|&m| m < n).map(|m| (at, m)));
+            }
+            at += COLUMN;
+        }
+        list
+    }
+}
+
+/// The number in a column.
+fn number(column: &[u8]) -> Option<usize> {
+    str::from_utf8(column).ok()?.trim().parse().ok()
+}
+
 impl Leaves for CardArgs {
     fn leaves(&mut self) -> Vec<Leaf<'_>> {
         vec![Leaf::Bytes(&mut self.card), Leaf::LentBytes(&mut self.out)]
     }
 
-    /// Without a line, and with one less in a column of a line of three columns, so that what is counted there is fewer.
+    /// A line less, or a smaller number.
     fn other(&self, k: usize) -> Option<Self> {
-        let mut lines: Vec<Vec<u8>> = self
-            .card
-            .split_inclusive(|&b| b == b'\n')
-            .map(Vec::from)
-            .collect();
-        let long = |line: &&mut Vec<u8>| line.len() == HEAD * COLUMN + 1;
-        let heads = lines.iter_mut().filter(long).count().min(2);
-        let ways = 1 + HEAD * heads;
-        let (line, way) = (k / ways, k % ways);
-        if line >= lines.len() {
-            return None;
-        }
-        if way > 0 {
-            let (head, column) = ((way - 1) / HEAD, (way - 1) % HEAD);
-            let head = lines.iter_mut().filter(long).nth(head)?;
-            let column = &mut head[column * COLUMN..(column + 1) * COLUMN];
-            let text = String::from_utf8_lossy(column).trim().to_string();
-            let less = text.parse::<usize>().unwrap_or(0).saturating_sub(1);
-            column.copy_from_slice(format!("{less:>6}").as_bytes());
-        }
-        lines.remove(line);
-        Some(Self {
-            card: lines.concat(),
-            out: self.out.clone(),
-        })
+        let k = match self.without_line(k) {
+            Ok(card) => return Some(card),
+            Err(k) => k,
+        };
+        let (at, n) = *self.smaller().get(k)?;
+        let mut card = self.card.clone();
+        card[at..at + COLUMN].copy_from_slice(format!("{n:>6}").as_bytes());
+        Some(self.with(card))
     }
 }

@@ -5,6 +5,7 @@
 //! parts, without `--soak`), 2 on bad usage.
 
 use std::collections::BTreeMap;
+use std::panic::{AssertUnwindSafe, catch_unwind, resume_unwind};
 use std::process::ExitCode;
 use std::sync::Mutex;
 use std::time::{Duration, Instant, SystemTime};
@@ -58,7 +59,7 @@ fn add_counts(counts: &mut BTreeMap<u32, u64>, other: BTreeMap<u32, u64>) {
 #[derive(Default)]
 struct Tally {
     entries: BTreeMap<&'static str, Entry>,
-    /// No input is compared after this.
+    /// The turn ends with the first input after this.
     end: Option<Instant>,
 }
 
@@ -108,7 +109,7 @@ impl Tally {
 
     fn check<C: Ours + Leaves>(&mut self, case: &C) {
         if self.end.is_some_and(|end| Instant::now() > end) {
-            return;
+            resume_unwind(Box::new(Over));
         }
         let (oracle, ours) = (case.oracle(), case.ours());
         for (expected, got) in paired(&oracle, &ours) {
@@ -301,8 +302,11 @@ const ALL: &[Part] = &[
 ];
 
 /// How many times the usual number of random inputs a turn of the soak has, so that the short inputs, which are the same in
-/// every turn, are few.
-const SOAK_SCALE: usize = 4;
+/// every turn, are fewer.
+const SOAK_SCALE: usize = 2;
+
+/// Ends a turn of the soak when the time is over.
+struct Over;
 
 struct Options {
     seed: Option<u64>,
@@ -358,7 +362,12 @@ fn soak_turns(
             end: Some(end),
             ..Tally::default()
         };
-        part.1(&mut tally, &mut Rng::new(seed), scale);
+        let turn = || part.1(&mut tally, &mut Rng::new(seed), scale);
+        if let Err(e) = catch_unwind(AssertUnwindSafe(turn))
+            && !e.is::<Over>()
+        {
+            resume_unwind(e);
+        }
         let (compared, differ) = tally.sums();
         let name = part.0;
         println!("--seed {seed} --scale {scale} {name}: {compared} compared, {differ} differ");
