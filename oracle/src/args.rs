@@ -447,9 +447,9 @@ impl NetworkArgs {
         ]
     }
 
-    /// Added links that are listed.
+    /// Added links that are listed, with a cost or without.
     fn pairs(&self) -> usize {
-        let listed = [self.heads.len(), self.caps.len(), self.costs.len()];
+        let listed = [self.heads.len(), self.caps.len()];
         listed.into_iter().fold(self.count, usize::min) / 2
     }
 

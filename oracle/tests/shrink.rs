@@ -137,7 +137,7 @@ fn a_flow_in_two_pushes() {
     let wrong = |_: &oracle::args::FlowArgs, fields: &[Field]| matches!(&fields[0].value, Value::Answer(0, v) if matches!(v[2], Value::Number(2..)));
     let case = first(network::good, &wrong);
     let a = smallest(&case, &wrong);
-    assert!(a.network.nodes <= 3 && a.network.count <= 10, "{a:?}");
+    assert!(a.network.nodes <= 3 && a.network.count <= 8, "{a:?}");
 }
 
 #[test]
