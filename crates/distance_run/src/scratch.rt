@@ -16,10 +16,10 @@ pub fn clear_states(list: &mut [u32])
 fn clear_codes(list: &mut [u64])
     ensures { λ r. ⌜ now (list .exit) ≡ zeros (now (list .entry)) ⌝ }
 {
-    let mut k = 0;
-    while k < list.len() {
-        list[k] = 0;
-        k += 1;
+    let mut i = 0;
+    while i < list.len() {
+        list[i] = 0;
+        i += 1;
     }
 }
 
@@ -27,10 +27,10 @@ fn clear_codes(list: &mut [u64])
 pub fn clear_masses(list: &mut [f64])
     ensures { λ r. ⌜ now (list .exit) ≡ noughts (now (list .entry)) ⌝ }
 {
-    let mut k = 0;
-    while k < list.len() {
-        list[k] = 0.0;
-        k += 1;
+    let mut j = 0;
+    while j < list.len() {
+        list[j] = 0.0;
+        j += 1;
     }
 }
 

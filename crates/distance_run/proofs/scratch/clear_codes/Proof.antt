@@ -21,8 +21,8 @@ mul-list c = let h = c .loop-test .taken in omega arith
 slice-write-list : tie.Need-slice-write-list Inv-loop μ-loop
 slice-write-list c = let h = c .loop-test .taken in omega arith
 
-add-k : tie.Need-add-k Inv-loop μ-loop
-add-k c = let h = c .loop-test .taken in let b = c .before .loop .inv .left in let e = c .before .loop .inv .size in omega arith
+add-i : tie.Need-add-i Inv-loop μ-loop
+add-i c = let h = c .loop-test .taken in let b = c .before .loop .inv .left in let e = c .before .loop .inv .size in omega arith
 
 loop-less : tie.Need-loop-less Inv-loop μ-loop
 loop-less c = let h = c .loop-test .taken in let e = c .before .loop .inv .size in omega arith
@@ -45,7 +45,7 @@ clear-codes-spec =
     loop-holds
     mul-list
     slice-write-list
-    add-k
+    add-i
     loop-less
     loop-again
     same-length

@@ -23,8 +23,8 @@ mul-list c = let h = c .loop-test .taken in omega arith
 slice-write-list : tie.Need-slice-write-list Inv-loop μ-loop
 slice-write-list c = let h = c .loop-test .taken in omega arith
 
-add-k : tie.Need-add-k Inv-loop μ-loop
-add-k c = let h = c .loop-test .taken in let b = c .before .loop .inv .left in let e = c .before .loop .inv .size in omega arith
+add-j : tie.Need-add-j Inv-loop μ-loop
+add-j c = let h = c .loop-test .taken in let b = c .before .loop .inv .left in let e = c .before .loop .inv .size in omega arith
 
 loop-less : tie.Need-loop-less Inv-loop μ-loop
 loop-less c = let h = c .loop-test .taken in let e = c .before .loop .inv .size in omega arith
@@ -47,7 +47,7 @@ clear-masses-spec =
     loop-holds
     mul-list
     slice-write-list
-    add-k
+    add-j
     loop-less
     loop-again
     same-length
