@@ -12,9 +12,9 @@ use Rattle.distance_values.specs.Outcome.{Occupied, occupied, visited}
 use Rattle.distance_contributions.specs.Outcome.{listedOf}
 use Rattle.distance_contributions.specs.declared.listing.Listed.{Listed}
 use Rattle.distance_run.specs.Account.{accountOf}
-use Rattle.distance_run.specs.declared.account.Accounted.{Accounted}
+use Rattle.distance_run.specs.declared.told.Accounted.{Accounted}
 
-abbrev accounted : Float → Listed → Accounted
+abbrev pub accounted : Float → Listed → Accounted
 accounted m x = record { mass = m; listed = x }
 
 pub accounts : (n : ℕ) (l r : List ℕ) (u w : List Float) (S L P : List ℕ) (M : List Float) (γ : Float) (o : MetricOptions) {d : Bool} {m : Float} {s : List Float} {x : Listed}

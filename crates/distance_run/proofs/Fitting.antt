@@ -1,5 +1,5 @@
 -- The tests of whether two chains can be run, each made where those before it passed.
-use mathlib.Core.Path.{_≡_, refl, sym, ap, _∙_}
+use mathlib.Core.Path.{_≡_, refl, sym, ap, ap₂, _∙_}
 use Prim.Native.Nat.{ℕ, _≤_, _<_}
 use mathlib.Core.Bool.{Bool, true, false, not, _&&_}
 use lib.Dec.{leb}
@@ -32,23 +32,28 @@ module _ (H : ChainShape) (C : ChainColumns) where
       pub fits-seen : not s ≡ false → leb (H .states) (length (C .observations)) ≡ fits H C
       fits-seen k = shaped-on (and-second _ _ _ (sym f ∙ not-false s k) refl)
 
-module _ (HL : ChainShape) (CL : ChainColumns) (HR : ChainShape) (CR : ChainColumns) (top l r c : ℕ) {b : Bool} (e : b ≡ fits HL CL) where
+-- chains that fit or do not, x and y
+module _ (x y : Bool) (top l r c : ℕ) where
   abbrev able : Bool
-  able = runnable HL CL HR CR top l r c
+  able = x && (y && (leb top 64 && roomy l r c))
 
-  pub left-unfit : not b ≡ true → false ≡ able
-  left-unfit h = stops _ _ (sym e ∙ not-true b h)
+  pub left-unfit : not x ≡ true → false ≡ able
+  left-unfit h = stops _ _ (not-true x h)
 
-  module _ (h : not b ≡ false) {d : Bool} (f : d ≡ fits HR CR) where
-    left-on : {t : Bool} → t ≡ (fits HR CR && (leb top 64 && roomy l r c)) → t ≡ able
-    left-on = and-second _ _ _ (sym e ∙ not-false b h)
+  module _ (h : not x ≡ false) where
+    left-on : {t : Bool} → t ≡ (y && (leb top 64 && roomy l r c)) → t ≡ able
+    left-on = and-second _ _ _ (not-false x h)
 
-    pub right-unfit : not d ≡ true → false ≡ able
-    right-unfit k = left-on (stops _ _ (sym f ∙ not-true d k))
+    pub right-unfit : not y ≡ true → false ≡ able
+    right-unfit k = left-on (stops _ _ (not-true y k))
 
-    module _ (k : not d ≡ false) where
+    module _ (k : not y ≡ false) where
       pub over-asked : 64 < top → false ≡ able
-      over-asked m = left-on (and-second _ _ _ (sym f ∙ not-false d k) (stops _ _ (lt-leb top 64 m)))
+      over-asked m = left-on (and-second _ _ _ (not-false y k) (stops _ _ (lt-leb top 64 m)))
 
       pub with-room : top ≤ 64 → {t : Bool} → t ≡ roomy l r c → t ≡ able
-      with-room m g = left-on (and-second _ _ _ (sym f ∙ not-false d k) (and-second _ _ _ (le-leb top 64 m) g))
+      with-room m g = left-on (and-second _ _ _ (not-false y k) (and-second _ _ _ (le-leb top 64 m) g))
+
+pub both-fit : (HL : ChainShape) (CL : ChainColumns) (HR : ChainShape) (CR : ChainColumns) (top l r c : ℕ) {x y b : Bool}
+    → x ≡ fits HL CL → y ≡ fits HR CR → b ≡ (x && (y && (leb top 64 && roomy l r c))) → b ≡ runnable HL CL HR CR top l r c
+both-fit HL CL HR CR top l r c e f g = g ∙ ap₂ (λ (x y : Bool). x && (y && (leb top 64 && roomy l r c))) e f

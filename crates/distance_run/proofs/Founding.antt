@@ -13,12 +13,16 @@ use Rattle.numbers.specs.Real.{nought, eps}
 use Rattle.chain_theory.specs.Columns.{ChainColumns}
 use Rattle.distance_theory.specs.Pairs.{most}
 use Rattle.distance_theory.specs.declared.MetricOptions.{MetricOptions}
+use Rattle.distance_values.specs.Outcome.{occupied, visited}
+use Rattle.distance_contributions.specs.Outcome.{listedOf}
+use Rattle.distance_contributions.specs.declared.listing.Listed.{Listed}
 use Rattle.distance_costs.specs.Costs.{Priced, priced, pricing}
 use Rattle.distance_run.specs.Account.{accountOf}
 use Rattle.distance_run.specs.Solve.{Solving, solving, solveOf}
 use Rattle.distance_run.specs.Told.{refusedWith, tellIf, tellOf, goOn, foundFrom, foundIf, foundOf}
-use Rattle.distance_run.specs.declared.account.Accounted.{Accounted}
+use Rattle.distance_run.specs.declared.told.Accounted.{Accounted}
 use Rattle.distance_run.specs.declared.told.Told.{Told}
+use Rattle.distance_run.proofs.Accounts.{accounted, accounts}
 
 -- ---- what is told
 
@@ -64,5 +68,7 @@ module _ (n : ℕ) (lefts rights codes : List ℕ) (C D : ChainColumns) (u w : L
     pub found-refused : (r ≡ 0 → ⊥) → {t : Told} → t ≡ refusedWith r → t ≡ whole
     found-refused z g = g ∙ stops r (tellOf n value γ x k account) z ∙ comes
 
-    pub found-told : r ≡ 0 → {a : Accounted} → a ≡ account → {t : Told} → t ≡ tellOf n value γ x k a → t ≡ whole
-    found-told z q g = g ∙ ap (tellOf n value γ x k) q ∙ ap (λ (i : ℕ). goOn i (tellOf n value γ x k account)) (sym z) ∙ comes
+    pub found-told : r ≡ 0 → {z : Bool} {q : Float} {y : List Float} → occupied z q y ≡ visited s l p' m' γ (replicate most nought) n → {i : Listed} → i ≡ listedOf n lefts rights u w y o
+        → {t : Told} → t ≡ tellOf n value γ x k (accounted q i) → t ≡ whole
+    found-told j e₁ e₂ g =
+        g ∙ ap (tellOf n value γ x k) (accounts n lefts rights u w s l p' m' γ o e₁ e₂) ∙ ap (λ (i : ℕ). goOn i (tellOf n value γ x k account)) (sym j) ∙ comes

@@ -40,7 +40,7 @@ use Rattle.distance_contributions.specs.Outcome.{listing, listedOf}
 use Rattle.distance_contributions.specs.declared.listing.Listed.{Listed}
 use Rattle.distance_run.specs.Account.{accountOf}
 use Rattle.distance_run.specs.Solve.{Solving, solving, uneven, aimOf, fineOf, solveIf, solveFrom}
-use Rattle.distance_run.specs.declared.account.Accounted.{Accounted}
+use Rattle.distance_run.specs.declared.told.Accounted.{Accounted}
 use Rattle.distance_run.specs.declared.told.Told.{Told}
 use Rattle.distance_run.specs.Told.{tellIf, tellOf, foundFrom, toldOf}
 use Rattle.distance_run.proofs.Ways.{timeIn, runOf, way-18, way-16, way-19, way-0}

@@ -8,7 +8,7 @@ use Rattle.distance_theory.specs.Pairs.{most}
 use Rattle.distance_theory.specs.declared.MetricOptions.{MetricOptions}
 use Rattle.distance_values.specs.Outcome.{Occupied, visited}
 use Rattle.distance_contributions.specs.Outcome.{listedOf}
-use Rattle.distance_run.specs.declared.account.Accounted.{Accounted}
+use Rattle.distance_run.specs.declared.told.Accounted.{Accounted}
 
 -- n pairs by lists of their states, the observations, and the store
 abbrev pub accountOf : ℕ → List ℕ → List ℕ → List Float → List Float → List ℕ → List ℕ → List ℕ → List Float → Float → MetricOptions → Accounted

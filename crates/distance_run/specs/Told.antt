@@ -15,7 +15,7 @@ use Rattle.distance_costs.specs.Costs.{Priced, pricing}
 use Rattle.distance_contributions.specs.Outcome.{row}
 use Rattle.distance_run.specs.Account.{accountOf}
 use Rattle.distance_run.specs.Solve.{Solving, solveOf}
-use Rattle.distance_run.specs.declared.account.Accounted.{Accounted}
+use Rattle.distance_run.specs.declared.told.Accounted.{Accounted}
 use Rattle.distance_run.specs.declared.told.Told.{Told}
 
 -- zeros behind the number

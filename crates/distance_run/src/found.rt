@@ -1,11 +1,13 @@
 // A run of pairs that were found.
-use crate::account::account;
 use crate::solve::solve;
+use crate::told::Accounted;
 use crate::told::Told;
 use crate::told::refused;
 use crate::told::tell;
+use distance_contributions::listing::contributions;
 use distance_costs::price;
 use distance_theory::MetricOptions;
+use distance_values::visits::occupancy;
 ghost use mathlib.Core.Path.{_≡_};
 ghost use mathlib.Core.List.{[]};
 ghost use Rattle.chain_theory.specs.Columns.{chainColumns};
@@ -39,6 +41,7 @@ pub(crate) fn run_found(
     let mut lengths = [0u32; 4096];
     let mut cost = [0.0f64; 4096];
     let mut values = [0.0f64; 4096];
+    let mut spent = [0.0f64; 4096];
     price(n, lefts, rights, left_seen, right_seen, gamma, &mut cost);
     let solved = solve(
         n,
@@ -63,18 +66,9 @@ pub(crate) fn run_found(
     if solved.refusal != 0 {
         return refused(solved.refusal);
     }
-    let account = account(
-        n,
-        lefts,
-        rights,
-        left_seen,
-        right_seen,
-        &starts,
-        &lengths,
-        places,
-        masses,
-        gamma,
-        options,
-    );
+    let left = occupancy(n, &starts, &lengths, places, masses, gamma, &mut spent);
+    let mass = left.mass;
+    let listed = contributions(n, lefts, rights, left_seen, right_seen, &spent, options);
+    let account = Accounted { mass, listed };
     tell(n, values[0], gamma, solved.residual, solved.rounds, account)
 }

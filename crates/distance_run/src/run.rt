@@ -9,7 +9,7 @@ use distance_pairs::explore::explore;
 use distance_theory::MetricOptions;
 use numbers::lesser;
 ghost use mathlib.Core.Path.{_≡_};
-ghost use mathlib.Core.Bool.{true};
+ghost use mathlib.Core.Bool.{true, _&&_};
 ghost use Prim.Native.Nat.{_+_, _<_, min};
 ghost use lib.Dec.{leb};
 ghost use lib.ListN.{length, getD};
@@ -71,29 +71,14 @@ fn roomy(lefts: usize, rights: usize, codes: usize) -> bool
     false
 }
 
-// Whether two chains, with lists of pairs of these lengths, can be run.
-fn runnable(
-    left: ChainShape,
-    left_offsets: &[u32],
-    left_targets: &[u32],
-    left_probs: &[f64],
-    left_seen: &[f64],
-    right: ChainShape,
-    right_offsets: &[u32],
-    right_targets: &[u32],
-    right_probs: &[f64],
-    right_seen: &[f64],
-    top: usize,
-    lefts: usize,
-    rights: usize,
-    codes: usize,
-) -> bool
-    ensures { λ r. ⌜ r ≡ Run.runnable left (chainColumns (now («left_offsets» .entry)) (now («left_targets» .entry)) (now («left_probs» .entry)) (now («left_seen» .entry))) right (chainColumns (now («right_offsets» .entry)) (now («right_targets» .entry)) (now («right_probs» .entry)) (now («right_seen» .entry))) top lefts rights codes ⌝ }
+// Whether chains that fit or do not, with lists of pairs of these lengths, can be run.
+fn runnable(left: bool, right: bool, top: usize, lefts: usize, rights: usize, codes: usize) -> bool
+    ensures { λ r. ⌜ r ≡ (left && (right && (leb top 64 && Run.roomy lefts rights codes))) ⌝ }
 {
-    if !fits(left, left_offsets, left_targets, left_probs, left_seen) {
+    if !left {
         return false;
     }
-    if !fits(right, right_offsets, right_targets, right_probs, right_seen) {
+    if !right {
         return false;
     }
     if top > 64 {
@@ -183,23 +168,15 @@ pub fn run(
 ) -> Told
     ensures { λ r. ⌜ ranAs r (now (lefts .exit)) (now (rights .exit)) (now (codes .exit)) (now (places .exit)) (now (masses .exit)) ≡ ranOf left (chainColumns (now («left_offsets» .entry)) (now («left_targets» .entry)) (now («left_probs» .entry)) (now («left_seen» .entry))) right (chainColumns (now («right_offsets» .entry)) (now («right_targets» .entry)) (now («right_probs» .entry)) (now («right_seen» .entry))) gamma options (now (lefts .entry)) (now (rights .entry)) (now (codes .entry)) (now (places .entry)) (now (masses .entry)) ⌝ }
 {
-    let top = options.top;
-    if !runnable(
-        left,
-        left_offsets,
-        left_targets,
-        left_probs,
-        left_seen,
-        right,
-        right_offsets,
-        right_targets,
-        right_probs,
-        right_seen,
-        top,
+    let able = runnable(
+        fits(left, left_offsets, left_targets, left_probs, left_seen),
+        fits(right, right_offsets, right_targets, right_probs, right_seen),
+        options.top,
         lefts.len(),
         rights.len(),
         codes.len(),
-    ) {
+    );
+    if !able {
         return refused(4);
     }
     let told = run_pairs(

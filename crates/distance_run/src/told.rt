@@ -1,12 +1,18 @@
 // What a run answers.
-use crate::account::Accounted;
 use bisim_core::ids::StateId;
+use distance_contributions::listing::Listed;
 use distance_theory::Distance;
 use distance_theory::PairContribution;
 use numbers::EPS;
 use numbers::ONE;
 ghost use mathlib.Core.Path.{_≡_};
 ghost use Rattle.distance_run.specs.Told.{refusedWith, tellOf};
+
+// How the distance arises: the mass that is left in `occupancy`, and the contributions.
+pub struct Accounted {
+    pub mass: f64,
+    pub listed: Listed,
+}
 
 // The number of the refusal, 0 if there is none, the distance, and 64 records, the contributions first. A refusal has zeros behind its number.
 pub struct Told {

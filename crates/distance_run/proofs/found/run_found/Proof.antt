@@ -53,14 +53,23 @@ returns-2 c =
     let a = c .before .before .before .before .before .before .before .before .before .before .before .before .before .before .before .before .before .before .before .before .before .before .before .before .before .before .before .before .before .before .before .before .before .before .args in
     found-refused (a .n) (a .lefts .now) (a .rights .now) (a .codes .now) (chainColumns (a .left-offsets .now) (a .left-targets .now) (a .left-probs .now) []) (chainColumns (a .right-offsets .now) (a .right-targets .now) (a .right-probs .now) []) (a .left-seen .now) (a .right-seen .now) (a .gamma) (a .options) (a .places .now) (a .masses .now) (c .before .before .before .before .before .before .before .before .before .before .before .before .before .before .before .before .before .before .before .before .if1 .left) (c .before .before .before .before .before .before .before .before .before .before .before .before .before .before .before .before .before .before .price .ensures) (c .before .before .before .before .before .before .before .before .before .before .solve .ensures) (c .before .if2 .taken) (c .refused2 .ensures)
 
-slice-aggregate-account : tie.Need-slice-aggregate-account
-slice-aggregate-account c = search needs
+slice-aggregate-occupancy : tie.Need-slice-aggregate-occupancy
+slice-aggregate-occupancy c = search needs
 
-slice-aggregate-account-2 : tie.Need-slice-aggregate-account-2
-slice-aggregate-account-2 c = search needs
+slice-aggregate-occupancy-2 : tie.Need-slice-aggregate-occupancy-2
+slice-aggregate-occupancy-2 c = search needs
 
-account-requires : tie.Need-account-requires
-account-requires c κs = search needs
+slice-aggregate-occupancy-3 : tie.Need-slice-aggregate-occupancy-3
+slice-aggregate-occupancy-3 c = search needs
+
+occupancy-requires : tie.Need-occupancy-requires
+occupancy-requires c κs = search needs
+
+slice-aggregate-contributions : tie.Need-slice-aggregate-contributions
+slice-aggregate-contributions c = search needs
+
+contributions-requires : tie.Need-contributions-requires
+contributions-requires c κs = search needs
 
 array-read-tell : tie.Need-array-read-tell
 array-read-tell c = search needs
@@ -69,15 +78,15 @@ tell-requires : tie.Need-tell-requires
 tell-requires c κs = search needs
 
 same-length-3 : tie.Need-same-length-3
-same-length-3 c = search needs
+same-length-3 c = c .before .before .before .before .before .before .before .before .before .before .before .before .before .before .before .before .before .before .before .solve .kept .1 .1 .1 .1 .1 .1 .1 .1 .1 .1 .1 .1 .1 .1 .1 .0
 
 same-length-4 : tie.Need-same-length-4
-same-length-4 c = search needs
+same-length-4 c = c .before .before .before .before .before .before .before .before .before .before .before .before .before .before .before .before .before .before .before .solve .kept .1 .1 .1 .1 .1 .1 .1 .1 .1 .1 .1 .1 .1 .1 .1 .1 .0
 
 returns-3 : tie.Need-returns-3
 returns-3 c =
-    let a = c .before .before .before .before .before .before .before .before .before .before .before .before .before .before .before .before .before .before .before .before .before .before .before .before .before .before .before .before .before .before .before .before .before .before .before .before .before .before .before .args in
-    found-told (a .n) (a .lefts .now) (a .rights .now) (a .codes .now) (chainColumns (a .left-offsets .now) (a .left-targets .now) (a .left-probs .now) []) (chainColumns (a .right-offsets .now) (a .right-targets .now) (a .right-probs .now) []) (a .left-seen .now) (a .right-seen .now) (a .gamma) (a .options) (a .places .now) (a .masses .now) (c .before .before .before .before .before .before .before .before .before .before .before .before .before .before .before .before .before .before .before .before .before .before .before .before .before .if1 .left) (c .before .before .before .before .before .before .before .before .before .before .before .before .before .before .before .before .before .before .before .before .before .before .before .price .ensures) (c .before .before .before .before .before .before .before .before .before .before .before .before .before .before .before .solve .ensures) (c .before .before .before .before .before .before .if2 .left) (c .before .account .ensures) (c .tell .ensures)
+    let a = c .before .before .before .before .before .before .before .before .before .before .before .before .before .before .before .before .before .before .before .before .before .before .before .before .before .before .before .before .before .before .before .before .before .before .before .before .before .before .before .before .before .before .before .args in
+    found-told (a .n) (a .lefts .now) (a .rights .now) (a .codes .now) (chainColumns (a .left-offsets .now) (a .left-targets .now) (a .left-probs .now) []) (chainColumns (a .right-offsets .now) (a .right-targets .now) (a .right-probs .now) []) (a .left-seen .now) (a .right-seen .now) (a .gamma) (a .options) (a .places .now) (a .masses .now) (c .before .before .before .before .before .before .before .before .before .before .before .before .before .before .before .before .before .before .before .before .before .before .before .before .before .before .before .before .before .if1 .left) (c .before .before .before .before .before .before .before .before .before .before .before .before .before .before .before .before .before .before .before .before .before .before .before .before .before .before .before .price .ensures) (c .before .before .before .before .before .before .before .before .before .before .before .before .before .before .before .before .before .before .before .solve .ensures) (c .before .before .before .before .before .before .before .before .before .before .if2 .left) (c .before .before .before .before .occupancy .ensures) (c .before .contributions .ensures) (c .tell .ensures)
 
 pub run-found-spec : {M : Type 1} → statement M
 run-found-spec =
@@ -97,9 +106,12 @@ run-found-spec =
     same-length
     same-length-2
     returns-2
-    slice-aggregate-account
-    slice-aggregate-account-2
-    account-requires
+    slice-aggregate-occupancy
+    slice-aggregate-occupancy-2
+    slice-aggregate-occupancy-3
+    occupancy-requires
+    slice-aggregate-contributions
+    contributions-requires
     array-read-tell
     tell-requires
     same-length-3
