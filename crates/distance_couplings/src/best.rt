@@ -195,7 +195,7 @@ fn cheapest(
 }
 
 // The cheapest coupling of two rows, targets xs and ys beside probabilities ps and qs, over the front of two lists. Value 0 and no share where the rows have over 32 entries or are no rows, there are over 4,096 codes, or a list is short: the lists are then as they were.
-pub fn best_coupling(
+pub(crate) fn best_coupling(
     xs: &[u32],
     ps: &[f64],
     ys: &[u32],

@@ -7,6 +7,7 @@ use native.Mathlib.Omega.{arith}
 use native.Mathlib.Numerals.{add-one}
 use lib.ListN.{length}
 use lib.Ieee.{Float, inf, le}
+use Rattle.distance_theory.specs.Rounds.{many}
 use Rattle.distance_values.specs.Outcome.{Valued, valued, evaluated}
 use Rattle.distance_rounds.specs.Improving.{Bettered, bettered}
 use Rattle.distance_rounds.specs.Iterating.{Task, Iterated, iterated, valuesOf, betteredOf, ended, iterateFrom}
@@ -35,7 +36,7 @@ module _ {T : Task} {k : ℕ} {v₀ : List Float} {l₀ p₀ : List ℕ} {m₀ :
   iterates-end h = ap (λ (j : ℕ). iterateFrom T j x n v l p m) (let b = I .left in let e : 0 ≡ k - n = omega arith in e) ∙ I .comes
 
   -- a round
-  module _ (h : n < k) {r : Bool} {u : List Float} (eu : valued r u ≡ evaluated (T .starts) l p m (T .cost) (T .gamma) (T .fine) v (T .pairs))
+  module _ (h : n < k) {r : Bool} {u : List Float} (eu : valued r u ≡ evaluated many (T .starts) l p m (T .cost) (T .gamma) (T .fine) v (T .pairs))
       {x' : Float} {t : Bool} {l' p' : List ℕ} {m' : List Float} (eb : bettered x' t l' p' m' ≡ betteredOf T u l p m) {d : Bool} (ed : d ≡ (not t || le x' (T .aim))) where
     abbrev onward : List Float → Bettered → Bool → Iterated
     onward w b e = elim e as (λ z. Iterated) [ true ↦ iterated (b .residual) (suc n) w (b .lengths) (b .places) (b .masses) | false ↦ iterateFrom T (k - (n + 1)) (b .residual) (suc n) w (b .lengths) (b .places) (b .masses) ]

@@ -12,7 +12,7 @@ use Rattle.numbers.specs.Real.{nought, tenth}
 use Rattle.numbers.specs.Lists.{over}
 use Rattle.chain_theory.specs.Columns.{ChainColumns}
 use Rattle.distance_theory.specs.Couplings.{Share, Metric, room}
-use Rattle.distance_theory.specs.Rounds.{evaluate, Improvement, Solution, aim, valued, improvedFrom, after, Round, judged, round, iterate}
+use Rattle.distance_theory.specs.Rounds.{many, evaluate, Improvement, Solution, aim, valued, improvedFrom, after, Round, judged, round, iterate}
 use Rattle.distance_theory.specs.Rounds
 use Rattle.distance_theory.proofs.Turns.{couplingAt}
 use Rattle.distance_theory.proofs.Lengths.{evaluate-length}
@@ -90,7 +90,7 @@ module _ {G : Metric} {tol : Float} {T : Task} {P₀ : List ℕ} {M₀ : List Fl
         let e = evaluated-is in-store (T .cost) (w .values) (T .gamma) (T .fine) (let i = Z .in-cost in omega arith) (omega arith) (ap (λ (j : ℕ). take j (T .cost)) c ∙ Z .cost-is) (Z .gamma-is) refl in
         let l = evaluate-length G (s .policy) (T .fine) (take n (w .values)) in
         let t : take n (w .values) ≡ w .values = take-all n (w .values) (omega arith) in
-        ap (λ (j : ℕ). (evaluated (T .starts) (w .lengths) (w .places) (w .masses) (T .cost) (T .gamma) (T .fine) (w .values) j) .value) (sym c)
+        ap (λ (j : ℕ). (evaluated many (T .starts) (w .lengths) (w .places) (w .masses) (T .cost) (T .gamma) (T .fine) (w .values) j) .value) (sym c)
         ∙ e .1
         ∙ ap (λ (d : List Float). evaluate G (s .policy) (T .fine) (take n (w .values)) ++ d) (drop-of-length-le (w .values) {i = length (evaluate G (s .policy) (T .fine) (take n (w .values)))} (let q = ap length t in omega arith))
         ∙ append-nil (evaluate G (s .policy) (T .fine) (take n (w .values)))

@@ -4,6 +4,7 @@ use mathlib.Core.Bool.{Bool, true, false, not, _||_}
 use mathlib.Core.List.{List}
 use lib.Ieee.{Float, le}
 use Rattle.chain_theory.specs.Columns.{ChainColumns}
+use Rattle.distance_theory.specs.Rounds.{many}
 use Rattle.distance_values.specs.Outcome.{Valued, evaluated}
 use Rattle.distance_rounds.specs.Improving.{Bettered, improve}
 
@@ -38,7 +39,7 @@ iterated x n v l p m = record { residual = x; rounds = n; values = v; lengths = 
 
 -- the values of the couplings
 abbrev pub valuesOf : Task → List Float → List ℕ → List ℕ → List Float → List Float
-valuesOf T v l p m = (evaluated (T .starts) l p m (T .cost) (T .gamma) (T .fine) v (T .pairs)) .value
+valuesOf T v l p m = (evaluated many (T .starts) l p m (T .cost) (T .gamma) (T .fine) v (T .pairs)) .value
 
 abbrev pub betteredOf : Task → List Float → List ℕ → List ℕ → List Float → Bettered
 betteredOf T v l p m = improve (T .pairs) (T .lefts) (T .rights) (T .codes) (T .left) (T .right) v (T .cost) (T .gamma) (T .starts) l p m

@@ -1,6 +1,6 @@
 // The rounds: the values of the couplings, and their improvement against these.
 use crate::improve::improve;
-use distance_values::values::evaluate;
+use distance_values::values::sweeps;
 use numbers::infinity;
 ghost use mathlib.Core.Path.{_≡_};
 ghost use mathlib.Core.Bool.{not, _||_};
@@ -8,6 +8,8 @@ ghost use mathlib.Core.List.{[]};
 ghost use lib.Ieee.{inf, le};
 ghost use mathlib.Core.Bool.{false};
 ghost use Rattle.chain_theory.specs.Columns.{chainColumns};
+ghost use Rattle.distance_theory.specs.Rounds.{many};
+ghost use Rattle.distance_values.specs.Outcome.{valued, evaluated};
 ghost use Rattle.distance_rounds.specs.Iterating.{iterated, iterateFrom, task};
 
 // Whether a round is the last: no coupling has changed, or no value is off by more than the aim.
@@ -18,6 +20,34 @@ fn ended(improved: bool, residual: f64, aim: f64) -> bool
         return true;
     }
     residual <= aim
+}
+
+// The values of the couplings of the first n pairs, to within tol or after 1,000,000 sweeps.
+fn evaluate(
+    n: usize,
+    starts: &[u32],
+    lengths: &[u32],
+    places: &[u32],
+    masses: &[f64],
+    cost: &[f64],
+    gamma: f64,
+    tol: f64,
+    value: &mut [f64],
+) -> bool
+    ensures { λ r. ⌜ valued r (now (value .exit)) ≡ evaluated many (now (starts .entry)) (now (lengths .entry)) (now (places .entry)) (now (masses .entry)) (now (cost .entry)) gamma tol (now (value .entry)) n ⌝ }
+{
+    sweeps(
+        1000000,
+        n,
+        starts,
+        lengths,
+        places,
+        masses,
+        cost,
+        gamma,
+        tol,
+        value,
+    )
 }
 
 // The most that a value was off, and the rounds made.

@@ -13,6 +13,7 @@ use Rattle.numbers.specs.Real.{nought, eps}
 use Rattle.chain_theory.specs.Columns.{ChainColumns}
 use Rattle.distance_theory.specs.Pairs.{most}
 use Rattle.distance_theory.specs.declared.MetricOptions.{MetricOptions}
+use Rattle.distance_theory.specs.Rounds.{many}
 use Rattle.distance_values.specs.Outcome.{occupied, visited}
 use Rattle.distance_contributions.specs.Outcome.{listedOf}
 use Rattle.distance_contributions.specs.declared.listing.Listed.{Listed}
@@ -68,7 +69,7 @@ module _ (n : ℕ) (lefts rights codes : List ℕ) (C D : ChainColumns) (u w : L
     pub found-refused : (r ≡ 0 → ⊥) → {t : Told} → t ≡ refusedWith r → t ≡ whole
     found-refused z g = g ∙ stops r (tellOf n value γ x k account) z ∙ comes
 
-    pub found-told : r ≡ 0 → {z : Bool} {q : Float} {y : List Float} → occupied z q y ≡ visited s l p' m' γ (replicate most nought) n → {i : Listed} → i ≡ listedOf n lefts rights u w y o
+    pub found-told : r ≡ 0 → {z : Bool} {q : Float} {y : List Float} → occupied z q y ≡ visited many s l p' m' γ (replicate most nought) n → {i : Listed} → i ≡ listedOf n lefts rights u w y o
         → {t : Told} → t ≡ tellOf n value γ x k (accounted q i) → t ≡ whole
     found-told j e₁ e₂ g =
         g ∙ ap (tellOf n value γ x k) (accounts n lefts rights u w s l p' m' γ o e₁ e₂) ∙ ap (λ (i : ℕ). goOn i (tellOf n value γ x k account)) (sym j) ∙ comes

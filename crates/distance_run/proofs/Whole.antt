@@ -17,7 +17,7 @@ use Rattle.chain_theory.specs.Columns.{ChainColumns}
 use Rattle.transport_theory.specs.Transport.{keep}
 use Rattle.distance_theory.specs.Pairs.{Pair, most}
 use Rattle.distance_theory.specs.Couplings.{Metric, room, even}
-use Rattle.distance_theory.specs.Rounds.{Solution, solve, aim, tolerance}
+use Rattle.distance_theory.specs.Rounds.{many, Solution, solve, aim, tolerance}
 use Rattle.distance_theory.specs.Contributions.{contribution, contributions, rankInto, listed}
 use Rattle.distance_theory.specs.declared.MetricOptions.{MetricOptions}
 use Rattle.distance_theory.specs.declared.PairContribution.{PairContribution}
@@ -148,7 +148,7 @@ module _ {G : Metric} {l r codes : List ℕ} {C D : ChainColumns} (Y : Ready G l
       found-16 h = ap (foundFrom n l r u w γ o) (solved-as true true (all-laid rp rm) h) ∙ way-16 G γ o (min (length p) (length m)) fit rs h
 
       abbrev X : Occupied
-      X = visited (F .starts) (I .lengths) (I .places) (I .masses) γ (replicate most nought) n
+      X = visited many (F .starts) (I .lengths) (I .places) (I .masses) γ (replicate most nought) n
 
       spends : (X .done ≡ true) × (X .mass ≡ (timeIn G γ o) .mass) × (X .spent ≡ over ((timeIn G γ o) .spent) (replicate most nought))
       spends = visited-is (stays rp rm) (replicate most nought) γ fit (omega arith) refl

@@ -6,6 +6,7 @@ use lib.Ieee.{Float}
 use Rattle.numbers.specs.Real.{nought}
 use Rattle.distance_theory.specs.Pairs.{most}
 use Rattle.distance_theory.specs.declared.MetricOptions.{MetricOptions}
+use Rattle.distance_theory.specs.Rounds.{many}
 use Rattle.distance_values.specs.Outcome.{Occupied, visited}
 use Rattle.distance_contributions.specs.Outcome.{listedOf}
 use Rattle.distance_run.specs.declared.told.Accounted.{Accounted}
@@ -13,5 +14,5 @@ use Rattle.distance_run.specs.declared.told.Accounted.{Accounted}
 -- n pairs by lists of their states, the observations, and the store
 abbrev pub accountOf : ℕ → List ℕ → List ℕ → List Float → List Float → List ℕ → List ℕ → List ℕ → List Float → Float → MetricOptions → Accounted
 accountOf n lefts rights seenL seenR starts lengths places masses γ o =
-    let w = visited starts lengths places masses γ (replicate most nought) n in
+    let w = visited many starts lengths places masses γ (replicate most nought) n in
     record { mass = w .mass; listed = listedOf n lefts rights seenL seenR (w .spent) o }

@@ -7,11 +7,29 @@ use crate::told::tell;
 use distance_contributions::listing::contributions;
 use distance_costs::price;
 use distance_theory::MetricOptions;
-use distance_values::visits::occupancy;
+use distance_values::visits::Left;
+use distance_values::visits::visits;
 ghost use mathlib.Core.Path.{_≡_};
 ghost use mathlib.Core.List.{[]};
 ghost use Rattle.chain_theory.specs.Columns.{chainColumns};
+ghost use Rattle.distance_theory.specs.Rounds.{many};
+ghost use Rattle.distance_values.specs.Outcome.{occupied, visited};
 ghost use Rattle.distance_run.specs.Told.{foundOf};
+
+// The time spent in the first n pairs, in at most 1,000,000 rounds, and the mass that is left then.
+fn occupancy(
+    n: usize,
+    starts: &[u32],
+    lengths: &[u32],
+    places: &[u32],
+    masses: &[f64],
+    gamma: f64,
+    spent: &mut [f64],
+) -> Left
+    ensures { λ r. ⌜ occupied (r .done) (r .mass) (now (spent .exit)) ≡ visited many (now (starts .entry)) (now (lengths .entry)) (now (places .entry)) (now (masses .entry)) gamma (now (spent .entry)) n ⌝ }
+{
+    visits(1000000, n, starts, lengths, places, masses, gamma, spent)
+}
 
 // The run of the first n pairs, states lefts[k] and rights[k] with codes as their index; 17 where there are over 4,096. The store is left as the rounds leave it.
 pub(crate) fn run_found(

@@ -5,17 +5,20 @@ use crate::told::Told;
 use crate::told::refused;
 use chain_check::shape::misshapen;
 use chain_theory::ChainShape;
-use distance_pairs::explore::explore;
+use distance_pairs::discover::discover_from;
 use distance_theory::MetricOptions;
 use numbers::lesser;
 ghost use mathlib.Core.Path.{_≡_};
 ghost use mathlib.Core.Bool.{true, _&&_};
+ghost use mathlib.Core.List.{List};
 ghost use Prim.Native.Nat.{_+_, _<_, min};
 ghost use lib.Dec.{leb};
+ghost use lib.Ieee.{Float};
 ghost use lib.ListN.{length, getD};
 ghost use Rattle.numbers.specs.Lists.{every};
 ghost use Rattle.chain_theory.specs.Columns.{chainColumns, chainOf};
 ghost use Rattle.distance_theory.specs.Outcome;
+ghost use Rattle.distance_theory.proofs.Discovery.{discovered, discover};
 ghost use Rattle.distance_run.specs.Told.{toldOf};
 ghost use Rattle.distance_run.specs.Run.{ranAs, ranOf};
 ghost use Rattle.distance_run.specs.Run;
@@ -85,6 +88,39 @@ fn runnable(left: bool, right: bool, top: usize, lefts: usize, rights: usize, co
         return false;
     }
     roomy(lefts, rights, codes)
+}
+
+// The pairs that are met from the two initial states on, as `discover_from` lists them; how many there are.
+fn explore(
+    left: ChainShape,
+    left_offsets: &[u32],
+    left_targets: &[u32],
+    left_probs: &[f64],
+    right: ChainShape,
+    right_offsets: &[u32],
+    right_targets: &[u32],
+    right_probs: &[f64],
+    lefts: &mut [u32],
+    rights: &mut [u32],
+    codes: &mut [u64],
+) -> usize
+    ensures { λ r. ⌜ ((seen₁ seen₂ : List Float) → discovered r (now (lefts .exit)) (now (rights .exit)) (now (codes .exit)) ≡ discover left (chainColumns (now («left_offsets» .entry)) (now («left_targets» .entry)) (now («left_probs» .entry)) seen₁) right (chainColumns (now («right_offsets» .entry)) (now («right_targets» .entry)) (now («right_probs» .entry)) seen₂) (now (lefts .entry)) (now (rights .entry)) (now (codes .entry))) ⌝ }
+{
+    discover_from(
+        left.initial,
+        right.initial,
+        left,
+        left_offsets,
+        left_targets,
+        left_probs,
+        right,
+        right_offsets,
+        right_targets,
+        right_probs,
+        lefts,
+        rights,
+        codes,
+    )
 }
 
 // The run of chains that can be run. The lists are left as it leaves them.

@@ -1,4 +1,4 @@
--- The loops of `evaluate` over rows: one share is one item of the sum, one pair one `update` of the definition, one sweep one `swept`.
+-- The loops of `sweeps` over rows: one share is one item of the sum, one pair one `update` of the definition, one sweep one `swept`.
 use mathlib.Core.Path.{_≡_, refl, sym, ap, _∙_}
 use Prim.Native.Nat.{ℕ, suc, _+_, _-_, _≤_, _<_}
 use mathlib.Core.Bool.{true, false}
@@ -9,7 +9,7 @@ use lib.Ieee.{Float, nan, binary64, add, mul, le}
 use Rattle.numbers.specs.Real.{nought, sumFrom, sum}
 use Rattle.numbers.specs.Choice.{larger, apart}
 use Rattle.distance_theory.specs.Couplings.{Share, Metric, weighed, expected}
-use Rattle.distance_theory.specs.Rounds.{Values, backup, update, sweep, swept, sweeps, many, evaluate}
+use Rattle.distance_theory.specs.Rounds.{Values, backup, update, sweep, swept, sweeps}
 use Rattle.distance_theory.proofs.Turns.{couplingAt, no-item, expected-next, sweep-next}
 use Rattle.distance_theory.proofs.Lengths.{sweeps-on, sweeps-end}
 use Rattle.distance_theory.proofs.Held.{sharesIn, coupling, policyIn, Lies, Holds, policy-length, policy-at, in-length, in-at}
@@ -105,47 +105,50 @@ module _ {S L P : List ℕ} {M c : List Float} {γ : Float} {v₀ : List Float} 
 -- ---- the sweeps
 
 -- the sweeps still to come lead from these values to the last ones
-pub record Repeating (S L P : List ℕ) (M c : List Float) (γ tol : Float) (v₀ v : List Float) (k : ℕ) : Type 0 where
-  pub ends : k ≤ many
+pub record Repeating (limit : ℕ) (S L P : List ℕ) (M c : List Float) (γ tol : Float) (v₀ v : List Float) (k : ℕ) : Type 0 where
+  pub ends : k ≤ limit
   pub size : length v ≡ length v₀
-  pub same : sweeps (priced γ c) (policyIn S L P M (length v₀)) tol (many - k) v ≡ evaluate (priced γ c) (policyIn S L P M (length v₀)) tol v₀
+  pub same : sweeps (priced γ c) (policyIn S L P M (length v₀)) tol (limit - k) v ≡ sweeps (priced γ c) (policyIn S L P M (length v₀)) tol limit v₀
 
-module _ {S L P : List ℕ} {M c : List Float} {γ tol : Float} {v₀ : List Float} where
-  pub repeating-starts : Repeating S L P M c γ tol v₀ v₀ 0
-  unfolding evaluate
-  repeating-starts = record { ends = omega arith; size = refl; same = refl }
+module _ {limit : ℕ} {S L P : List ℕ} {M c : List Float} {γ tol : Float} {v₀ : List Float} where
+  pub repeating-starts : Repeating limit S L P M c γ tol v₀ v₀ 0
+  repeating-starts = record {
+    ends = omega arith;
+    size = refl;
+    same = let z : limit - 0 ≡ limit = omega arith in ap (λ (j : ℕ). sweeps (priced γ c) (policyIn S L P M (length v₀)) tol j v₀) z;
+  }
 
-  module _ {v : List Float} {k : ℕ} (I : Repeating S L P M c γ tol v₀ v k) where
+  module _ {v : List Float} {k : ℕ} (I : Repeating limit S L P M c γ tol v₀ v k) where
     pub still-held : Holds S L P M (length v₀) → Holds S L P M (length v)
     still-held H = rw (I .size) H
 
-    module _ (more : k < many) {v' : List Float} {d : Float} (W : Swept (swept (priced γ c) (policyIn S L P M (length v)) v) v' d) where
+    module _ (more : k < limit) {v' : List Float} {d : Float} (W : Swept (swept (priced γ c) (policyIn S L P M (length v)) v) v' d) where
       abbrev w : Values
       w = swept (priced γ c) (policyIn S L P M (length v₀)) v
 
       swept-here : Swept w v' d
       swept-here = rw (I .size) at W
 
-      left : many - k ≡ suc (many - (k + 1))
+      left : limit - k ≡ suc (limit - (k + 1))
       left = omega arith
 
-      pub repeating-on : length v' ≡ length v → le d tol ≡ false → Repeating S L P M c γ tol v₀ v' (k + 1)
+      pub repeating-on : length v' ≡ length v → le d tol ≡ false → Repeating limit S L P M c γ tol v₀ v' (k + 1)
       repeating-on s t =
           let W' = swept-here in
           record {
             ends = omega arith;
             size = s ∙ I .size;
-            same = ap (sweeps (priced γ c) (policyIn S L P M (length v₀)) tol (many - (k + 1))) (W' .value-is)
-                ∙ sym (sweeps-on (priced γ c) (policyIn S L P M (length v₀)) tol (many - (k + 1)) v (ap (λ (x : Float). le x tol) (sym (W' .delta-is)) ∙ t))
+            same = ap (sweeps (priced γ c) (policyIn S L P M (length v₀)) tol (limit - (k + 1))) (W' .value-is)
+                ∙ sym (sweeps-on (priced γ c) (policyIn S L P M (length v₀)) tol (limit - (k + 1)) v (ap (λ (x : Float). le x tol) (sym (W' .delta-is)) ∙ t))
                 ∙ ap (λ (j : ℕ). sweeps (priced γ c) (policyIn S L P M (length v₀)) tol j v) (sym left) ∙ I .same;
           }
 
-      pub repeating-settles : le d tol ≡ true → v' ≡ evaluate (priced γ c) (policyIn S L P M (length v₀)) tol v₀
+      pub repeating-settles : le d tol ≡ true → v' ≡ sweeps (priced γ c) (policyIn S L P M (length v₀)) tol limit v₀
       repeating-settles t =
           let W' = swept-here in
-          W' .value-is ∙ sym (sweeps-end (priced γ c) (policyIn S L P M (length v₀)) tol (many - (k + 1)) v (ap (λ (x : Float). le x tol) (sym (W' .delta-is)) ∙ t))
+          W' .value-is ∙ sym (sweeps-end (priced γ c) (policyIn S L P M (length v₀)) tol (limit - (k + 1)) v (ap (λ (x : Float). le x tol) (sym (W' .delta-is)) ∙ t))
           ∙ ap (λ (j : ℕ). sweeps (priced γ c) (policyIn S L P M (length v₀)) tol j v) (sym left) ∙ I .same
 
-    pub repeating-ends : many ≤ k → v ≡ evaluate (priced γ c) (policyIn S L P M (length v₀)) tol v₀
+    pub repeating-ends : limit ≤ k → v ≡ sweeps (priced γ c) (policyIn S L P M (length v₀)) tol limit v₀
     unfolding sweeps
-    repeating-ends l = let z : many - k ≡ 0 = omega arith in ap (λ (j : ℕ). sweeps (priced γ c) (policyIn S L P M (length v₀)) tol j v) (sym z) ∙ I .same
+    repeating-ends l = let z : limit - k ≡ 0 = omega arith in ap (λ (j : ℕ). sweeps (priced γ c) (policyIn S L P M (length v₀)) tol j v) (sym z) ∙ I .same

@@ -1,4 +1,4 @@
--- For a caller that has the couplings of a run in the store: the check passes, and what `evaluate` and `occupancy` leave is what the definitions say of the run.
+-- For a caller that has the couplings of a run in the store: the check passes, and what `sweeps` and `visits` leave, with the limit of `evaluate` and `occupancy`, is what the definitions say of the run.
 use mathlib.Core.Path.{_≡_, refl, sym, subst, ap, _∙_}
 use Prim.Native.Nat.{ℕ, zero, suc, _+_, _≤_, _<_}
 use mathlib.Core.Bool.{Bool, true, false}
@@ -14,7 +14,7 @@ use Rattle.numbers.proofs.Members.{in-at}
 use Rattle.distance_theory.specs.Pairs.{most}
 use Rattle.distance_theory.specs.Couplings.{Share, share, Metric}
 use Rattle.distance_theory.specs.Rounds.{Values, update, sweep, swept, sweeps, many, evaluate}
-use Rattle.distance_theory.specs.Contributions.{occupancy}
+use Rattle.distance_theory.specs.Contributions.{visits, depart, occupancy}
 use Rattle.distance_theory.proofs.Turns.{couplingAt}
 use Rattle.distance_theory.proofs.Store.{Placed, Stored}
 use Rattle.distance_theory.proofs.Held.{coupling, policyIn, policy-at, shares-length, shares-at}
@@ -90,8 +90,9 @@ module _ {G : Metric} {policy : List (List Share)} {S L P : List ℕ} {M : List 
 
   -- ---- what is left behind
 
-  pub evaluated-is : (c v : List Float) (γ tol : Float) → n ≤ length c → n ≤ length v → take n c ≡ G .cost → γ ≡ G .gamma → {r : Bool} {u : List Float} → valued r u ≡ evaluated S L P M c γ tol v n
+  pub evaluated-is : (c v : List Float) (γ tol : Float) → n ≤ length c → n ≤ length v → take n c ≡ G .cost → γ ≡ G .gamma → {r : Bool} {u : List Float} → valued r u ≡ evaluated many S L P M c γ tol v n
       → (r ≡ true) × (u ≡ over (evaluate G policy tol (take n v)) v)
+  unfolding evaluate
   evaluated-is c v γ tol p q k g {r} {u} e =
       let o : evaluable S L P M c v n ≡ true = rw (le-leb n (length c) p, le-leb n (length v) q) stored-held in
       let f : valued r u ≡ valued true (over (evaluate (priced γ (take n c)) (policyIn S L P M n) tol (take n v)) v) = e ∙ rw o in
@@ -99,8 +100,9 @@ module _ {G : Metric} {policy : List (List Share)} {S L P : List ℕ} {M : List 
       = evaluate-alike (priced γ (take n c)) G k g (policyIn S L P M n) tol (take n v) ∙ ap (λ (ps : List (List Share)). evaluate G ps tol (take n v)) (I .same) in
       (ap (λ (x : Valued). x .done) f, ap (λ (x : Valued). x .value) f ∙ ap (λ (x : List Float). over x v) a)
 
-  pub visited-is : (l : List Float) (γ : Float) → n ≤ most → n ≤ length l → {r : Bool} {m : Float} {u : List Float} → occupied r m u ≡ visited S L P M γ l n
+  pub visited-is : (l : List Float) (γ : Float) → n ≤ most → n ≤ length l → {r : Bool} {m : Float} {u : List Float} → occupied r m u ≡ visited many S L P M γ l n
       → (r ≡ true) × (m ≡ (occupancy γ n policy) .mass) × (u ≡ over ((occupancy γ n policy) .spent) l)
+  unfolding occupancy
   visited-is l γ p q {r} {m} {u} e =
       let o : occupiable S L P M l n ≡ true = rw (le-leb n most p, le-leb n (length l) q) stored-held in
       let w = occupancy γ n (policyIn S L P M n) in

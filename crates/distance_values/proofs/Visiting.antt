@@ -1,4 +1,4 @@
--- The loops of `occupancy` over rows: one share is one step of `pour`, one pair one `stay` of the definition, one round one `onward`.
+-- The loops of `visits` over rows: one share is one step of `pour`, one pair one `stay` of the definition, one round one `onward`.
 use mathlib.Core.Path.{_≡_, refl, sym, subst, ap, ap₂, _∙_}
 use Prim.Native.Nat.{ℕ, zero, suc, _+_, _-_, _≤_, _<_}
 use mathlib.Core.Bool.{Bool, true, false}
@@ -13,8 +13,7 @@ use Rattle.numbers.proofs.Parts.{take-replicate, take-replicate-length}
 use Rattle.numbers.proofs.Sums.{sum-next, sum-end}
 use Rattle.distance_theory.specs.Pairs.{most}
 use Rattle.distance_theory.specs.Couplings.{Share}
-use Rattle.distance_theory.specs.Rounds.{many}
-use Rattle.distance_theory.specs.Contributions.{Visits, pour, Stay, stay, stayAll, onward, visits, depart, occupancy}
+use Rattle.distance_theory.specs.Contributions.{Visits, pour, Stay, stay, stayAll, onward, visits, depart}
 use Rattle.distance_theory.proofs.Turns.{couplingAt, no-item, pour-next, stay-next}
 use Rattle.distance_theory.proofs.Lengths.{visits-on, visits-end}
 use Rattle.distance_theory.proofs.Held.{sharesIn, coupling, policyIn, Lies, Holds, policy-length, policy-at, in-length, in-at}
@@ -184,23 +183,29 @@ module _ {c₀ x₀ : List Float} (size : length x₀ ≡ length c₀) where
 -- ---- the rounds
 
 -- the rounds still to come lead from this to the last; nothing has come for the next one yet
-pub record Going (S L P : List ℕ) (M : List Float) (γ m₀ : Float) (c₀ s₀ : List Float) (m : Float) (c x s : List Float) (k : ℕ) : Type 0 where
-  pub ends : k ≤ many
+pub record Going (limit : ℕ) (S L P : List ℕ) (M : List Float) (γ m₀ : Float) (c₀ s₀ : List Float) (m : Float) (c x s : List Float) (k : ℕ) : Type 0 where
+  pub ends : k ≤ limit
   pub current-size : length c ≡ length c₀
   pub next-is : x ≡ replicate (length c₀) nought
   pub spent-size : length s ≡ length c₀
-  pub same : visits γ (policyIn S L P M (length c₀)) (many - k) (visiting s c m) ≡ visits γ (policyIn S L P M (length c₀)) many (visiting s₀ c₀ m₀)
+  pub same : visits γ (policyIn S L P M (length c₀)) (limit - k) (visiting s c m) ≡ visits γ (policyIn S L P M (length c₀)) limit (visiting s₀ c₀ m₀)
 
 onward-is : (γ : Float) (policy : List (List Share)) (s c : List Float) (m : Float) (r : Stay) → r ≡ stayAll γ c 0 policy (staying s (replicate (length c) nought))
     → onward γ policy (visiting s c m) ≡ visiting (r .spent) (r .next) (sum (r .next))
 unfolding onward
 onward-is γ policy s c m r e = ap (λ (w : Stay). visiting (w .spent) (w .next) (sum (w .next))) (sym e)
 
-module _ {S L P : List ℕ} {M : List Float} {γ m₀ : Float} {c₀ s₀ : List Float} where
-  pub going-starts : {x : List Float} → x ≡ replicate (length c₀) nought → length s₀ ≡ length c₀ → Going S L P M γ m₀ c₀ s₀ m₀ c₀ x s₀ 0
-  going-starts n m = record { ends = omega arith; current-size = refl; next-is = n; spent-size = m; same = refl }
+module _ {limit : ℕ} {S L P : List ℕ} {M : List Float} {γ m₀ : Float} {c₀ s₀ : List Float} where
+  pub going-starts : {x : List Float} → x ≡ replicate (length c₀) nought → length s₀ ≡ length c₀ → Going limit S L P M γ m₀ c₀ s₀ m₀ c₀ x s₀ 0
+  going-starts n m = record {
+    ends = omega arith;
+    current-size = refl;
+    next-is = n;
+    spent-size = m;
+    same = let z : limit - 0 ≡ limit = omega arith in ap (λ (j : ℕ). visits γ (policyIn S L P M (length c₀)) j (visiting s₀ c₀ m₀)) z;
+  }
 
-  module _ {m : Float} {c x s : List Float} {k : ℕ} (I : Going S L P M γ m₀ c₀ s₀ m c x s k) where
+  module _ {m : Float} {c x s : List Float} {k : ℕ} (I : Going limit S L P M γ m₀ c₀ s₀ m c x s k) where
     pub next-long : length x ≡ length c
     next-long = ap length (I .next-is) ∙ length-replicate (length c₀) nought ∙ sym (I .current-size)
 
@@ -208,17 +213,17 @@ module _ {S L P : List ℕ} {M : List Float} {γ m₀ : Float} {c₀ s₀ : List
     pub round-ready : Holds S L P M (length c₀) → Holds S L P M (length c) × ((length x ≡ length c) × (length s ≡ length c))
     round-ready H = (rw (I .current-size) H, (next-long, I .spent-size ∙ sym (I .current-size)))
 
-    pub going-on : k < many → lt eps m ≡ true → {x' s' : List Float} → length s' ≡ length s → length x' ≡ length x → Stayed (stayAll γ c 0 (policyIn S L P M (length c)) (staying s x)) s' x'
-        → {m' : Float} {c' y : List Float} → Advanced x' m' c' y → Going S L P M γ m₀ c₀ s₀ m' c' y s' (k + 1)
+    pub going-on : k < limit → lt eps m ≡ true → {x' s' : List Float} → length s' ≡ length s → length x' ≡ length x → Stayed (stayAll γ c 0 (policyIn S L P M (length c)) (staying s x)) s' x'
+        → {m' : Float} {c' y : List Float} → Advanced x' m' c' y → Going limit S L P M γ m₀ c₀ s₀ m' c' y s' (k + 1)
     going-on more big {x'} {s'} ns nx T {m'} {c'} {y} A =
-        let z : many - k ≡ suc (many - (k + 1)) = omega arith in
+        let z : limit - k ≡ suc (limit - (k + 1)) = omega arith in
         record {
           ends = omega arith;
           current-size = ap length (A .current-is) ∙ nx ∙ next-long ∙ I .current-size;
           next-is = A .next-is ∙ ap (λ (n : ℕ). replicate n nought) (nx ∙ next-long ∙ I .current-size);
           spent-size = ns ∙ I .spent-size;
-          same = ap (visits γ (policyIn S L P M (length c₀)) (many - (k + 1))) here
-              ∙ sym (visits-on γ (policyIn S L P M (length c₀)) (many - (k + 1)) (visiting s c m) big)
+          same = ap (visits γ (policyIn S L P M (length c₀)) (limit - (k + 1))) here
+              ∙ sym (visits-on γ (policyIn S L P M (length c₀)) (limit - (k + 1)) (visiting s c m) big)
               ∙ ap (λ (j : ℕ). visits γ (policyIn S L P M (length c₀)) j (visiting s c m)) (sym z) ∙ I .same;
         }
       where
@@ -226,15 +231,15 @@ module _ {S L P : List ℕ} {M : List Float} {γ m₀ : Float} {c₀ s₀ : List
         here = rw (A .mass-is, A .current-is, T .spent-is, T .next-is)
             (sym (onward-is γ (policyIn S L P M (length c₀)) s c m (stayAll γ c 0 (policyIn S L P M (length c)) (staying s x)) (rw (I .next-is, I .current-size))))
 
-    pub going-settles : lt eps m ≡ false → Rested (visits γ (policyIn S L P M (length c₀)) many (visiting s₀ c₀ m₀)) m s
+    pub going-settles : lt eps m ≡ false → Rested (visits γ (policyIn S L P M (length c₀)) limit (visiting s₀ c₀ m₀)) m s
     going-settles small =
-        let e = sym (visits-end γ (policyIn S L P M (length c₀)) (many - k) (visiting s c m) small) ∙ I .same in
+        let e = sym (visits-end γ (policyIn S L P M (length c₀)) (limit - k) (visiting s c m) small) ∙ I .same in
         record { mass-is = ap (λ (w : Visits). w .mass) e; spent-is = ap (λ (w : Visits). w .spent) e }
 
-    pub going-ends : many ≤ k → Rested (visits γ (policyIn S L P M (length c₀)) many (visiting s₀ c₀ m₀)) m s
+    pub going-ends : limit ≤ k → Rested (visits γ (policyIn S L P M (length c₀)) limit (visiting s₀ c₀ m₀)) m s
     unfolding visits
     going-ends h =
-        let z : many - k ≡ 0 = omega arith in
+        let z : limit - k ≡ 0 = omega arith in
         let e = ap (λ (j : ℕ). visits γ (policyIn S L P M (length c₀)) j (visiting s c m)) (sym z) ∙ I .same in
         record { mass-is = ap (λ (w : Visits). w .mass) e; spent-is = ap (λ (w : Visits). w .spent) e }
 
@@ -245,7 +250,7 @@ first-mass : (n m : ℕ) (p : Float) → n ≤ m → take n (set (replicate m no
 first-mass zero m p h = refl
 first-mass (suc n) m p h = take-set-lt (suc n) (replicate m nought) 0 p (omega arith) ∙ ap (λ (l : List Float). set l 0 p) (take-replicate (suc n) m nought h)
 
-module _ (S L P : List ℕ) (M : List Float) (γ : Float) (l : List Float) (few : length l ≤ most) where
+module _ (limit : ℕ) (S L P : List ℕ) (M : List Float) (γ : Float) (l : List Float) (few : length l ≤ most) where
   -- the masses at the start, in work space for the most pairs
   abbrev first : List Float
   first = take (length l) (set (replicate most nought) 0 (sub binary64 one γ))
@@ -263,10 +268,9 @@ module _ (S L P : List ℕ) (M : List Float) (γ : Float) (l : List Float) (few 
       (take-replicate (length l) most nought few ∙ ap (λ (n : ℕ). replicate n nought) (sym first-size), ap length e ∙ length-replicate (length l) nought ∙ sym first-size),
     )
 
-    pub occupies : {m : Float} {s' : List Float} → Rested (visits γ (policyIn S L P M (length first)) many (visiting s first (sub binary64 one γ))) m s' → Rested (occupancy γ (length l) (policyIn S L P M (length l))) m s'
-    unfolding occupancy
+    pub occupies : {m : Float} {s' : List Float} → Rested (visits γ (policyIn S L P M (length first)) limit (visiting s first (sub binary64 one γ))) m s' → Rested (visits γ (policyIn S L P M (length l)) limit (depart γ (length l))) m s'
     occupies {m} {s'} R = subst (λ (w : Visits). Rested w m s') run R
       where
-        run : visits γ (policyIn S L P M (length first)) many (visiting s first (sub binary64 one γ)) ≡ visits γ (policyIn S L P M (length l)) many (depart γ (length l))
-        run = ap (λ (n : ℕ). visits γ (policyIn S L P M n) many (visiting s first (sub binary64 one γ))) first-size
-            ∙ ap₂ (λ (x y : List Float). visits γ (policyIn S L P M (length l)) many (visiting x y (sub binary64 one γ))) e (first-mass (length l) most (sub binary64 one γ) few)
+        run : visits γ (policyIn S L P M (length first)) limit (visiting s first (sub binary64 one γ)) ≡ visits γ (policyIn S L P M (length l)) limit (depart γ (length l))
+        run = ap (λ (n : ℕ). visits γ (policyIn S L P M n) limit (visiting s first (sub binary64 one γ))) first-size
+            ∙ ap₂ (λ (x y : List Float). visits γ (policyIn S L P M (length l)) limit (visiting x y (sub binary64 one γ))) e (first-mass (length l) most (sub binary64 one γ) few)

@@ -1,4 +1,4 @@
-// `evaluate` and `occupancy` of kantorovich.rs, on couplings that stand in rows of numbers.
+// The sweeps of `evaluate` and the rounds of `occupancy` (kantorovich.rs), on couplings that stand in rows of numbers.
 mod store; // store.rt: whether the couplings can be read
-pub mod values; // values.rt: evaluate
-pub mod visits; // visits.rt: occupancy
+pub mod values; // values.rt: sweeps over the values
+pub mod visits; // visits.rt: rounds of visits

@@ -1,4 +1,4 @@
-// `evaluate`: Gauss-Seidel sweeps over the pairs, up to one that moves no value by more than tol.
+// Gauss-Seidel sweeps over the pairs, up to one that moves no value by more than tol.
 use crate::store;
 use numbers::apart;
 use numbers::larger;
@@ -52,8 +52,9 @@ fn sweep(
     delta
 }
 
-// Sweeps up to one that moves no value by more than tol, at most 1,000,000.
-fn sweeps(
+// Sweeps up to one that moves no value by more than tol, at most `limit`.
+fn sweeps_in(
+    limit: usize,
     starts: &[u32],
     lengths: &[u32],
     places: &[u32],
@@ -65,10 +66,10 @@ fn sweeps(
 )
     requires { ⌜ Holds (now starts) (now lengths) (now places) (now masses) (length (now value)) ⌝ }
     requires { ⌜ length (now value) ≤ length (now cost) ⌝ }
-    ensures { λ r. ⌜ now (value .exit) ≡ Rounds.evaluate (priced gamma (now (cost .entry))) (policyIn (now (starts .entry)) (now (lengths .entry)) (now (places .entry)) (now (masses .entry)) (length (now (value .entry)))) tol (now (value .entry)) ⌝ }
+    ensures { λ r. ⌜ now (value .exit) ≡ Rounds.sweeps (priced gamma (now (cost .entry))) (policyIn (now (starts .entry)) (now (lengths .entry)) (now (places .entry)) (now (masses .entry)) (length (now (value .entry)))) tol limit (now (value .entry)) ⌝ }
 {
     let mut k: usize = 0;
-    while k < 1000000 {
+    while k < limit {
         if sweep(starts, lengths, places, masses, cost, gamma, value) <= tol {
             return;
         }
@@ -76,8 +77,9 @@ fn sweeps(
     }
 }
 
-// The values of the first n pairs, each with its cost and its coupling; gives whether these could be read. If not, nothing changes.
-pub fn evaluate(
+// The values of the first n pairs, each with its cost and its coupling, after at most `limit` sweeps; gives whether these could be read. If not, nothing changes.
+pub fn sweeps(
+    limit: usize,
     n: usize,
     starts: &[u32],
     lengths: &[u32],
@@ -88,12 +90,13 @@ pub fn evaluate(
     tol: f64,
     value: &mut [f64],
 ) -> bool
-    ensures { λ r. ⌜ valued r (now (value .exit)) ≡ evaluated (now (starts .entry)) (now (lengths .entry)) (now (places .entry)) (now (masses .entry)) (now (cost .entry)) gamma tol (now (value .entry)) n ⌝ }
+    ensures { λ r. ⌜ valued r (now (value .exit)) ≡ evaluated limit (now (starts .entry)) (now (lengths .entry)) (now (places .entry)) (now (masses .entry)) (now (cost .entry)) gamma tol (now (value .entry)) n ⌝ }
 {
     if n <= cost.len() {
         if n <= value.len() {
             if store::held(starts, lengths, places, masses, n) {
-                sweeps(
+                sweeps_in(
+                    limit,
                     starts,
                     lengths,
                     places,

@@ -1,4 +1,4 @@
-// `occupancy`: the discounted time that the couplings spend in each pair.
+// The discounted time that the couplings spend in each pair.
 use crate::store;
 use numbers::EPS;
 use numbers::ONE;
@@ -8,7 +8,6 @@ ghost use lib.ListN.{length, replicate};
 ghost use Rattle.numbers.specs.Real.{nought};
 ghost use Rattle.distance_theory.specs.Pairs.{most};
 ghost use Rattle.distance_theory.specs.Contributions;
-ghost use Rattle.distance_theory.specs.Rounds.{many};
 ghost use Rattle.distance_theory.proofs.Held.{sharesIn, policyIn, Lies, Holds};
 ghost use Rattle.distance_theory.proofs.ValueRows.{staying, Stayed, Advanced, visiting, Rested};
 ghost use Rattle.distance_values.specs.Outcome.{occupied, visited};
@@ -71,8 +70,9 @@ fn advance(current: &mut [f64], next: &mut [f64]) -> f64
     total
 }
 
-// Rounds while the mass is above 1e-12, at most 1,000,000; gives the mass that is left.
+// Rounds while the mass is above 1e-12, at most `limit`; gives the mass that is left.
 fn rounds(
+    limit: usize,
     starts: &[u32],
     lengths: &[u32],
     places: &[u32],
@@ -85,11 +85,11 @@ fn rounds(
 ) -> f64
     requires { ⌜ Holds (now starts) (now lengths) (now places) (now masses) (length (now current)) ⌝ }
     requires { ⌜ (now next ≡ replicate (length (now current)) nought) × (length (now spent) ≡ length (now current)) ⌝ }
-    ensures { λ r. ⌜ Rested (Contributions.visits gamma (policyIn (now (starts .entry)) (now (lengths .entry)) (now (places .entry)) (now (masses .entry)) (length (now (current .entry)))) many (visiting (now (spent .entry)) (now (current .entry)) mass)) r (now (spent .exit)) ⌝ }
+    ensures { λ r. ⌜ Rested (Contributions.visits gamma (policyIn (now (starts .entry)) (now (lengths .entry)) (now (places .entry)) (now (masses .entry)) (length (now (current .entry)))) limit (visiting (now (spent .entry)) (now (current .entry)) mass)) r (now (spent .exit)) ⌝ }
 {
     let mut left = mass;
     let mut k: usize = 0;
-    while k < 1000000 {
+    while k < limit {
         if !(left > EPS) {
             return left;
         }
@@ -112,7 +112,8 @@ fn clear(list: &mut [f64])
 }
 
 // The time spent in each of at most 4,096 pairs, from the first on; gives the mass that is left.
-fn occupancy_in(
+fn visits_in(
+    limit: usize,
     starts: &[u32],
     lengths: &[u32],
     places: &[u32],
@@ -122,7 +123,7 @@ fn occupancy_in(
 ) -> f64
     requires { ⌜ Holds (now starts) (now lengths) (now places) (now masses) (length (now spent)) ⌝ }
     requires { ⌜ length (now spent) ≤ most ⌝ }
-    ensures { λ r. ⌜ Rested (Contributions.occupancy gamma (length (now (spent .entry))) (policyIn (now (starts .entry)) (now (lengths .entry)) (now (places .entry)) (now (masses .entry)) (length (now (spent .entry))))) r (now (spent .exit)) ⌝ }
+    ensures { λ r. ⌜ Rested (Contributions.visits gamma (policyIn (now (starts .entry)) (now (lengths .entry)) (now (places .entry)) (now (masses .entry)) (length (now (spent .entry)))) limit (Contributions.depart gamma (length (now (spent .entry))))) r (now (spent .exit)) ⌝ }
 {
     let n = spent.len();
     let p = ONE - gamma;
@@ -131,6 +132,7 @@ fn occupancy_in(
     current[0] = p;
     clear(spent);
     rounds(
+        limit,
         starts,
         lengths,
         places,
@@ -149,8 +151,9 @@ pub struct Left {
     pub mass: f64,
 }
 
-// The time spent in the first n pairs, at most 4,096, each with its coupling; nothing changes where these cannot be read.
-pub fn occupancy(
+// The time spent in the first n pairs, at most 4,096, each with its coupling, in at most `limit` rounds from the first pair on; nothing changes where these cannot be read.
+pub fn visits(
+    limit: usize,
     n: usize,
     starts: &[u32],
     lengths: &[u32],
@@ -159,12 +162,20 @@ pub fn occupancy(
     gamma: f64,
     spent: &mut [f64],
 ) -> Left
-    ensures { λ r. ⌜ occupied (r .done) (r .mass) (now (spent .exit)) ≡ visited (now (starts .entry)) (now (lengths .entry)) (now (places .entry)) (now (masses .entry)) gamma (now (spent .entry)) n ⌝ }
+    ensures { λ r. ⌜ occupied (r .done) (r .mass) (now (spent .exit)) ≡ visited limit (now (starts .entry)) (now (lengths .entry)) (now (places .entry)) (now (masses .entry)) gamma (now (spent .entry)) n ⌝ }
 {
     if n <= 4096 {
         if n <= spent.len() {
             if store::held(starts, lengths, places, masses, n) {
-                let mass = occupancy_in(starts, lengths, places, masses, gamma, &mut spent[..n]);
+                let mass = visits_in(
+                    limit,
+                    starts,
+                    lengths,
+                    places,
+                    masses,
+                    gamma,
+                    &mut spent[..n],
+                );
                 return Left { done: true, mass };
             }
         }

@@ -1,57 +1,62 @@
--- `values::sweeps` meets its contract. The loop's invariant: the sweeps still to come lead from these values to the last ones (Sweeping.Repeating).
+-- `values::sweeps` meets its contract: what cannot be read leaves the values as they were, and otherwise the sweeps go over their front (Answers).
+use borrow.Author.Needs.{needs}
 use Rattle.distance_values.proofs.values.sweeps.Statement.{statement}
 use Rattle.distance_values.proofs.values.sweeps.Tie as tie
-use borrow.Author.Needs.{needs}
-use Prim.Native.Nat.{_-_}
-use native.Mathlib.Omega.{arith}
-use mathlib.Core.Path.{_∙_}
-use Rattle.distance_values.proofs.Sweeping.{Repeating, repeating-starts, still-held, repeating-on, repeating-settles, repeating-ends}
+use mathlib.Core.Path.{sym}
+use lib.Seq.{length-take-le}
+use Rattle.distance_values.proofs.Answers.{costs-short, values-short, unread, readable, evaluates}
 
-abbrev Inv-loop : tie.InvT-loop
-Inv-loop starts lengths places masses cost gamma tol value₀ k₀ value k = Repeating starts lengths places masses cost gamma tol value₀ value k
+held-requires : tie.Need-held-requires
+held-requires c κs = search needs
 
-abbrev μ-loop : tie.MeasureT-loop
-μ-loop starts lengths places masses cost gamma tol value₀ k₀ value k = 1000000 - k
+slice-aggregate-sweeps-in : tie.Need-slice-aggregate-sweeps-in
+slice-aggregate-sweeps-in c = sym (length-take-le _ _ (c .before .before .before .before .if1 .taken))
 
-loop-holds : tie.Need-loop-holds Inv-loop μ-loop
-loop-holds c = repeating-starts
+slice-relend-prefix-sweeps-in : tie.Need-slice-relend-prefix-sweeps-in
+slice-relend-prefix-sweeps-in c = search needs
 
-sweep-requires : tie.Need-sweep-requires Inv-loop μ-loop
-sweep-requires c κs = (still-held (c .before .before .loop .inv) (c .before .before .before .before .before .before .before .before .before .pre .0), let s = c .before .before .loop .inv .size in let l = c .before .before .before .before .before .before .before .before .before .pre .1 in omega arith)
+slice-aggregate-sweeps-in-2 : tie.Need-slice-aggregate-sweeps-in-2
+slice-aggregate-sweeps-in-2 c = sym (length-take-le _ _ (c .before .before .before .before .if2 .taken))
 
-same-length : tie.Need-same-length Inv-loop μ-loop
-same-length c = c .before .before .before .sweep .kept .1 .1 .1 .1 .1 .1 .0 ∙ c .before .before .before .before .before .before .loop .inv .size
+sweeps-in-requires : tie.Need-sweeps-in-requires
+sweeps-in-requires c κs =
+    let a = c .before .before .before .before .before .before .before .before .before .before .before .before .args in
+    readable (a .limit) (a .starts .now) (a .lengths .now) (a .places .now) (a .masses .now) (a .cost .now) (a .gamma) (a .tol) (a .value .now) (a .n) (c .before .before .before .before .before .if1 .taken) (c .before .before .before .before .if2 .taken) (c .before .before .before .held .ensures) (c .before .before .if3 .taken)
 
-returns : tie.Need-returns Inv-loop μ-loop
-returns c = repeating-settles (c .before .before .before .before .before .before .loop .inv) (c .before .before .before .before .before .loop-test .taken) (c .before .before .before .sweep .ensures) (c .if1 .taken)
+same-length : tie.Need-same-length
+same-length c = search needs
 
-add-k : tie.Need-add-k Inv-loop μ-loop
-add-k c = search needs
+returns : tie.Need-returns
+returns c =
+    let a = c .before .before .before .before .before .before .before .before .before .before .before .before .before .before .before .args in
+    evaluates (a .limit) (a .starts .now) (a .lengths .now) (a .places .now) (a .masses .now) (a .cost .now) (a .gamma) (a .tol) (a .value .now) (a .n) (c .before .before .before .before .before .before .before .before .if1 .taken) (c .before .before .before .before .before .before .before .if2 .taken) (c .before .before .before .before .before .before .held .ensures) (c .before .before .before .before .before .if3 .taken) (c .before .before .sweeps-in .ensures)
 
-loop-less : tie.Need-loop-less Inv-loop μ-loop
-loop-less c = search needs
+returns-2 : tie.Need-returns-2
+returns-2 c =
+    let a = c .before .before .before .before .before .before .before .before .before .before .args in
+    unread (a .limit) (a .starts .now) (a .lengths .now) (a .places .now) (a .masses .now) (a .cost .now) (a .gamma) (a .tol) (a .value .now) (a .n) (c .before .before .before .if1 .taken) (c .before .before .if2 .taken) (c .before .held .ensures) (c .if3 .left)
 
-loop-again : tie.Need-loop-again Inv-loop μ-loop
-loop-again c = repeating-on (c .before .before .before .before .before .before .loop .inv) (c .before .before .before .before .before .loop-test .taken) (c .before .before .before .sweep .ensures) (c .before .before .before .sweep .kept .1 .1 .1 .1 .1 .1 .0) (c .if1 .left)
+returns-3 : tie.Need-returns-3
+returns-3 c =
+    let a = c .before .before .before .before .before .before .before .before .args in
+    values-short (a .limit) (a .starts .now) (a .lengths .now) (a .places .now) (a .masses .now) (a .cost .now) (a .gamma) (a .tol) (a .value .now) (a .n) (c .before .if1 .taken) (c .if2 .left)
 
-same-length-2 : tie.Need-same-length-2 Inv-loop μ-loop
-same-length-2 c = c .before .loop .inv .size
-
-returns-2 : tie.Need-returns-2 Inv-loop μ-loop
-returns-2 c = repeating-ends (c .before .loop .inv) (c .loop-test .left)
+returns-4 : tie.Need-returns-4
+returns-4 c =
+    let a = c .before .before .before .before .before .before .before .args in
+    costs-short (a .limit) (a .starts .now) (a .lengths .now) (a .places .now) (a .masses .now) (a .cost .now) (a .gamma) (a .tol) (a .value .now) (a .n) (c .if1 .left)
 
 pub sweeps-spec : {M : Type 1} → statement M
 sweeps-spec =
     tie.close
     (tie.spec
-    Inv-loop
-    μ-loop
-    loop-holds
-    sweep-requires
+    held-requires
+    slice-aggregate-sweeps-in
+    slice-relend-prefix-sweeps-in
+    slice-aggregate-sweeps-in-2
+    sweeps-in-requires
     same-length
     returns
-    add-k
-    loop-less
-    loop-again
-    same-length-2
-    returns-2)
+    returns-2
+    returns-3
+    returns-4)

@@ -9,10 +9,10 @@ use borrow.Author.Tests.{not-true, not-false}
 use Rattle.distance_values.proofs.Visiting.{Going, going-starts, next-long, round-ready, going-on, going-settles, going-ends}
 
 abbrev Inv-loop : tie.InvT-loop
-Inv-loop starts lengths places masses gamma mass current₀ next₀ spent₀ left₀ k₀ current next spent left k = Going starts lengths places masses gamma mass current₀ spent₀ left current next spent k
+Inv-loop limit starts lengths places masses gamma mass current₀ next₀ spent₀ left₀ k₀ current next spent left k = Going limit starts lengths places masses gamma mass current₀ spent₀ left current next spent k
 
 abbrev μ-loop : tie.MeasureT-loop
-μ-loop starts lengths places masses gamma mass current₀ next₀ spent₀ left₀ k₀ current next spent left k = 1000000 - k
+μ-loop limit starts lengths places masses gamma mass current₀ next₀ spent₀ left₀ k₀ current next spent left k = limit - k
 
 loop-holds : tie.Need-loop-holds Inv-loop μ-loop
 loop-holds c = going-starts (c .before .before .before .before .before .before .before .pre .1 .0) (c .before .before .before .before .before .before .before .pre .1 .1)

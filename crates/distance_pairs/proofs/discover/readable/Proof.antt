@@ -4,8 +4,8 @@ use mathlib.Core.Bool.{not}
 use borrow.Author.Needs.{needs}
 use borrow.Author.Tests.{le-leb, lt-leb}
 use Rattle.numbers.proofs.Bools.{and-first, and-second}
-use Rattle.distance_pairs.proofs.explore.readable.Statement.{statement}
-use Rattle.distance_pairs.proofs.explore.readable.Tie as tie
+use Rattle.distance_pairs.proofs.discover.readable.Statement.{statement}
+use Rattle.distance_pairs.proofs.discover.readable.Tie as tie
 
 returns : tie.Need-returns
 returns c = let e = lt-leb (c .before .before .before .before .before .args .chain .states) 2000 (c .if1 .taken) in sym e ∙ and-first _ _ e

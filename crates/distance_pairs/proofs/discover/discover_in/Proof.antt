@@ -5,8 +5,8 @@ use native.Mathlib.Omega.{arith}
 use lib.ListN.{length}
 use borrow.Author.Needs.{needs}
 use Rattle.distance_theory.proofs.Discovery.{Discovers, discovers-start, turn-rows, turn, discovers-full, discovers-end}
-use Rattle.distance_pairs.proofs.explore.explore_in.Statement.{statement}
-use Rattle.distance_pairs.proofs.explore.explore_in.Tie as tie
+use Rattle.distance_pairs.proofs.discover.discover_in.Statement.{statement}
+use Rattle.distance_pairs.proofs.discover.discover_in.Tie as tie
 
 abbrev Inv-loop : tie.InvT-loop
 Inv-loop left-offsets left-targets right-offsets right-targets lefts₀ rights₀ codes₀ n₀ i₀ lefts rights codes n i =
@@ -72,8 +72,8 @@ same-length-6 c = search needs
 returns-2 : tie.Need-returns-2 Inv-loop μ-loop
 returns-2 c = discovers-end (c .before .loop .inv .4) (c .loop-test .left)
 
-pub explore-in-spec : {M : Type 1} → statement M
-explore-in-spec =
+pub discover-in-spec : {M : Type 1} → statement M
+discover-in-spec =
     tie.close
     (tie.spec
     Inv-loop

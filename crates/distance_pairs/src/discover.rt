@@ -1,4 +1,4 @@
-// Discovery: the pairs that follow a pair are met one after the other, from the initial pair on.
+// Discovery: the pairs that follow a pair are met one after the other, from a first pair on.
 use crate::index::code;
 use crate::index::goes_to;
 use crate::index::insert;
@@ -15,6 +15,7 @@ ghost use Rattle.chain_theory.specs.Columns.{chainColumns};
 ghost use Rattle.distance_theory.specs.Pairs.{pair};
 ghost use Rattle.distance_theory.proofs.Discovery.{Lists, Takes, crossing, rowIn, Rowed, Explorable, Explores, discovered, discover};
 ghost use Rattle.distance_theory.proofs.Discovery;
+ghost use Rattle.distance_pairs.specs.Starting.{startingIn};
 
 fn wide(x: u32) -> usize
     ensures { λ r. ⌜ r ≡ x ⌝ }
@@ -121,7 +122,7 @@ fn follow(
 }
 
 // Discovery from the first pair on, which is noted.
-fn explore_in(
+fn discover_in(
     left_offsets: &[u32],
     left_targets: &[u32],
     right_offsets: &[u32],
@@ -159,14 +160,25 @@ fn explore_in(
     n
 }
 
-// Columns as check 4 wants them, of at most 2,000 states.
-fn readable(chain: ChainShape, offsets: &[u32], targets: &[u32], probs: &[f64]) -> bool
-    ensures { λ r. ⌜ r ≡ Discovery.readable chain (chainColumns (now (offsets .entry)) (now (targets .entry)) (now (probs .entry)) []) ⌝ }
+// Columns as check 4 wants them, of at most 2,000 states, `initial` one of these.
+fn readable(
+    initial: StateId,
+    chain: ChainShape,
+    offsets: &[u32],
+    targets: &[u32],
+    probs: &[f64],
+) -> bool
+    ensures { λ r. ⌜ r ≡ Discovery.readable (startingIn initial chain) (chainColumns (now (offsets .entry)) (now (targets .entry)) (now (probs .entry)) []) ⌝ }
 {
     if chain.states > 2000 {
         return false;
     }
-    !misshapen(chain, offsets, targets, probs)
+    let shape = ChainShape {
+        states: chain.states,
+        entries: chain.entries,
+        initial,
+    };
+    !misshapen(shape, offsets, targets, probs)
 }
 
 // At least 4,096 entries each.
@@ -181,8 +193,10 @@ fn long(lefts: usize, rights: usize, codes: usize) -> bool
     false
 }
 
-// The pairs of states that are met from the initial pair on, in the order of their discovery: left and right states, and their index. How many there are, 4,097 where there are more than 4,096; then the first 4,096 are listed. 0 where the chains are not as check 4 wants them, have over 2,000 states, or a list is short: the lists are then as they were.
-pub fn explore(
+// The pairs of states that are met from x and y on, in the order of their discovery: left and right states, and their index. How many there are, 4,097 where there are more than 4,096; then the first 4,096 are listed. 0 where the chains are not as check 4 wants them, x and y their initial states, have over 2,000 states, or a list is short: the lists are then as they were.
+pub fn discover_from(
+    x: StateId,
+    y: StateId,
     left: ChainShape,
     left_offsets: &[u32],
     left_targets: &[u32],
@@ -195,23 +209,23 @@ pub fn explore(
     rights: &mut [u32],
     codes: &mut [u64],
 ) -> usize
-    ensures { λ r. ⌜ ((seen₁ seen₂ : List Float) → discovered r (now (lefts .exit)) (now (rights .exit)) (now (codes .exit)) ≡ discover left (chainColumns (now («left_offsets» .entry)) (now («left_targets» .entry)) (now («left_probs» .entry)) seen₁) right (chainColumns (now («right_offsets» .entry)) (now («right_targets» .entry)) (now («right_probs» .entry)) seen₂) (now (lefts .entry)) (now (rights .entry)) (now (codes .entry))) ⌝ }
+    ensures { λ r. ⌜ ((seen₁ seen₂ : List Float) → discovered r (now (lefts .exit)) (now (rights .exit)) (now (codes .exit)) ≡ discover (startingIn x left) (chainColumns (now («left_offsets» .entry)) (now («left_targets» .entry)) (now («left_probs» .entry)) seen₁) (startingIn y right) (chainColumns (now («right_offsets» .entry)) (now («right_targets» .entry)) (now («right_probs» .entry)) seen₂) (now (lefts .entry)) (now (rights .entry)) (now (codes .entry))) ⌝ }
 {
     if !long(lefts.len(), rights.len(), codes.len()) {
         return 0;
     }
-    if !readable(left, left_offsets, left_targets, left_probs) {
+    if !readable(x, left, left_offsets, left_targets, left_probs) {
         return 0;
     }
-    if !readable(right, right_offsets, right_targets, right_probs) {
+    if !readable(y, right, right_offsets, right_targets, right_probs) {
         return 0;
     }
-    let x = left.initial.0;
-    let y = right.initial.0;
-    lefts[0] = x;
-    rights[0] = y;
-    codes[0] = code(x, y, 0);
-    explore_in(
+    let left_state = x.0;
+    let right_state = y.0;
+    lefts[0] = left_state;
+    rights[0] = right_state;
+    codes[0] = code(left_state, right_state, 0);
+    discover_in(
         left_offsets,
         left_targets,
         right_offsets,

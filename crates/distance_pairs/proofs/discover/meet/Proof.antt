@@ -8,8 +8,8 @@ use borrow.Author.Needs.{needs}
 use Rattle.epsdelta_theory.proofs.RowsIn.{put}
 use Rattle.distance_theory.proofs.Index.{goesTo}
 use Rattle.distance_theory.proofs.Discovery.{takes-known, takes-last, takes-new}
-use Rattle.distance_pairs.proofs.explore.meet.Statement.{statement}
-use Rattle.distance_pairs.proofs.explore.meet.Tie as tie
+use Rattle.distance_pairs.proofs.discover.meet.Statement.{statement}
+use Rattle.distance_pairs.proofs.discover.meet.Tie as tie
 
 slice-reshare-prefix-place-of : tie.Need-slice-reshare-prefix-place-of
 slice-reshare-prefix-place-of c = search needs

@@ -2,8 +2,8 @@
 use mathlib.Core.Path.{refl, sym, _∙_}
 use borrow.Author.Tests.{le-leb, lt-leb}
 use Rattle.numbers.proofs.Bools.{and-first, and-second}
-use Rattle.distance_pairs.proofs.explore.long.Statement.{statement}
-use Rattle.distance_pairs.proofs.explore.long.Tie as tie
+use Rattle.distance_pairs.proofs.discover.long.Statement.{statement}
+use Rattle.distance_pairs.proofs.discover.long.Tie as tie
 
 returns : tie.Need-returns
 returns c = and-second _ _ _ (le-leb 4096 (c .before .before .args .lefts) (c .before .if1 .taken)) (and-second _ _ _ (le-leb 4096 (c .before .before .args .rights) (c .if2 .taken)) refl)

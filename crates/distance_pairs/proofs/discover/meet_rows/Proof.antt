@@ -5,8 +5,8 @@ use native.Mathlib.Omega.{arith}
 use lib.ListN.{length, getD, take}
 use borrow.Author.Needs.{needs}
 use Rattle.distance_theory.proofs.Discovery.{Takes, takes-none, takes-next, takes-stop, takes-done, crossing, crossed, crossing-joins, takes-row}
-use Rattle.distance_pairs.proofs.explore.meet_rows.Statement.{statement}
-use Rattle.distance_pairs.proofs.explore.meet_rows.Tie as tie
+use Rattle.distance_pairs.proofs.discover.meet_rows.Statement.{statement}
+use Rattle.distance_pairs.proofs.discover.meet_rows.Tie as tie
 
 abbrev Inv-loop : tie.InvT-loop
 Inv-loop xs ys lefts₀ rights₀ codes₀ n count₀ i₀ lefts rights codes count i = (count ≤ 4096) × (length lefts ≡ length lefts₀) × (length rights ≡ length rights₀) × (length codes ≡ length codes₀) × Takes (crossing (take i xs) ys) n lefts₀ rights₀ codes₀ count lefts rights codes

@@ -7,8 +7,8 @@ use lib.ListN.{length, take}
 use borrow.Author.Needs.{needs}
 use Rattle.distance_theory.specs.Pairs.{pair}
 use Rattle.distance_theory.proofs.Discovery.{Takes, takes-nil, takes-next, takes-stop, takes-done, pair-joins}
-use Rattle.distance_pairs.proofs.explore.meet_row.Statement.{statement}
-use Rattle.distance_pairs.proofs.explore.meet_row.Tie as tie
+use Rattle.distance_pairs.proofs.discover.meet_row.Statement.{statement}
+use Rattle.distance_pairs.proofs.discover.meet_row.Tie as tie
 
 abbrev Inv-loop : tie.InvT-loop
 Inv-loop x ys lefts₀ rights₀ codes₀ n count₀ j₀ lefts rights codes count j = (count ≤ 4096) × (length lefts ≡ length lefts₀) × (length rights ≡ length rights₀) × (length codes ≡ length codes₀) × Takes (map (pair x) (take j ys)) n lefts₀ rights₀ codes₀ count lefts rights codes

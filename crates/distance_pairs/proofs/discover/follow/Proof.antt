@@ -3,8 +3,8 @@ use native.Mathlib.Omega.{arith}
 use borrow.Author.Needs.{needs}
 use Rattle.chain_check.proofs.Checks.{part-is}
 use Rattle.distance_theory.proofs.Discovery.{takes-rows}
-use Rattle.distance_pairs.proofs.explore.follow.Statement.{statement}
-use Rattle.distance_pairs.proofs.explore.follow.Tie as tie
+use Rattle.distance_pairs.proofs.discover.follow.Statement.{statement}
+use Rattle.distance_pairs.proofs.discover.follow.Tie as tie
 
 mul-wide : tie.Need-mul-wide
 mul-wide c = search needs
