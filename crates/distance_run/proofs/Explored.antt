@@ -17,13 +17,18 @@ use Rattle.chain_theory.proofs.Shaped.{Shaped}
 use Rattle.distance_theory.specs.Pairs.{Pair, most, rowOf, pairs}
 use Rattle.distance_theory.specs.Outcome.{run}
 use Rattle.distance_theory.specs.declared.MetricOptions.{MetricOptions}
-use Rattle.distance_theory.proofs.Discovery.{Discovery, discovered, listed, lefts, rights}
+use Rattle.distance_theory.proofs.Discovery.{Discovery, discovered, discover, listed, lefts, rights}
 use Rattle.distance_theory.proofs.Index.{index}
+use Rattle.distance_pairs.specs.Starting.{startingIn}
 use Rattle.distance_rounds.proofs.Started.{bare}
 use Rattle.distance_run.specs.Told.{foundIf, foundOf, toldOf}
 use Rattle.distance_run.specs.declared.told.Told.{Told}
 use Rattle.distance_run.proofs.Founding.{too-many}
 use Rattle.distance_run.proofs.Chains.{many-told, found-told}
+
+-- discovery starts in the initial states
+pub explored-from : (HL HR : ChainShape) (CL CR : ChainColumns) (l r c : List ℕ) {d : Discovery} → d ≡ discover (startingIn (HL .initial) HL) CL (startingIn (HR .initial) HR) CR l r c → d ≡ discover HL CL HR CR l r c
+explored-from HL HR CL CR l r c e = e
 
 observations-are : (H : ChainShape) (C : ChainColumns) → take (H .states) (C .observations) ≡ chainOf H C .observations
 unfolding chainOf

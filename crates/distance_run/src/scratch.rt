@@ -35,7 +35,7 @@ pub fn clear_masses(list: &mut [f64])
 }
 
 // Every entry of the lists of pairs and of the coupling store is 0.
-pub fn clear(
+pub(crate) fn clear(
     lefts: &mut [u32],
     rights: &mut [u32],
     codes: &mut [u64],

@@ -188,7 +188,7 @@ fn improve(
 }
 
 // The couplings of the first n pairs, states lefts[k] and rights[k] with codes as their index: the independent ones laid in the store, and improved round after round. 18 where they can't be laid, then 16 where rounds are asked for and the totals of a pair do not agree; no round is made then.
-pub fn solve(
+pub(crate) fn solve(
     n: usize,
     lefts: &[u32],
     rights: &[u32],

@@ -47,7 +47,7 @@ pub fn refused(refusal: u32) -> Told
 }
 
 // 19 where mass is left, else the distance of n pairs: its value, the most that a value was off, and the rounds made.
-pub fn tell(
+pub(crate) fn tell(
     n: usize,
     value: f64,
     gamma: f64,
