@@ -8,6 +8,16 @@ ghost use Rattle.chain_theory.specs.Check.{discountOutside};
 ghost use Rattle.distance_theory.specs.Refusal;
 ghost use Rattle.bisim_checks.specs.Sides.{restRefusal};
 
+// The arguments of `bisim_distance` that concern no model: the discount, the options, how long the lists of pairs are, and how many contribution records there are.
+pub struct Rest {
+    pub gamma: f64,
+    pub options: MetricOptions,
+    pub lefts: usize,
+    pub rights: usize,
+    pub codes: usize,
+    pub records: usize,
+}
+
 // Whether a list of pairs has under 4,096 entries, or there are under 64 contribution records; by their lengths.
 fn short(lefts: usize, rights: usize, codes: usize, records: usize) -> bool
     ensures { λ r. ⌜ r ≡ Refusal.short (lefts ∷ rights ∷ codes ∷ []) records ⌝ }
@@ -35,22 +45,16 @@ fn discount_outside(gamma: f64) -> bool
 }
 
 // The first of these checks that fails, 0 if none does.
-pub fn rest_refusal(
-    gamma: f64,
-    options: MetricOptions,
-    lefts: usize,
-    rights: usize,
-    codes: usize,
-    records: usize,
-) -> u32
-    ensures { λ r. ⌜ r ≡ restRefusal gamma options (lefts ∷ rights ∷ codes ∷ []) records ⌝ }
+pub fn rest_refusal(rest: Rest) -> u32
+    ensures { λ r. ⌜ r ≡ restRefusal (rest .gamma) (rest .options) (rest .lefts ∷ rest .rights ∷ rest .codes ∷ []) (rest .records) ⌝ }
 {
-    if short(lefts, rights, codes, records) {
+    if short(rest.lefts, rest.rights, rest.codes, rest.records) {
         return 7;
     }
-    if discount_outside(gamma) {
+    if discount_outside(rest.gamma) {
         return 11;
     }
+    let options = rest.options;
     if excessive(options) {
         return 14;
     }

@@ -1,11 +1,11 @@
 // The checks of a model with what comes with it, and of all arguments together.
+use crate::rest::Rest;
 use crate::rest::rest_refusal;
 use bisim_core::ids::StateId;
 use bisim_core::wlts::Shape;
 use bisim_core::wlts::model_refusal;
 use chain_theory::all_within;
 use chains::checks::cramped;
-use distance_theory::MetricOptions;
 use numbers::GREATEST_WEIGHT;
 use numbers::LEAST_OBSERVATION;
 use parts::refusals::earlier;
@@ -130,7 +130,7 @@ pub fn side_refusal(
     )
 }
 
-// The first check that the arguments of `bisim_distance` fail, over both models; 0 if none does. The lists of pairs and the contribution records are told by their lengths.
+// The first check that the arguments of `bisim_distance` fail, over both models and the rest; 0 if none does.
 pub fn bisim_refusal(
     left: Shape,
     left_values: &[u32],
@@ -156,14 +156,9 @@ pub fn bisim_refusal(
     right_chain_targets: &[u32],
     right_chain_probs: &[f64],
     right_chain_seen: &[f64],
-    gamma: f64,
-    options: MetricOptions,
-    lefts: usize,
-    rights: usize,
-    codes: usize,
-    records: usize,
+    rest: Rest,
 ) -> u32
-    ensures { λ r. ⌜ r ≡ bisimRefusal left (columns (now («left_values» .entry)) (now («left_offsets» .entry)) (now («left_labels» .entry)) (now («left_targets» .entry)) (now («left_weights» .entry))) («left_state» .0) (now («left_observations» .entry)) (chainColumns (now («left_chain_offsets» .entry)) (now («left_chain_targets» .entry)) (now («left_chain_probs» .entry)) (now («left_chain_seen» .entry))) right (columns (now («right_values» .entry)) (now («right_offsets» .entry)) (now («right_labels» .entry)) (now («right_targets» .entry)) (now («right_weights» .entry))) («right_state» .0) (now («right_observations» .entry)) (chainColumns (now («right_chain_offsets» .entry)) (now («right_chain_targets» .entry)) (now («right_chain_probs» .entry)) (now («right_chain_seen» .entry))) gamma options (lefts ∷ rights ∷ codes ∷ []) records ⌝ }
+    ensures { λ r. ⌜ r ≡ bisimRefusal left (columns (now («left_values» .entry)) (now («left_offsets» .entry)) (now («left_labels» .entry)) (now («left_targets» .entry)) (now («left_weights» .entry))) («left_state» .0) (now («left_observations» .entry)) (chainColumns (now («left_chain_offsets» .entry)) (now («left_chain_targets» .entry)) (now («left_chain_probs» .entry)) (now («left_chain_seen» .entry))) right (columns (now («right_values» .entry)) (now («right_offsets» .entry)) (now («right_labels» .entry)) (now («right_targets» .entry)) (now («right_weights» .entry))) («right_state» .0) (now («right_observations» .entry)) (chainColumns (now («right_chain_offsets» .entry)) (now («right_chain_targets» .entry)) (now («right_chain_probs» .entry)) (now («right_chain_seen» .entry))) (rest .gamma) (rest .options) (rest .lefts ∷ rest .rights ∷ rest .codes ∷ []) (rest .records) ⌝ }
 {
     let of_left = side_refusal(
         left,
@@ -193,6 +188,6 @@ pub fn bisim_refusal(
         right_chain_probs,
         right_chain_seen,
     );
-    let of_rest = rest_refusal(gamma, options, lefts, rights, codes, records);
+    let of_rest = rest_refusal(rest);
     earlier(of_rest, earlier(of_left, of_right))
 }

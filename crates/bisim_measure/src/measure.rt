@@ -1,5 +1,6 @@
 // Two models measured: the run of their chains, and the lists that are lent all zero after it.
 use crate::make::make_chains;
+use bisim_checks::rest::Rest;
 use bisim_checks::sides::bisim_refusal;
 use bisim_core::ids::StateId;
 use bisim_core::wlts::Shape;
@@ -200,6 +201,14 @@ pub fn measure(
 ) -> Told
     ensures { λ r. ⌜ measuring (ranAs r (now (lefts .exit)) (now (rights .exit)) (now (codes .exit)) (now (places .exit)) (now (masses .exit))) (chainColumns (now («left_chain_offsets» .exit)) (now («left_chain_targets» .exit)) (now («left_chain_probs» .exit)) (now («left_chain_seen» .exit))) (chainColumns (now («right_chain_offsets» .exit)) (now («right_chain_targets» .exit)) (now («right_chain_probs» .exit)) (now («right_chain_seen» .exit))) ≡ bisimMeasure left (columns (now («left_values» .entry)) (now («left_offsets» .entry)) (now («left_labels» .entry)) (now («left_targets» .entry)) (now («left_weights» .entry))) («left_state» .0) (now («left_observations» .entry)) (chainColumns (now («left_chain_offsets» .entry)) (now («left_chain_targets» .entry)) (now («left_chain_probs» .entry)) (now («left_chain_seen» .entry))) right (columns (now («right_values» .entry)) (now («right_offsets» .entry)) (now («right_labels» .entry)) (now («right_targets» .entry)) (now («right_weights» .entry))) («right_state» .0) (now («right_observations» .entry)) (chainColumns (now («right_chain_offsets» .entry)) (now («right_chain_targets» .entry)) (now («right_chain_probs» .entry)) (now («right_chain_seen» .entry))) gamma options (now (lefts .entry)) (now (rights .entry)) (now (codes .entry)) (now (places .entry)) (now (masses .entry)) records ⌝ }
 {
+    let rest = Rest {
+        gamma,
+        options,
+        lefts: lefts.len(),
+        rights: rights.len(),
+        codes: codes.len(),
+        records,
+    };
     let refusal = bisim_refusal(
         left,
         left_values,
@@ -225,12 +234,7 @@ pub fn measure(
         right_chain_targets,
         right_chain_probs,
         right_chain_seen,
-        gamma,
-        options,
-        lefts.len(),
-        rights.len(),
-        codes.len(),
-        records,
+        rest,
     );
     if refusal != 0 {
         return refused(refusal);

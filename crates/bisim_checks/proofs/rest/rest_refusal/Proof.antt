@@ -25,11 +25,11 @@ excessive-requires c κs = search needs
 
 returns-3 : tie.Need-returns-3
 unfolding restRefusal
-returns-3 c = sym (check-skip 7 _ _ _ (sym (c .before .before .before .before .before .short .ensures) ∙ c .before .before .before .before .if1 .left) (check-skip 11 _ _ _ (sym (c .before .before .before .discount-outside .ensures) ∙ c .before .before .if2 .left) (check-hit 14 _ _ (sym (c .before .excessive .ensures) ∙ c .if3 .taken))))
+returns-3 c = sym (check-skip 7 _ _ _ (sym (c .before .before .before .before .before .before .short .ensures) ∙ c .before .before .before .before .before .if1 .left) (check-skip 11 _ _ _ (sym (c .before .before .before .before .discount-outside .ensures) ∙ c .before .before .before .if2 .left) (check-hit 14 _ _ (sym (c .before .excessive .ensures) ∙ c .if3 .taken))))
 
 returns-4 : tie.Need-returns-4
 unfolding restRefusal
-returns-4 c = sym (check-skip 7 _ _ _ (sym (c .before .before .before .before .before .short .ensures) ∙ c .before .before .before .before .if1 .left) (check-skip 11 _ _ _ (sym (c .before .before .before .discount-outside .ensures) ∙ c .before .before .if2 .left) (check-skip 14 _ _ _ (sym (c .before .excessive .ensures) ∙ c .if3 .left) refl)))
+returns-4 c = sym (check-skip 7 _ _ _ (sym (c .before .before .before .before .before .before .short .ensures) ∙ c .before .before .before .before .before .if1 .left) (check-skip 11 _ _ _ (sym (c .before .before .before .before .discount-outside .ensures) ∙ c .before .before .before .if2 .left) (check-skip 14 _ _ _ (sym (c .before .excessive .ensures) ∙ c .if3 .left) refl)))
 
 pub rest-refusal-spec : {M : Type 1} → statement M
 rest-refusal-spec =
