@@ -1,13 +1,14 @@
 -- What is known where the arguments of `bisim_distance` pass all checks.
 use mathlib.Core.Path.{_≡_, refl}
-use mathlib.Core.Bool.{Bool, true, false, _||_}
-use Prim.Native.Nat.{ℕ, _<_}
+use mathlib.Core.Bool.{Bool, true, false, not, _||_}
+use Prim.Native.Nat.{ℕ, _≤_, _<_}
 use mathlib.Core.List.{List}
 use lib.ListN.{length}
-use lib.Dec.{leb}
+use lib.Dec.{ltb, leb}
 use lib.Ieee.{Float}
-use borrow.Author.Tests.{leb-false}
+use borrow.Author.Tests.{ltb-false, leb-false, not-false}
 use Rattle.numbers.specs.Real.{leastObservation, greatestWeight}
+use Rattle.numbers.specs.Lists.{all}
 use Rattle.numbers.specs.Refuse.{check}
 use Rattle.numbers.proofs.Bools.{or-f}
 use Rattle.numbers.proofs.Refuses.{check-none, check-skip}
@@ -17,6 +18,7 @@ use Rattle.bisim_core.specs.Model.{large, unfit, weightsOutside, crowded, model
 use Rattle.epsdelta_theory.specs.Refusal.{absent}
 use Rattle.chain_theory.specs.Columns.{ChainColumns}
 use Rattle.chain_theory.specs.Check.{discountOutside, unfitting, cramped}
+use Rattle.distance_theory.specs.Pairs.{most}
 use Rattle.distance_theory.specs.Refusal.{short, excessive, bisimRefusal}
 use Rattle.distance_theory.specs.declared.MetricOptions.{MetricOptions}
 
@@ -34,8 +36,9 @@ module _ (SL : Shape) (ML : Columns) (s : ℕ) (seenL : List Float) (CL : ChainC
   pub record Passed : Type 0 where
     pub left : Side SL ML s seenL CL
     pub right : Side SR MR t seenR CR
-    pub long : short lists records ≡ false
-    pub modest : excessive o ≡ false
+    pub long : all (λ n. leb most n) lists ≡ true
+    pub row : 64 ≤ records
+    pub asked : o .top ≤ 64
 
   pub passed : bisimRefusal SL ML s seenL CL SR MR t seenR CR γ o lists records ≡ 0 → Passed
   unfolding bisimRefusal
@@ -57,9 +60,12 @@ module _ (SL : Shape) (ML : Columns) (s : ℕ) (seenL : List Float) (CL : ChainC
       let (d₁, d₂) = or-f (crowded SL ML) (crowded SR MR) d in
       let (f₁, f₂) = or-f (cramped (SL .states) (SL .edges) (length seenL) CL) _ f in
       let (f₃, f₄) = or-f (cramped (SR .states) (SR .edges) (length seenR) CR) _ f₂ in
+      let (k₁, k₂) = or-f (not (all (λ n. leb most n) lists)) (ltb records 64) f₄ in
+      let (m₁, m₂) = or-f (ltb 64 (o .top)) _ j in
       record {
         left = record { model-passes = model-none SL ML a₁ b₁ c₁ d₁; state-in = leb-false (SL .states) s b₅; roomy = f₁ };
         right = record { model-passes = model-none SR MR a₂ b₃ c₂ d₂; state-in = leb-false (SR .states) t b₆; roomy = f₃ };
-        long = f₄;
-        modest = j;
+        long = not-false _ k₁;
+        row = ltb-false records 64 k₂;
+        asked = ltb-false 64 (o .top) m₁;
       }

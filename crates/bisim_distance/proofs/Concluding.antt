@@ -1,19 +1,13 @@
 -- What is told and written is the definition's outcome.
 use mathlib.Core.Path.{_≡_, refl, sym, ap, _∙_}
-use mathlib.Core.Bool.{not}
 use Prim.Native.Nat.{ℕ, zero, suc, min, _≤_}
 use mathlib.Core.List.{List, [], _∷_}
-use lib.Dec.{ltb, leb}
 use lib.ListN.{length}
 use lib.Ieee.{Float}
-use borrow.Author.Tests.{ltb-false}
-use Rattle.numbers.specs.Lists.{all}
-use Rattle.numbers.proofs.Bools.{or-f}
 use Rattle.bisim_core.specs.Data.{Edge, Columns}
 use Rattle.bisim_core.specs.declared.wlts.Shape.{Shape}
 use Rattle.bisim_core.specs.Model.{model}
 use Rattle.chain_theory.specs.Columns.{ChainColumns}
-use Rattle.distance_theory.specs.Pairs.{most}
 use Rattle.distance_theory.specs.Refusal.{bisimRefusal}
 use Rattle.distance_theory.specs.Outcome.{Run, bisimRun, blank, zeros, noughts, ends, ChainsOutcome, chainsEnd, chainsSettled, bisimDistance}
 use Rattle.distance_theory.specs.Outcome.{ran as ranFrom}
@@ -30,7 +24,7 @@ use Rattle.distance_run.specs.Run.{ranAs}
 use Rattle.distance.specs.Measuring.{answerOf, Handed, handed, handOut, memory}
 use Rattle.distance.proofs.Concluding.{none-written, run-few, run-counts}
 use Rattle.bisim_checks.proofs.Passed.{Passed, passed}
-use Rattle.bisim_measure.specs.Made.{leftOf, rightOf}
+use Rattle.bisim_chains.specs.Made.{leftOf, rightOf}
 use Rattle.bisim_measure.specs.Measure.{Measuring, measuring, measuredIf, bisimMeasure}
 use Rattle.bisim_measure.proofs.Measuring.{bisim-run-is}
 
@@ -78,9 +72,7 @@ module _ (SL : Shape) (ML : Columns) (s : ℕ) (seenL : List Float) (CL : ChainC
   settles : (k : ℕ) → number ≡ k → outcome (measuredIf k (toldOf ran) CL CR l r c p m) ≡ chainsSettled k ran (memory l r c p m rs) CL CR
   settles zero e =
       let P : Passed SL ML s seenL CL SR MR t seenR CR γ o (length l ∷ length r ∷ length c ∷ []) (length rs) = passed SL ML s seenL CL SR MR t seenR CR γ o (length l ∷ length r ∷ length c ∷ []) (length rs) e in
-      let (a, b) = or-f (ltb 64 (o .top)) _ (P .modest) in
-      let (d, f) = or-f (not (all (λ n. leb most n) (length l ∷ length r ∷ length c ∷ []))) (ltb (length rs) 64) (P .long) in
-      made ran (counted (model SL ML) s seenL (model SR MR) t seenR γ o (min (length p) (length m))) (few-listed (model SL ML) s seenL (model SR MR) t seenR γ o (min (length p) (length m)) (ltb-false 64 (o .top) a)) (ltb-false (length rs) 64 f) (ran .refusal)
+      made ran (counted (model SL ML) s seenL (model SR MR) t seenR γ o (min (length p) (length m))) (few-listed (model SL ML) s seenL (model SR MR) t seenR γ o (min (length p) (length m)) (P .asked)) (P .row) (ran .refusal)
   settles (suc k) e = ap (λ (q : List PairContribution). chainsEnd (ends (says.Refused (suc k)) (memory l r c p m q)) CL CR) (none-written (row []) rs)
 
   pub concludes : {x : Told} {l' r' c' p' : List ℕ} {m' : List Float} {C' D' : ChainColumns} {a : Measured} {rs' : List PairContribution}

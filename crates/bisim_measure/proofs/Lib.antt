@@ -1,4 +1,2 @@
-pub mod Making
-pub mod Rows
 pub mod Readback
 pub mod Measuring

@@ -1,17 +1,18 @@
 -- From the chains that are made and run to what is told of two models.
-use mathlib.Core.Path.{_≡_, refl, sym, ap, _∙_}
+use mathlib.Core.Path.{_≡_, refl, sym, ap, subst, _∙_}
 use mathlib.Core.Bool.{Bool, true, false, not, _&&_, _||_}
 use mathlib.Core.Logic.{_≢_}
 use Prim.Native.Nat.{ℕ, zero, suc, min, _≤_, _<_}
 use mathlib.Core.List.{List, [], _∷_}
 use native.Mathlib.Omega.{arith}
-use lib.Dec.{ltb, leb}
+use lib.Dec.{leb}
 use lib.Ieee.{Float}
 use lib.ListN.{length, take, replicate}
 use lib.Seq.{take-all}
-use borrow.Author.Tests.{ltb-false, le-leb}
+use borrow.Author.Tests.{le-leb}
+use Rattle.numbers.specs.Lists.{all}
 use Rattle.numbers.specs.Real.{nought}
-use Rattle.numbers.proofs.Bools.{or-f, and-second}
+use Rattle.numbers.proofs.Bools.{and-t, and-second}
 use Rattle.bisim_core.specs.Data.{Edge, Columns}
 use Rattle.bisim_core.specs.declared.wlts.Shape.{Shape}
 use Rattle.bisim_core.specs.Model.{model}
@@ -22,19 +23,19 @@ use Rattle.chain_theory.specs.Columns.{ChainColumns, chainColumns, chainOf, sha
 use Rattle.chain_theory.specs.declared.ChainShape.{ChainShape}
 use Rattle.chain_theory.proofs.Chains.{rows-length}
 use Rattle.chains.specs.Outcome.{laid}
-use Rattle.distance_theory.specs.Refusal.{excessive, bisimRefusal}
+use Rattle.distance_theory.specs.Pairs.{most}
+use Rattle.distance_theory.specs.Refusal.{bisimRefusal}
 use Rattle.distance_theory.specs.Outcome.{Run, run, bisimRun, blank, zeros, noughts}
 use Rattle.distance_theory.specs.declared.MetricOptions.{MetricOptions}
-use Rattle.distance_run.specs.Run.{fits, runnable, Ran, ranAs, ranIf, ranOf}
+use Rattle.distance_run.specs.Run.{fits, roomy, runnable, Ran, ranAs, ranIf, ranOf}
 use Rattle.distance_run.specs.Told.{refusedWith, toldOf}
 use Rattle.distance_run.specs.declared.told.Told.{Told}
-use Rattle.distance.proofs.Concluding.{long-enough}
 use Rattle.bisim_checks.proofs.Passed.{Side, Passed, passed}
-use Rattle.bisim_measure.specs.Made.{Made, made, leftOf, rightOf, madeOf}
+use Rattle.bisim_chains.specs.Made.{Made, leftOf, rightOf, madeOf, madeIf, bisimMade}
 use Rattle.bisim_measure.specs.Measure.{Measuring, measuring, measuredIf, bisimMeasure}
-use Rattle.bisim_measure.proofs.Making.{left-size, right-size, seen-size}
+use Rattle.bisim_chains.proofs.Making.{left-size, right-size, seen-size}
+use Rattle.bisim_chains.proofs.Rows.{rows-slender}
 use Rattle.bisim_measure.proofs.Readback.{read-back, laid-fits}
-use Rattle.bisim_measure.proofs.Rows.{rows-slender}
 
 -- ---- a chain made of a model can be run, and is read back
 
@@ -60,10 +61,15 @@ module _ {S : Shape} {M : Columns} {s : ℕ} {seen : List Float} {C : ChainColum
       let n = model-length S M in
       laid-fits chain C sized (let f = X .states-few in omega arith) (let f = P .state-in in omega arith) (λ i h. rows-slender X q i h)
 
--- ---- how many contributions are asked for
+-- ---- room for the pairs
 
-few-asked : (o : MetricOptions) → excessive o ≡ false → leb (o .top) 64 ≡ true
-few-asked o e = let (a, b) = or-f (ltb 64 (o .top)) _ e in le-leb _ _ (ltb-false 64 (o .top) a)
+roomy-so : (l r c : ℕ) → all (λ n. leb most n) (l ∷ r ∷ c ∷ []) ≡ true → roomy l r c ≡ true
+unfolding all
+roomy-so l r c e =
+    let (a, d) = and-t (leb most l) _ e in
+    let (b, f) = and-t (leb most r) _ d in
+    let (g, h) = and-t (leb most c) true f in
+    sym (and-second _ _ true a (sym (sym (and-second _ _ true b (sym g)))))
 
 -- ---- the run
 
@@ -83,22 +89,41 @@ module _ (SL : Shape) (ML : Columns) (s : ℕ) (seenL : List Float) (CL : ChainC
   abbrev answer : Told
   answer = toldOf (bisimRun (model SL ML) s seenL (model SR MR) t seenR γ o (min (length p) (length m)))
 
-  refused-so : (n : ℕ) (x : Told) → n ≢ 0 → measuring (ranAs (refusedWith n) l r c p m) CL CR ≡ measuredIf n x CL CR l r c p m
-  refused-so zero x h = absurd (h refl)
-  refused-so (suc n) x h = refl
+  abbrev whole : Made
+  whole = madeOf (model SL ML) s seenL CL (model SR MR) t seenR CR
 
-  pub turned-back : (n : ℕ) (x : Told) → n ≡ refusal → n ≢ 0 → x ≡ refusedWith n → measuring (ranAs x l r c p m) CL CR ≡ bisimMeasure SL ML s seenL CL SR MR t seenR CR γ o l r c p m records
-  unfolding bisimMeasure
-  turned-back n x e h f = ap (λ (y : Told). measuring (ranAs y l r c p m) CL CR) f ∙ refused-so n answer h ∙ ap (λ (k : ℕ). measuredIf k answer CL CR l r c p m) e
+  -- what is told of chains that were refused
+  abbrev told-of : Made → Measuring
+  told-of Y = measuring (ranAs (refusedWith (Y .chains .refusal)) l r c p m) (Y .leftLists) (Y .rightLists)
+
+  refused-so : (n : ℕ) → madeIf n whole CL CR .chains .refusal ≢ 0 → told-of (madeIf n whole CL CR) ≡ measuredIf n answer CL CR l r c p m
+  unfolding madeOf
+  refused-so zero h = absurd (h refl)
+  refused-so (suc n) h = refl
+
+  pub turned-back : (X : Made) (x : Told) → X ≡ bisimMade SL ML s seenL CL SR MR t seenR CR γ o (length l ∷ length r ∷ length c ∷ []) records → X .chains .refusal ≢ 0 → x ≡ refusedWith (X .chains .refusal)
+      → measuring (ranAs x l r c p m) (X .leftLists) (X .rightLists) ≡ bisimMeasure SL ML s seenL CL SR MR t seenR CR γ o l r c p m records
+  unfolding bisimMade bisimMeasure
+  turned-back X x e h f =
+      ap (λ (y : Told). measuring (ranAs y l r c p m) (X .leftLists) (X .rightLists)) f ∙ ap told-of e ∙ refused-so refusal (subst (λ (Y : Made). Y .chains .refusal ≢ 0) e h)
+
+  number-is : (n : ℕ) → madeIf n whole CL CR .chains .refusal ≡ n
+  unfolding madeOf
+  number-is zero = refl
+  number-is (suc n) = refl
+
+  passes : (X : Made) → X ≡ bisimMade SL ML s seenL CL SR MR t seenR CR γ o (length l ∷ length r ∷ length c ∷ []) records → X .chains .refusal ≡ 0 → refusal ≡ 0
+  unfolding bisimMade
+  passes X e z = sym (number-is refusal) ∙ sym (ap (λ (Y : Made). Y .chains .refusal) e) ∙ z
 
   module _ (z : refusal ≡ 0) where
     facts : Passed SL ML s seenL CL SR MR t seenR CR γ o (length l ∷ length r ∷ length c ∷ []) records
     facts = passed SL ML s seenL CL SR MR t seenR CR γ o (length l ∷ length r ∷ length c ∷ []) records z
 
-    pub left-side : Side SL ML s seenL CL
+    left-side : Side SL ML s seenL CL
     left-side = facts .left
 
-    pub right-side : Side SR MR t seenR CR
+    right-side : Side SR MR t seenR CR
     right-side = facts .right
 
     abbrev L : List (List Edge)
@@ -122,7 +147,7 @@ module _ (SL : Shape) (ML : Columns) (s : ℕ) (seenL : List Float) (CL : ChainC
     runs : runnable (shapeOf A) (laid (columnsOf A) CL) (shapeOf B) (laid (columnsOf B) CR) (o .top) (length l) (length r) (length c) ≡ true
     runs =
         sym (and-second _ _ true (can-run left-side (commonRate L R) _ left-long) (sym (sym (and-second _ _ true (can-run right-side (commonRate L R) _ right-long)
-        (sym (sym (and-second _ _ true (few-asked o (facts .modest)) (sym (long-enough (length l) (length r) (length c) records (facts .long))))))))))
+        (sym (sym (and-second _ _ true (le-leb (o .top) 64 (facts .asked)) (sym (roomy-so (length l) (length r) (length c) (facts .long))))))))))
 
     answers : toldOf (run (chainOf (shapeOf A) (laid (columnsOf A) CL)) (chainOf (shapeOf B) (laid (columnsOf B) CR)) γ o (min (length p) (length m))) ≡ answer
     answers = ap (λ (X : Run). toldOf X) (run-as γ o (min (length p) (length m)) (reads left-side (commonRate L R) _ left-long) (reads right-side (commonRate L R) _ right-long) ∙ sym (bisim-run-is L s seenL R t seenR γ o (min (length p) (length m))))
@@ -143,14 +168,21 @@ module _ (SL : Shape) (ML : Columns) (s : ℕ) (seenL : List Float) (CL : ChainC
         ∙ ap (λ (n : ℕ). chainColumns (zeros (C .offsets)) (zeros (C .targets)) (replicate n nought) (noughts (D .observations))) g
         ∙ ap (λ (n : ℕ). chainColumns (zeros (C .offsets)) (zeros (C .targets)) (noughts (C .probabilities)) (replicate n nought)) h
 
-    pub told-so : (X : Made) → X ≡ madeOf L s seenL CL R t seenR CR
+    told-so : (X : Made) → X ≡ whole
         → length (X .leftLists .offsets) ≡ length (CL .offsets) → length (X .leftLists .targets) ≡ length (CL .targets) → length (X .leftLists .probabilities) ≡ length (CL .probabilities) → length (X .leftLists .observations) ≡ length (CL .observations)
         → length (X .rightLists .offsets) ≡ length (CR .offsets) → length (X .rightLists .targets) ≡ length (CR .targets) → length (X .rightLists .probabilities) ≡ length (CR .probabilities) → length (X .rightLists .observations) ≡ length (CR .observations)
-        → (Y : Measuring) → Y ≡ measuring (ranOf (X .left) (X .leftLists) (X .right) (X .rightLists) γ o l r c p m) (blank (X .leftLists)) (blank (X .rightLists)) → Y ≡ bisimMeasure SL ML s seenL CL SR MR t seenR CR γ o l r c p m records
+        → (Y : Measuring) → Y ≡ measuring (ranOf (X .chains .left) (X .leftLists) (X .chains .right) (X .rightLists) γ o l r c p m) (blank (X .leftLists)) (blank (X .rightLists)) → Y ≡ bisimMeasure SL ML s seenL CL SR MR t seenR CR γ o l r c p m records
     unfolding bisimMeasure madeOf
     told-so X e l₁ l₂ l₃ l₄ r₁ r₂ r₃ r₄ Y f =
-        f ∙ ap (λ (D : ChainColumns). measuring (ranOf (X .left) (X .leftLists) (X .right) (X .rightLists) γ o l r c p m) D (blank (X .rightLists))) (blank-as CL (X .leftLists) l₁ l₂ l₃ l₄)
-        ∙ ap (λ (D : ChainColumns). measuring (ranOf (X .left) (X .leftLists) (X .right) (X .rightLists) γ o l r c p m) (blank CL) D) (blank-as CR (X .rightLists) r₁ r₂ r₃ r₄)
-        ∙ ap (λ (Z : Made). measuring (ranOf (Z .left) (Z .leftLists) (Z .right) (Z .rightLists) γ o l r c p m) (blank CL) (blank CR)) e
+        f ∙ ap (λ (D : ChainColumns). measuring (ranOf (X .chains .left) (X .leftLists) (X .chains .right) (X .rightLists) γ o l r c p m) D (blank (X .rightLists))) (blank-as CL (X .leftLists) l₁ l₂ l₃ l₄)
+        ∙ ap (λ (D : ChainColumns). measuring (ranOf (X .chains .left) (X .leftLists) (X .chains .right) (X .rightLists) γ o l r c p m) (blank CL) D) (blank-as CR (X .rightLists) r₁ r₂ r₃ r₄)
+        ∙ ap (λ (Z : Made). measuring (ranOf (Z .chains .left) (Z .leftLists) (Z .chains .right) (Z .rightLists) γ o l r c p m) (blank CL) (blank CR)) e
         ∙ ap (λ (w : Ran). measuring w (blank CL) (blank CR)) ran-so
         ∙ ap (λ (k : ℕ). measuredIf k answer CL CR l r c p m) (sym z)
+
+  pub measured : (X : Made) → X ≡ bisimMade SL ML s seenL CL SR MR t seenR CR γ o (length l ∷ length r ∷ length c ∷ []) records → X .chains .refusal ≡ 0
+      → length (X .leftLists .offsets) ≡ length (CL .offsets) → length (X .leftLists .targets) ≡ length (CL .targets) → length (X .leftLists .probabilities) ≡ length (CL .probabilities) → length (X .leftLists .observations) ≡ length (CL .observations)
+      → length (X .rightLists .offsets) ≡ length (CR .offsets) → length (X .rightLists .targets) ≡ length (CR .targets) → length (X .rightLists .probabilities) ≡ length (CR .probabilities) → length (X .rightLists .observations) ≡ length (CR .observations)
+      → (Y : Measuring) → Y ≡ measuring (ranOf (X .chains .left) (X .leftLists) (X .chains .right) (X .rightLists) γ o l r c p m) (blank (X .leftLists)) (blank (X .rightLists)) → Y ≡ bisimMeasure SL ML s seenL CL SR MR t seenR CR γ o l r c p m records
+  unfolding bisimMade
+  measured X e z = let k = passes X e z in told-so k X (e ∙ ap (λ (n : ℕ). madeIf n whole CL CR) k)

@@ -29,8 +29,8 @@ use Rattle.chain_theory.specs.Check.{thin, steady, misshapen}
 use Rattle.chains.specs.Outcome.{laid}
 use Rattle.chains.proofs.RowsLaid.{starts-length, starts-at}
 use Rattle.distance_run.specs.Run.{slim, fits}
-use Rattle.bisim_measure.proofs.Making.{over-long}
-use Rattle.bisim_measure.proofs.Rows.{Slender}
+use Rattle.bisim_chains.proofs.Making.{over-long}
+use Rattle.bisim_chains.proofs.Rows.{Slender}
 
 -- ---- the rows as those of jumps, which are laid in the same way
 

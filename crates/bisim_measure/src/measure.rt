@@ -1,7 +1,6 @@
 // Two models measured: the run of their chains, and the lists that are lent all zero after it.
-use crate::make::make_chains;
+use bisim_chains::make::make_chains;
 use bisim_checks::rest::Rest;
-use bisim_checks::sides::bisim_refusal;
 use bisim_core::ids::StateId;
 use bisim_core::wlts::Shape;
 use chain_theory::ChainShape;
@@ -12,12 +11,9 @@ use distance_run::told::Told;
 use distance_run::told::refused;
 use distance_theory::MetricOptions;
 ghost use mathlib.Core.Path.{_≡_};
-ghost use mathlib.Core.List.{[], _∷_};
-ghost use lib.ListN.{length};
 ghost use Rattle.bisim_core.specs.Data.{columns};
 ghost use Rattle.chain_theory.specs.Columns.{chainColumns};
 ghost use Rattle.distance_theory.specs.Outcome.{blank};
-ghost use Rattle.distance_theory.specs.Refusal.{bisimRefusal};
 ghost use Rattle.distance_run.specs.Run.{ranAs, ranOf};
 ghost use Rattle.bisim_measure.specs.Measure.{measuring, bisimMeasure};
 
@@ -77,93 +73,6 @@ fn run_chains(
     told
 }
 
-// Two models whose arguments passed all checks.
-fn measure_passed(
-    left: Shape,
-    left_values: &[u32],
-    left_offsets: &[u32],
-    left_labels: &[u32],
-    left_targets: &[u32],
-    left_weights: &[f64],
-    left_state: StateId,
-    left_observations: &[f64],
-    left_chain_offsets: &mut [u32],
-    left_chain_targets: &mut [u32],
-    left_chain_probs: &mut [f64],
-    left_chain_seen: &mut [f64],
-    right: Shape,
-    right_values: &[u32],
-    right_offsets: &[u32],
-    right_labels: &[u32],
-    right_targets: &[u32],
-    right_weights: &[f64],
-    right_state: StateId,
-    right_observations: &[f64],
-    right_chain_offsets: &mut [u32],
-    right_chain_targets: &mut [u32],
-    right_chain_probs: &mut [f64],
-    right_chain_seen: &mut [f64],
-    gamma: f64,
-    options: MetricOptions,
-    lefts: &mut [u32],
-    rights: &mut [u32],
-    codes: &mut [u64],
-    places: &mut [u32],
-    masses: &mut [f64],
-    records: usize,
-) -> Told
-    requires { ⌜ bisimRefusal left (columns (now «left_values») (now «left_offsets») (now «left_labels») (now «left_targets») (now «left_weights»)) («left_state» .0) (now «left_observations») (chainColumns (now «left_chain_offsets») (now «left_chain_targets») (now «left_chain_probs») (now «left_chain_seen»)) right (columns (now «right_values») (now «right_offsets») (now «right_labels») (now «right_targets») (now «right_weights»)) («right_state» .0) (now «right_observations») (chainColumns (now «right_chain_offsets») (now «right_chain_targets») (now «right_chain_probs») (now «right_chain_seen»)) gamma options (length (now lefts) ∷ length (now rights) ∷ length (now codes) ∷ []) records ≡ 0 ⌝ }
-    ensures { λ r. ⌜ measuring (ranAs r (now (lefts .exit)) (now (rights .exit)) (now (codes .exit)) (now (places .exit)) (now (masses .exit))) (chainColumns (now («left_chain_offsets» .exit)) (now («left_chain_targets» .exit)) (now («left_chain_probs» .exit)) (now («left_chain_seen» .exit))) (chainColumns (now («right_chain_offsets» .exit)) (now («right_chain_targets» .exit)) (now («right_chain_probs» .exit)) (now («right_chain_seen» .exit))) ≡ bisimMeasure left (columns (now («left_values» .entry)) (now («left_offsets» .entry)) (now («left_labels» .entry)) (now («left_targets» .entry)) (now («left_weights» .entry))) («left_state» .0) (now («left_observations» .entry)) (chainColumns (now («left_chain_offsets» .entry)) (now («left_chain_targets» .entry)) (now («left_chain_probs» .entry)) (now («left_chain_seen» .entry))) right (columns (now («right_values» .entry)) (now («right_offsets» .entry)) (now («right_labels» .entry)) (now («right_targets» .entry)) (now («right_weights» .entry))) («right_state» .0) (now («right_observations» .entry)) (chainColumns (now («right_chain_offsets» .entry)) (now («right_chain_targets» .entry)) (now («right_chain_probs» .entry)) (now («right_chain_seen» .entry))) gamma options (now (lefts .entry)) (now (rights .entry)) (now (codes .entry)) (now (places .entry)) (now (masses .entry)) records ⌝ }
-{
-    let made = make_chains(
-        left,
-        left_values,
-        left_offsets,
-        left_labels,
-        left_targets,
-        left_weights,
-        left_state,
-        left_observations,
-        left_chain_offsets,
-        left_chain_targets,
-        left_chain_probs,
-        left_chain_seen,
-        right,
-        right_values,
-        right_offsets,
-        right_labels,
-        right_targets,
-        right_weights,
-        right_state,
-        right_observations,
-        right_chain_offsets,
-        right_chain_targets,
-        right_chain_probs,
-        right_chain_seen,
-    );
-    let first = made.left;
-    let second = made.right;
-    run_chains(
-        first,
-        left_chain_offsets,
-        left_chain_targets,
-        left_chain_probs,
-        left_chain_seen,
-        second,
-        right_chain_offsets,
-        right_chain_targets,
-        right_chain_probs,
-        right_chain_seen,
-        gamma,
-        options,
-        lefts,
-        rights,
-        codes,
-        places,
-        masses,
-    )
-}
-
 // Two models measured: a refusal of the arguments leaves all as it was; else the chains are made and run, and every list is all zero.
 pub fn measure(
     left: Shape,
@@ -209,7 +118,7 @@ pub fn measure(
         codes: codes.len(),
         records,
     };
-    let refusal = bisim_refusal(
+    let made = make_chains(
         left,
         left_values,
         left_offsets,
@@ -236,30 +145,18 @@ pub fn measure(
         right_chain_seen,
         rest,
     );
-    if refusal != 0 {
-        return refused(refusal);
+    if made.refusal != 0 {
+        return refused(made.refusal);
     }
-    measure_passed(
-        left,
-        left_values,
-        left_offsets,
-        left_labels,
-        left_targets,
-        left_weights,
-        left_state,
-        left_observations,
+    let first = made.left;
+    let second = made.right;
+    run_chains(
+        first,
         left_chain_offsets,
         left_chain_targets,
         left_chain_probs,
         left_chain_seen,
-        right,
-        right_values,
-        right_offsets,
-        right_labels,
-        right_targets,
-        right_weights,
-        right_state,
-        right_observations,
+        second,
         right_chain_offsets,
         right_chain_targets,
         right_chain_probs,
@@ -271,6 +168,5 @@ pub fn measure(
         codes,
         places,
         masses,
-        records,
     )
 }

@@ -1,8 +1,8 @@
 -- The rate is the common one, and what is laid and scaled is the chains of the definition.
-use Rattle.bisim_measure.proofs.Making.{rate-is, all-made}
+use Rattle.bisim_chains.proofs.Making.{rate-is, all-made}
 use borrow.Author.Needs.{needs}
-use Rattle.bisim_measure.proofs.make.make_chains.Statement.{statement}
-use Rattle.bisim_measure.proofs.make.make_chains.Tie as tie
+use Rattle.bisim_chains.proofs.make.lay_chains.Statement.{statement}
+use Rattle.bisim_chains.proofs.make.lay_chains.Tie as tie
 
 common-rate-requires : tie.Need-common-rate-requires
 common-rate-requires c κs = search needs
@@ -48,8 +48,8 @@ returns c =
     let p = c .before .before .before .before .before .before .before .before .before .before .before .before .before .before .before .before .before .before .before .before .before .before .before .before .before .before .before .before .before .before .before .before .before .before .before .before .before .before .before .before .before .before .before .before .before .before .before .before .before .before .before .before .before .before .before .pre in
     all-made (p .0) (p .1) _ (rate-is (p .0) (p .1) _ _ (c .before .before .before .before .before .before .before .before .before .before .before .before .before .before .before .before .before .before .before .before .before .before .before .before .before .before .before .before .before .before .before .before .before .before .common-rate .ensures) (c .before .before .before .before .before .before .before .before .before .before .before .before .before .before .before .before .before .before .before .before .before .before .before .before .before .before .before .before .before .before .before .before .before .rate-of .ensures)) _ _ _ (c .before .before .before .before .before .before .before .before .before .before .before .before .before .before .before .before .before .before .before .before .before .before .before .before .before .before .before .before .lay-chain .ensures) (c .before .before .before .before .before .before .before .before .before .before .before .before .before .before .before .lay-chain2 .ensures) (c .before .before .before .before .scale-together .ensures)
 
-pub make-chains-spec : {M : Type 1} → statement M
-make-chains-spec =
+pub lay-chains-spec : {M : Type 1} → statement M
+lay-chains-spec =
     tie.close
     (tie.spec
     common-rate-requires

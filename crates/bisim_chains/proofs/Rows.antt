@@ -24,7 +24,7 @@ use Rattle.parts.proofs.Laid.{laid-jumps, laid-grown, targets-length, rates-len
 use Rattle.chain_theory.specs.Chain.{exitRate, stay, staying, dividedEdge, chainRow, chainRows}
 use Rattle.chain_theory.proofs.Chains.{rows-length, rows-at}
 use Rattle.distance_theory.proofs.Made.{Aims, row-inside}
-use Rattle.bisim_measure.proofs.Making.{over-long}
+use Rattle.bisim_chains.proofs.Making.{over-long}
 
 -- ---- one more rate is at most one more entry
 

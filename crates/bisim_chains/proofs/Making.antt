@@ -1,7 +1,8 @@
--- What `make_chains` leaves is the chains of the definition: laid at the common rate, and their observations scaled together.
+-- What `lay_chains` leaves is the chains of the definition: laid at the common rate, and their observations scaled together.
 use mathlib.Core.Path.{_≡_, refl, sym, ap, _∙_}
 use mathlib.Core.Bool.{Bool, true, not, _&&_}
-use Prim.Native.Nat.{ℕ, _≤_}
+use mathlib.Core.Logic.{_≢_}
+use Prim.Native.Nat.{ℕ, zero, suc, _≤_}
 use mathlib.Core.List.{List, _++_, map}
 use native.Mathlib.Omega.{arith}
 use lib.Dec.{leb}
@@ -23,8 +24,11 @@ use Rattle.chains.specs.Outcome.{rateEnds, rated, laid, Laying, laying, layable
 use Rattle.chains.specs.declared.chain.Rated.{Rated}
 use Rattle.chains.proofs.Answers.{ready}
 use Rattle.normalise.specs.Outcome.{scaling, scaledOver, scaledIf, scaleTogether}
-use Rattle.bisim_checks.proofs.Passed.{Side}
-use Rattle.bisim_measure.specs.Made.{rateOf, Made, made, madeOf}
+use Rattle.bisim_checks.proofs.Passed.{Side, passed}
+use Rattle.distance_theory.specs.Refusal.{bisimRefusal}
+use Rattle.distance_theory.specs.declared.MetricOptions.{MetricOptions}
+use Rattle.bisim_chains.specs.declared.make.Chains.{Chains}
+use Rattle.bisim_chains.specs.Made.{noChains, rateOf, Made, twoChains, made, madeOf, madeIf, bisimMade}
 
 -- ---- a list over another
 
@@ -81,7 +85,7 @@ abbrev observed : ChainColumns → List Float → ChainColumns
 observed C l = chainColumns (C .offsets) (C .targets) (C .probabilities) l
 
 abbrev both : Laying → Laying → Scaled → Made
-both X Y Z = made (X .shape) (Y .shape) (observed (X .lists) (Z .left)) (observed (Y .lists) (Z .right))
+both X Y Z = made (twoChains (X .shape) (Y .shape)) (observed (X .lists) (Z .left)) (observed (Y .lists) (Z .right))
 
 abbrev scales : Laying → Laying → Scaled
 scales X Y = scaleTogether (X .shape .states) (X .lists .observations) (Y .shape .states) (Y .lists .observations)
@@ -123,8 +127,8 @@ module _ {SL : Shape} {ML : Columns} {s : ℕ} {seenL : List Float} {CL : ChainC
   is-made =
       let a = all-taken (length L) (N .left) (left-size (take (length L) seenL) (take (length R) seenR) ∙ seen-size P) in
       let b = all-taken (length R) (N .right) (right-size (take (length L) seenL) (take (length R) seenR) ∙ seen-size Q) in
-      ap (λ (l : List Float). made (left .shape) (right .shape) (observed (left .lists) (over l (CL .observations))) (observed (right .lists) (over (N .right) (CR .observations)))) a
-      ∙ ap (λ (l : List Float). made (left .shape) (right .shape) (observed (left .lists) (over (take (length L) (N .left)) (CL .observations))) (observed (right .lists) (over l (CR .observations)))) b
+      ap (λ (l : List Float). made (twoChains (left .shape) (right .shape)) (observed (left .lists) (over l (CL .observations))) (observed (right .lists) (over (N .right) (CR .observations)))) a
+      ∙ ap (λ (l : List Float). made (twoChains (left .shape) (right .shape)) (observed (left .lists) (over (take (length L) (N .left)) (CL .observations))) (observed (right .lists) (over l (CR .observations)))) b
 
   pub all-made : (x : Float) → x ≡ q → (X Y : Laying) (Z : Scaled) → X ≡ layChain SL ML x seenL s CL → Y ≡ layChain SR MR x seenR t CR → Z ≡ scales X Y → both X Y Z ≡ madeOf L s seenL CL R t seenR CR
   all-made x e X Y Z f g h =
@@ -133,3 +137,27 @@ module _ {SL : Shape} {ML : Columns} {s : ℕ} {seenL : List Float} {CL : ChainC
       ap (both X Y) h
       ∙ ap (λ (W : Laying). both W Y (scales W Y)) f' ∙ ap (λ (W : Laying). both left W (scales left W)) g'
       ∙ ap (both left right) scaled-is ∙ is-made
+
+-- ---- with the checks before
+
+module _ (SL : Shape) (ML : Columns) (s : ℕ) (seenL : List Float) (CL : ChainColumns) (SR : Shape) (MR : Columns) (t : ℕ) (seenR : List Float) (CR : ChainColumns) (γ : Float) (o : MetricOptions) (lists : List ℕ) (records : ℕ) where
+  abbrev refusal : ℕ
+  refusal = bisimRefusal SL ML s seenL CL SR MR t seenR CR γ o lists records
+
+  abbrev whole : Made
+  whole = madeOf (model SL ML) s seenL CL (model SR MR) t seenR CR
+
+  none-made : (n : ℕ) → n ≢ 0 → made (noChains n) CL CR ≡ madeIf n whole CL CR
+  none-made zero h = absurd (h refl)
+  none-made (suc n) h = refl
+
+  pub unmade : (n : ℕ) (x : Chains) → n ≡ refusal → n ≢ 0 → x ≡ noChains n → made x CL CR ≡ bisimMade SL ML s seenL CL SR MR t seenR CR γ o lists records
+  unfolding bisimMade
+  unmade n x e h f = ap (λ (y : Chains). made y CL CR) f ∙ none-made n h ∙ ap (λ (k : ℕ). madeIf k whole CL CR) e
+
+  pub sides : (n : ℕ) → n ≡ refusal → n ≡ 0 → Side SL ML s seenL CL × Side SR MR t seenR CR
+  sides n e z = let P = passed SL ML s seenL CL SR MR t seenR CR γ o lists records (sym e ∙ z) in (P .left, P .right)
+
+  pub as-made : (n : ℕ) (X : Made) → n ≡ refusal → n ≡ 0 → X ≡ whole → X ≡ bisimMade SL ML s seenL CL SR MR t seenR CR γ o lists records
+  unfolding bisimMade
+  as-made n X e z f = f ∙ ap (λ (k : ℕ). madeIf k whole CL CR) (sym z ∙ e)
