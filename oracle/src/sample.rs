@@ -1,7 +1,7 @@
 //! The fixed list of cases that is replayed without Rust: figures of document 01, some of the short inputs, random ones.
 //! The networks, its second part, are in `flow`, the relations, its third, in `relation`, the cards, its fourth, in
-//! `card`, the transports, its fifth, in `transport`, the chains, its sixth, in `chain`, the distances, its seventh, in
-//! `distance`.
+//! `card`, the transports, its fifth, in `transport`, the chains, its sixth, in `chain`, the distances of chains and of
+//! models, its seventh and eighth, in `distance`.
 
 pub mod card;
 pub mod chain;
@@ -310,8 +310,12 @@ mod tests {
         let cards = (card::text(), &["card"][..]);
         let transports = (transport::text(), &["transport"][..]);
         let chains = (chain::text(), &["rate", "uniformise", "normalise"][..]);
-        let distances = (distance::text(), &["distance", "bisim_distance"][..]);
-        for (text, kinds) in [flows, relations, cards, transports, chains, distances] {
+        let distances = (distance::text(), &["distance"][..]);
+        let bisims = (distance::of_models(), &["bisim_distance"][..]);
+        let parts = [
+            flows, relations, cards, transports, chains, distances, bisims,
+        ];
+        for (text, kinds) in parts {
             let cases = read_cases(&text).unwrap();
             assert_eq!(cases.iter().map(write_case).collect::<String>(), text);
             for kind in kinds {
@@ -331,11 +335,12 @@ mod tests {
         let (transports, chains) = (transport::text(), chain::text());
         assert!(transports.len() < 400_000, "{} bytes", transports.len());
         assert!(chains.len() < 640_000, "{} bytes", chains.len());
-        let distances = distance::text();
-        assert!(distances.len() < 800_000, "{} bytes", distances.len());
+        let (distances, bisims) = (distance::text(), distance::of_models());
+        assert!(distances.len() < 400_000, "{} bytes", distances.len());
+        assert!(bisims.len() < 400_000, "{} bytes", bisims.len());
         let mut counts: BTreeMap<(&str, u32), usize> = BTreeMap::new();
         let texts = [
-            models, flows, relations, cards, transports, chains, distances,
+            models, flows, relations, cards, transports, chains, distances, bisims,
         ];
         for case in read_cases(&texts.concat()).unwrap() {
             for field in case.fields {

@@ -12,6 +12,7 @@ fn text(part: &str) -> Option<String> {
         "transports" => Some(sample::transport::text()),
         "chains" => Some(sample::chain::text()),
         "distances" => Some(sample::distance::text()),
+        "model-distances" => Some(sample::distance::of_models()),
         _ => None,
     }
 }
@@ -20,7 +21,9 @@ fn main() {
     let mut args = std::env::args().skip(1);
     let part = args.next().unwrap_or_default();
     let (Some(text), None) = (text(&part), args.next()) else {
-        eprintln!("one part: models, networks, relations, cards, transports, chains or distances");
+        eprintln!(
+            "one part: models, networks, relations, cards, transports, chains, distances or model-distances"
+        );
         std::process::exit(2);
     };
     print!("{text}");

@@ -1,4 +1,4 @@
-//! The seventh part of the fixed list: distances of chains and of models. The figures of document 01, options at each limit, four
+//! The seventh and eighth parts of the fixed list: distances of chains, and of models. The figures of document 01, options at each limit, four
 //! copies changed in each way, some of the short inputs, random ones.
 
 use super::{every, lines};
@@ -162,7 +162,12 @@ fn fits(case: &Case) -> bool {
     })
 }
 
-/// The whole list in the text form, with the oracle's answers.
+/// The distances of chains in the text form, with the oracle's answers.
 pub fn text() -> String {
-    [lines(distances(), fits), lines(bisims(), fits)].concat()
+    lines(distances(), fits)
+}
+
+/// Those of models.
+pub fn of_models() -> String {
+    lines(bisims(), fits)
 }

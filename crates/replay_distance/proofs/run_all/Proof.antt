@@ -1,19 +1,14 @@
--- `run_all` is safe and ends: its turns are bounded, and the measure is how many are left.
+-- `run_all` is safe and ends: its turns are counted, and the measure is how many are left.
 use Prim.Native.Nat.{_≤_, _-_}
 use borrow.Author.Needs.{needs}
 use Rattle.replay_distance.proofs.run_all.Statement.{statement}
 use Rattle.replay_distance.proofs.run_all.Tie as tie
-use Rattle.replay_distance.proofs.run_case.Reads as run-case-reads
-use Rattle.replay_text.proofs.text.at_end.Reads as at-end-reads
-use Rattle.replay_text.proofs.text.start.Reads as start-reads
 
 abbrev Inv-loop : tie.InvT-loop
-Inv-loop buf₀ counts₀ lefts₀ rights₀ codes₀ places₀ masses₀ r₀ turns₀ buf counts lefts rights codes places masses r turns =
-    (turns ≤ 1000000)
+Inv-loop buf₀ counts₀ r₀ turns₀ buf counts r turns = (turns ≤ 1000000)
 
 abbrev μ-loop : tie.MeasureT-loop
-μ-loop buf₀ counts₀ lefts₀ rights₀ codes₀ places₀ masses₀ r₀ turns₀ buf counts lefts rights codes places masses r turns =
-    1000000 - turns
+μ-loop buf₀ counts₀ r₀ turns₀ buf counts r turns = 1000000 - turns
 
 start-requires : tie.Need-start-requires Inv-loop μ-loop
 start-requires c κs = search needs

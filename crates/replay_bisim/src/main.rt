@@ -1,0 +1,44 @@
+// Runs `bisim_distance` on the stored cases of standard input, and compares each answer, its contributions and what scratch holds then with the stored ones.
+// The names of lines are skipped. A case whose values are not as laid out, or with a list that is too long, differs.
+mod models; // models.rt: the kind `bisim_distance`
+mod side; // side.rt: a model in the text
+
+use replay_text::tally;
+use replay_text::text;
+use replay_text::text::Reader;
+
+// The first eight letters of the kind's word, by their bytes.
+const BISIM_DI: u64 = 0x626973696d5f6469;
+
+fn run_case(buf: &mut [u8; 65536], r: Reader, counts: &mut [u64; 48]) -> Reader {
+    let named = text::name(buf, r);
+    let kind = text::word(buf, named);
+    if kind.x != BISIM_DI {
+        let s = tally::unknown(kind.r, counts);
+        return tally::next_case(buf, s, counts);
+    }
+    let t = models::run(buf, kind.r, counts);
+    tally::next_case(buf, t, counts)
+}
+
+fn run_all(buf: &mut [u8; 65536], counts: &mut [u64; 48]) {
+    let mut r = text::start(buf);
+    let mut turns: u32 = 0;
+    while turns < 1000000 && !text::at_end(r) {
+        r = run_case(buf, r, counts);
+        turns += 1;
+    }
+}
+
+fn main() {
+    let mut buf = io::large_buffer();
+    let mut counts = [0u64; 48];
+    run_all(&mut buf, &mut counts);
+    tally::print_entry(
+        b"bisim_distance bisim_distance ",
+        &counts,
+        models::BISIM_DISTANCE,
+    );
+    tally::print_entry(b"other ", &counts, tally::OTHER);
+    tally::print_total(&counts);
+}

@@ -1,4 +1,0 @@
-// The places of the counts.
-pub const DISTANCE: usize = 0;
-
-pub const BISIM_DISTANCE: usize = 2;
