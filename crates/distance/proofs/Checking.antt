@@ -123,7 +123,11 @@ module _ (l r : ℕ) (lacking outside over : Bool) where
                 pub all-pass : over ≡ false → 0 ≡ whole
                 all-pass h = past-12 0 (check-skip 13 _ _ 0 (sym ef ∙ hf) (check-skip 14 _ 0 0 h refl))
 
-pub refusal-comes : (HL : ChainShape) (CL : ChainColumns) (HR : ChainShape) (CR : ChainColumns) (γ : Float) (o : MetricOptions) (lists : List ℕ) (records : ℕ) {l r : ℕ} {s g x : Bool}
-    → l ≡ chainRefusal nought one HL CL → r ≡ chainRefusal nought one HR CR → s ≡ short lists records → g ≡ discountOutside γ → x ≡ excessive o
-    → {k : ℕ} → k ≡ combined l r s g x → k ≡ distanceRefusal HL CL HR CR γ o lists records
-refusal-comes HL CL HR CR γ o lists records el er es eg ex e = e ∙ rw (el, er, es, eg, ex) (sym (distance-refusal-is HL CL HR CR γ o lists records))
+pub rest-comes : (l r : ℕ) (s : Bool) (γ : Float) (o : MetricOptions) {g x : Bool} → g ≡ discountOutside γ → x ≡ excessive o → {k : ℕ} → k ≡ combined l r s g x → k ≡ combined l r s (discountOutside γ) (excessive o)
+rest-comes l r s γ o eg ex e = e ∙ ap₂ (combined l r s) eg ex
+
+-- out of what each chain is refused for by itself
+pub refusal-comes : (HL : ChainShape) (CL : ChainColumns) (HR : ChainShape) (CR : ChainColumns) (γ : Float) (o : MetricOptions) (lists : List ℕ) (records : ℕ) {l r : ℕ} {s : Bool}
+    → l ≡ chainRefusal nought one HL CL → r ≡ chainRefusal nought one HR CR → s ≡ short lists records
+    → {k : ℕ} → k ≡ combined l r s (discountOutside γ) (excessive o) → k ≡ distanceRefusal HL CL HR CR γ o lists records
+refusal-comes HL CL HR CR γ o lists records el er es e = e ∙ rw (el, er, es) (sym (distance-refusal-is HL CL HR CR γ o lists records))

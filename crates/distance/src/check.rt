@@ -8,14 +8,14 @@ ghost use mathlib.Core.Path.{_≡_};
 ghost use mathlib.Core.Bool.{_||_};
 ghost use mathlib.Core.List.{[], _∷_};
 ghost use lib.Dec.{eqb};
+ghost use Rattle.numbers.specs.Real.{nought, one};
 ghost use Rattle.chain_theory.specs.Columns.{chainColumns};
-ghost use Rattle.chain_theory.specs.Check.{discountOutside};
-ghost use Rattle.distance_theory.specs.Refusal.{distanceRefusal};
+ghost use Rattle.chain_theory.specs.Check.{discountOutside, chainRefusal};
 ghost use Rattle.distance_theory.specs.Refusal;
 ghost use Rattle.distance_theory.proofs.Checks.{combined};
 
 // 7: a list of pairs of under 4,096 entries, or under 64 contribution records.
-fn short(lefts: usize, rights: usize, codes: usize, records: usize) -> bool
+pub(crate) fn short(lefts: usize, rights: usize, codes: usize, records: usize) -> bool
     ensures { λ r. ⌜ r ≡ Refusal.short (lefts ∷ rights ∷ codes ∷ []) records ⌝ }
 {
     if lefts < 4096 {
@@ -74,45 +74,34 @@ fn combine(left: u32, right: u32, lacking: bool, outside: bool, over: bool) -> u
     0
 }
 
-// The number of the first check that fails, 0 if all pass; the lengths of the lists of pairs, and of the row of contribution records.
-pub fn distance_refusal(
-    left: ChainShape,
-    left_offsets: &[u32],
-    left_targets: &[u32],
-    left_probs: &[f64],
-    left_seen: &[f64],
-    right: ChainShape,
-    right_offsets: &[u32],
-    right_targets: &[u32],
-    right_probs: &[f64],
-    right_seen: &[f64],
+// The first check that a chain fails by itself, 0 if it passes.
+pub(crate) fn of_chain(
+    chain: ChainShape,
+    offsets: &[u32],
+    targets: &[u32],
+    probs: &[f64],
+    seen: &[f64],
+) -> u32
+    ensures { λ r. ⌜ r ≡ chainRefusal nought one chain (chainColumns (now (offsets .entry)) (now (targets .entry)) (now (probs .entry)) (now (seen .entry))) ⌝ }
+{
+    chain_refusal(chain, offsets, targets, probs, seen, 0.0, ONE)
+}
+
+// The number of the first check that fails, 0 if all pass; of what each chain is refused for by itself, and whether a list is short.
+pub(crate) fn distance_refusal(
+    left: u32,
+    right: u32,
+    lacking: bool,
     gamma: f64,
     options: MetricOptions,
-    lefts: usize,
-    rights: usize,
-    codes: usize,
-    records: usize,
 ) -> u32
-    ensures { λ r. ⌜ r ≡ distanceRefusal left (chainColumns (now («left_offsets» .entry)) (now («left_targets» .entry)) (now («left_probs» .entry)) (now («left_seen» .entry))) right (chainColumns (now («right_offsets» .entry)) (now («right_targets» .entry)) (now («right_probs» .entry)) (now («right_seen» .entry))) gamma options (lefts ∷ rights ∷ codes ∷ []) records ⌝ }
+    ensures { λ r. ⌜ r ≡ combined left right lacking (discountOutside gamma) (Refusal.excessive options) ⌝ }
 {
-    let l = chain_refusal(
+    combine(
         left,
-        left_offsets,
-        left_targets,
-        left_probs,
-        left_seen,
-        0.0,
-        ONE,
-    );
-    let r = chain_refusal(
         right,
-        right_offsets,
-        right_targets,
-        right_probs,
-        right_seen,
-        0.0,
-        ONE,
-    );
-    let lacking = short(lefts, rights, codes, records);
-    combine(l, r, lacking, discount_outside(gamma), excessive(options))
+        lacking,
+        discount_outside(gamma),
+        excessive(options),
+    )
 }

@@ -1,5 +1,7 @@
 // `distance` but for the row of contribution records.
 use crate::check::distance_refusal;
+use crate::check::of_chain;
+use crate::check::short;
 use chain_theory::ChainShape;
 use distance_run::run::run;
 use distance_run::told::Told;
@@ -36,22 +38,11 @@ pub fn measure(
     ensures { λ r. ⌜ ranAs r (now (lefts .exit)) (now (rights .exit)) (now (codes .exit)) (now (places .exit)) (now (masses .exit)) ≡ measuredOf left (chainColumns (now («left_offsets» .entry)) (now («left_targets» .entry)) (now («left_probs» .entry)) (now («left_seen» .entry))) right (chainColumns (now («right_offsets» .entry)) (now («right_targets» .entry)) (now («right_probs» .entry)) (now («right_seen» .entry))) gamma options (now (lefts .entry)) (now (rights .entry)) (now (codes .entry)) (now (places .entry)) (now (masses .entry)) records ⌝ }
 {
     let refusal = distance_refusal(
-        left,
-        left_offsets,
-        left_targets,
-        left_probs,
-        left_seen,
-        right,
-        right_offsets,
-        right_targets,
-        right_probs,
-        right_seen,
+        of_chain(left, left_offsets, left_targets, left_probs, left_seen),
+        of_chain(right, right_offsets, right_targets, right_probs, right_seen),
+        short(lefts.len(), rights.len(), codes.len(), records),
         gamma,
         options,
-        lefts.len(),
-        rights.len(),
-        codes.len(),
-        records,
     );
     if refusal != 0 {
         return refused(refusal);
