@@ -15,6 +15,26 @@ ghost use Rattle.distance.specs.Measuring.{measuredOf, memory};
 ghost use Rattle.distance_replies.specs.Distances.{replied, ofMeasured};
 ghost use Rattle.exports_distance.specs.Chains.{shape, options, distanceOf};
 
+fn chain_shape(states: usize, entries: usize, initial: u32) -> ChainShape
+    ensures { λ r. ⌜ r ≡ shape states entries initial ⌝ }
+{
+    ChainShape {
+        states,
+        entries,
+        initial: StateId(initial),
+    }
+}
+
+fn metric_options(tolerance: f64, max_rounds: usize, top: usize) -> MetricOptions
+    ensures { λ r. ⌜ r ≡ options tolerance «max_rounds» top ⌝ }
+{
+    MetricOptions {
+        tolerance,
+        max_rounds,
+        top,
+    }
+}
+
 // All but the row of contribution records, for chains and options by their numbers.
 fn measure_numbers(
     left_states: usize,
@@ -47,21 +67,9 @@ fn measure_numbers(
         (shape «right_states» «right_entries» «right_initial») (chainColumns (now («right_offsets» .entry)) (now («right_targets» .entry)) (now («right_probabilities» .entry)) (now («right_observations» .entry)))
         gamma (options tolerance «max_rounds» top) (now (lefts .entry)) (now (rights .entry)) (now (index .entry)) (now (places .entry)) (now (masses .entry)) records ⌝ }
 {
-    let left = ChainShape {
-        states: left_states,
-        entries: left_entries,
-        initial: StateId(left_initial),
-    };
-    let right = ChainShape {
-        states: right_states,
-        entries: right_entries,
-        initial: StateId(right_initial),
-    };
-    let options = MetricOptions {
-        tolerance,
-        max_rounds,
-        top,
-    };
+    let left = chain_shape(left_states, left_entries, left_initial);
+    let right = chain_shape(right_states, right_entries, right_initial);
+    let options = metric_options(tolerance, max_rounds, top);
     measure(
         left,
         left_offsets,
