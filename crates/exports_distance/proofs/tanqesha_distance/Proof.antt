@@ -17,9 +17,9 @@ use prog.Wp.{Heap, Calls, Loops, WpFn, Tables}
 use ghost.Atoms.{Atoms, sem}
 use contract.Monad.{Fun, fact}
 use contract.Running.{givenOf, tables, tablesOf}
-use types.Kit.{Given, Item, ‵, raw, _⊛_, ⋆, some, later, _$_, _∵_, !, qed, by, move, drop, use0, use1, use2, split, join, pick, fsplit, fjoin, feqL, suffices, frame, await, done}
+use types.Kit.{Given, Item, ‵, raw, _⊛_, ⋆, some, later, _$_, _∵_, !, qed, by, move, drop, use0, use1, use2, split, join, pick, fsplit, fjoin, feqL, suffices, frame, await, done, group}
 use types.Part.{agg, whole, sub, look-in}
-use types.Run.{look, init, forget, stop, hop, fld, from, load, addr, of-opd, and-then, no-more, assigns, land, returns, enter, alloc1, alloc0, params1, pass1, pass0, free1, free0}
+use types.Run.{look, init, stop, hop, fld, from, load, addr, of-opd, and-then, no-more, assigns, land, returns, enter}
 use sound.WpLaws.{FmC, fmOf, WpFn-mono}
 use denote.RattleType.{RattleType, owns}
 use denote.Laws.{Is, shows}
@@ -54,6 +54,7 @@ use Rattle.distance_run.proofs.told.Told as T
 use Rattle.distance_run.proofs.told.Told.Laws as T′
 use Rattle.distance.specs.Measuring.{measuredOf, handed, handOut}
 use Rattle.distance.proofs.Concluding.{concludes}
+use Rattle.distance_replies.proofs.Locals.{stands, leave-all}
 use Rattle.distance_replies.specs.Distances.{Replied, replied, ofMeasured}
 use Rattle.exports_distance.specs.Chains.{shape, options}
 use Rattle.exports_distance.proofs.measure_numbers as measures
@@ -176,91 +177,57 @@ module _ {M : Type 1} (𝓤 : URA M) (H : Heap 𝓤) (A : Atoms 𝓤) (W : Given
     walk =
         qed W ((‵ (flft κ₀ q₀) ⊛ ‵ (flft κ₁ q₁) ⊛ ‵ (flft κ₂ q₂) ⊛ ‵ (flft κ₃ q₃) ⊛ ‵ (flft κ₄ q₄) ⊛ ‵ (flft κ₅ q₅) ⊛ ‵ (flft κ₆ q₆) ⊛ ‵ (flft κ₇ q₇) ⊛ ‵ (flft κ₈ q₈) ⊛ ‵ (flft κ₉ q₉) ⊛ ‵ (flft κ₁₀ q₁₀) ⊛ ‵ (flft κ₁₁ q₁₁) ⊛ ‵ (flft κ₁₂ q₁₂) ⊛ ‵ (flft κ₁₃ q₁₃) ⊛ ‵ (flft κ₁₄ q₁₄) ⊛ ‵ (flft κ₁₅ q₁₅) ⊛ ‵ (flft κ₁₆ q₁₆) ⊛ ‵ (flft κ₁₇ q₁₇) ⊛ ‵ (flft κ₁₈ q₁₈) ⊛ ‵ (flft κ₁₉ q₁₉) ⊛ ‵ ftrue) ∷ ‵ (owns (usize ∷ usize ∷ u32 ∷ ShrSlice (named 0) κ₀ u32 ∷ ShrSlice (named 1) κ₁ u32 ∷ ShrSlice (named 2) κ₂ f64 ∷ ShrSlice (named 3) κ₃ f64 ∷ usize ∷ usize ∷ u32 ∷ ShrSlice (named 4) κ₄ u32 ∷ ShrSlice (named 5) κ₅ u32 ∷ ShrSlice (named 6) κ₆ f64 ∷ ShrSlice (named 7) κ₇ f64 ∷ f64 ∷ f64 ∷ usize ∷ usize ∷ MutSlice (named 8) κ₈ u32 ∷ MutSlice (named 9) κ₉ u32 ∷ MutSlice (named 10) κ₁₀ u64 ∷ MutSlice (named 11) κ₁₁ u32 ∷ MutSlice (named 12) κ₁₂ f64 ∷ MutSlice (named 13) κ₁₃ R.the-row ∷ MutRef (named 14) κ₁₄ f64 ∷ MutRef (named 15) κ₁₅ f64 ∷ MutRef (named 16) κ₁₆ f64 ∷ MutRef (named 17) κ₁₇ usize ∷ MutRef (named 18) κ₁₈ usize ∷ MutRef (named 19) κ₁₉ usize ∷ []) a at) ∷ []) ∵
         enter ! C Λ code.function (vint w64 x₁ ∷ vint w64 x₂ ∷ vint w32 x₃ ∷ sliceVal (x₄ .ptr) (length (x₄ .now)) ∷ sliceVal (x₅ .ptr) (length (x₅ .now)) ∷ sliceVal (x₆ .ptr) (length (x₆ .now)) ∷ sliceVal (x₇ .ptr) (length (x₇ .now)) ∷ vint w64 x₈ ∷ vint w64 x₉ ∷ vint w32 x₁₀ ∷ sliceVal (x₁₁ .ptr) (length (x₁₁ .now)) ∷ sliceVal (x₁₂ .ptr) (length (x₁₂ .now)) ∷ sliceVal (x₁₃ .ptr) (length (x₁₃ .now)) ∷ sliceVal (x₁₄ .ptr) (length (x₁₄ .now)) ∷ vfloat binary64 x₁₅ ∷ vfloat binary64 x₁₆ ∷ vint w64 x₁₇ ∷ vint w64 x₁₈ ∷ sliceVal (x₁₉ .ptr) (length (x₁₉ .now)) ∷ sliceVal (x₂₀ .ptr) (length (x₂₀ .now)) ∷ sliceVal (x₂₁ .ptr) (length (x₂₁ .now)) ∷ sliceVal (x₂₂ .ptr) (length (x₂₂ .now)) ∷ sliceVal (x₂₃ .ptr) (length (x₂₃ .now)) ∷ sliceVal (x₂₄ .ptr) (length (x₂₄ .now)) ∷ vptr (x₂₅ .ptr .0) (x₂₅ .ptr .1) ∷ vptr (x₂₆ .ptr .0) (x₂₆ .ptr .1) ∷ vptr (x₂₇ .ptr .0) (x₂₇ .ptr .1) ∷ vptr (x₂₈ .ptr .0) (x₂₈ .ptr .1) ∷ vptr (x₂₉ .ptr .0) (x₂₉ .ptr .1) ∷ vptr (x₃₀ .ptr .0) (x₃₀ .ptr .1) ∷ []) _ $
-        alloc1 ! (λ l₀. alloc1 ! (λ l₁. alloc1 ! (λ l₂. alloc1 ! (λ l₃. alloc1 ! (λ l₄. alloc1 ! (λ l₅. alloc1 ! (λ l₆. alloc1 ! (λ l₇. alloc1 ! (λ l₈. alloc1 ! (λ l₉. alloc1 ! (λ l₁₀. alloc1 ! (λ l₁₁. alloc1 ! (λ l₁₂. alloc1 ! (λ l₁₃. alloc1 ! (λ l₁₄. alloc1 ! (λ l₁₅. alloc1 ! (λ l₁₆. alloc1 ! (λ l₁₇. alloc1 ! (λ l₁₈. alloc1 ! (λ l₁₉. alloc1 ! (λ l₂₀. alloc1 ! (λ l₂₁. alloc1 ! (λ l₂₂. alloc1 ! (λ l₂₃. alloc1 ! (λ l₂₄. alloc1 ! (λ l₂₅. alloc1 ! (λ l₂₆. alloc1 ! (λ l₂₇. alloc1 ! (λ l₂₈. alloc1 ! (λ l₂₉. alloc1 ! (λ l₃₀. alloc1 ! (λ l₃₁. alloc1 ! (λ l₃₂. alloc1 ! (λ l₃₃. alloc1 ! (λ l₃₄. alloc1 ! (λ l₃₅. alloc1 ! (λ l₃₆. alloc1 ! (λ l₃₇. alloc1 ! (λ l₃₈. alloc1 ! (λ l₃₉. alloc1 ! (λ l₄₀. alloc1 ! (λ l₄₁. alloc1 ! (λ l₄₂. alloc1 ! (λ l₄₃. alloc1 ! (λ l₄₄. alloc1 ! (λ l₄₅. alloc1 ! (λ l₄₆. alloc1 ! (λ l₄₇. alloc1 ! (λ l₄₈. alloc1 ! (λ l₄₉. alloc1 ! (λ l₅₀. alloc1 ! (λ l₅₁. alloc0 ! $ params1 ! $
-        pass1 ! (init ! 100 refl (uint-lawful 𝓤 H A W w64 .typed x₁ _ is₁ .0)) $ pass1 ! (init ! 98 refl (uint-lawful 𝓤 H A W w64 .typed x₂ _ is₂ .0)) $
-        pass1 ! (init ! 96 refl (uint-lawful 𝓤 H A W w32 .typed x₃ _ is₃ .0)) $ pass1 ! (init ! 94 refl (tt, (tt, (record { fits = room₄ .0 }, tt)))) $
-        pass1 ! (init ! 92 refl (tt, (tt, (record { fits = room₅ .0 }, tt)))) $ pass1 ! (init ! 90 refl (tt, (tt, (record { fits = room₆ .0 }, tt)))) $
-        pass1 ! (init ! 88 refl (tt, (tt, (record { fits = room₇ .0 }, tt)))) $ pass1 ! (init ! 86 refl (uint-lawful 𝓤 H A W w64 .typed x₈ _ is₈ .0)) $
-        pass1 ! (init ! 84 refl (uint-lawful 𝓤 H A W w64 .typed x₉ _ is₉ .0)) $ pass1 ! (init ! 82 refl (uint-lawful 𝓤 H A W w32 .typed x₁₀ _ is₁₀ .0)) $
-        pass1 ! (init ! 80 refl (tt, (tt, (record { fits = room₁₁ .0 }, tt)))) $ pass1 ! (init ! 78 refl (tt, (tt, (record { fits = room₁₂ .0 }, tt)))) $
-        pass1 ! (init ! 76 refl (tt, (tt, (record { fits = room₁₃ .0 }, tt)))) $ pass1 ! (init ! 74 refl (tt, (tt, (record { fits = room₁₄ .0 }, tt)))) $
-        pass1 ! (init ! 72 refl (float-lawful 𝓤 H A W binary64 .typed x₁₅ _ is₁₅ .0)) $
-        pass1 ! (init ! 70 refl (float-lawful 𝓤 H A W binary64 .typed x₁₆ _ is₁₆ .0)) $
-        pass1 ! (init ! 68 refl (uint-lawful 𝓤 H A W w64 .typed x₁₇ _ is₁₇ .0)) $ pass1 ! (init ! 66 refl (uint-lawful 𝓤 H A W w64 .typed x₁₈ _ is₁₈ .0)) $
-        pass1 ! (init ! 64 refl (tt, (tt, (record { fits = room₁₉ .0 }, tt)))) $ pass1 ! (init ! 62 refl (tt, (tt, (record { fits = room₂₀ .0 }, tt)))) $
-        pass1 ! (init ! 60 refl (tt, (tt, (record { fits = room₂₁ .0 }, tt)))) $ pass1 ! (init ! 58 refl (tt, (tt, (record { fits = room₂₂ .0 }, tt)))) $
-        pass1 ! (init ! 56 refl (tt, (tt, (record { fits = room₂₃ .0 }, tt)))) $ pass1 ! (init ! 54 refl (tt, (tt, (record { fits = room₂₄ .0 }, tt)))) $
-        pass1 ! (init ! 52 refl (tt, tt)) $ pass1 ! (init ! 50 refl (tt, tt)) $ pass1 ! (init ! 48 refl (tt, tt)) $ pass1 ! (init ! 46 refl (tt, tt)) $
-        pass1 ! (init ! 44 refl (tt, tt)) $ pass1 ! (init ! 42 refl (tt, tt)) $ pass0 ! $
-        assigns ! (addr ! (from ! (fld ! refl (hop ! (look-in ! 64 (sub ! 0 refl (whole !))) (stop !))))) (from ! (stop !)) (init ! 36 refl (tt, tt)) $
-        assigns ! (agg ! (and-then ! (load ! (from ! (stop !)) (look ! 36 refl)) (and-then ! (load ! (from ! (fld ! refl (stop !))) (look-in ! 64 (sub ! 1 refl (whole !)))) (no-more !)))) (from ! (stop !)) (init ! 34 refl (tt, (tt, (record { fits = room₁₉ .0 }, tt)))) $
-        assigns ! (addr ! (from ! (fld ! refl (hop ! (look-in ! 62 (sub ! 0 refl (whole !))) (stop !))))) (from ! (stop !)) (init ! 32 refl (tt, tt)) $
-        assigns ! (agg ! (and-then ! (load ! (from ! (stop !)) (look ! 32 refl)) (and-then ! (load ! (from ! (fld ! refl (stop !))) (look-in ! 62 (sub ! 1 refl (whole !)))) (no-more !)))) (from ! (stop !)) (init ! 30 refl (tt, (tt, (record { fits = room₂₀ .0 }, tt)))) $
-        assigns ! (addr ! (from ! (fld ! refl (hop ! (look-in ! 60 (sub ! 0 refl (whole !))) (stop !))))) (from ! (stop !)) (init ! 28 refl (tt, tt)) $
-        assigns ! (agg ! (and-then ! (load ! (from ! (stop !)) (look ! 28 refl)) (and-then ! (load ! (from ! (fld ! refl (stop !))) (look-in ! 60 (sub ! 1 refl (whole !)))) (no-more !)))) (from ! (stop !)) (init ! 26 refl (tt, (tt, (record { fits = room₂₁ .0 }, tt)))) $
-        assigns ! (addr ! (from ! (fld ! refl (hop ! (look-in ! 58 (sub ! 0 refl (whole !))) (stop !))))) (from ! (stop !)) (init ! 24 refl (tt, tt)) $
-        assigns ! (agg ! (and-then ! (load ! (from ! (stop !)) (look ! 24 refl)) (and-then ! (load ! (from ! (fld ! refl (stop !))) (look-in ! 58 (sub ! 1 refl (whole !)))) (no-more !)))) (from ! (stop !)) (init ! 22 refl (tt, (tt, (record { fits = room₂₂ .0 }, tt)))) $
-        assigns ! (addr ! (from ! (fld ! refl (hop ! (look-in ! 56 (sub ! 0 refl (whole !))) (stop !))))) (from ! (stop !)) (init ! 20 refl (tt, tt)) $
-        assigns ! (agg ! (and-then ! (load ! (from ! (stop !)) (look ! 20 refl)) (and-then ! (load ! (from ! (fld ! refl (stop !))) (look-in ! 56 (sub ! 1 refl (whole !)))) (no-more !)))) (from ! (stop !)) (init ! 18 refl (tt, (tt, (record { fits = room₂₃ .0 }, tt)))) $
-        assigns ! (of-opd ! (load ! (from ! (fld ! refl (stop !))) (look-in ! 54 (sub ! 1 refl (whole !))))) (from ! (stop !)) (init ! 16 refl (tt, record { fits = room₂₄ .0 })) $
+        stands ! _ _ ((uint-lawful 𝓤 H A W w64 .typed x₁ _ is₁ .0), ((uint-lawful 𝓤 H A W w64 .typed x₂ _ is₂ .0), ((uint-lawful 𝓤 H A W w32 .typed x₃ _ is₃ .0), ((tt, (tt, (record { fits = room₄ .0 }, tt))), ((tt, (tt, (record { fits = room₅ .0 }, tt))), ((tt, (tt, (record { fits = room₆ .0 }, tt))), ((tt, (tt, (record { fits = room₇ .0 }, tt))), ((uint-lawful 𝓤 H A W w64 .typed x₈ _ is₈ .0), ((uint-lawful 𝓤 H A W w64 .typed x₉ _ is₉ .0), ((uint-lawful 𝓤 H A W w32 .typed x₁₀ _ is₁₀ .0), ((tt, (tt, (record { fits = room₁₁ .0 }, tt))), ((tt, (tt, (record { fits = room₁₂ .0 }, tt))), ((tt, (tt, (record { fits = room₁₃ .0 }, tt))), ((tt, (tt, (record { fits = room₁₄ .0 }, tt))), ((float-lawful 𝓤 H A W binary64 .typed x₁₅ _ is₁₅ .0), ((float-lawful 𝓤 H A W binary64 .typed x₁₆ _ is₁₆ .0), ((uint-lawful 𝓤 H A W w64 .typed x₁₇ _ is₁₇ .0), ((uint-lawful 𝓤 H A W w64 .typed x₁₈ _ is₁₈ .0), ((tt, (tt, (record { fits = room₁₉ .0 }, tt))), ((tt, (tt, (record { fits = room₂₀ .0 }, tt))), ((tt, (tt, (record { fits = room₂₁ .0 }, tt))), ((tt, (tt, (record { fits = room₂₂ .0 }, tt))), ((tt, (tt, (record { fits = room₂₃ .0 }, tt))), ((tt, (tt, (record { fits = room₂₄ .0 }, tt))), ((tt, tt), ((tt, tt), ((tt, tt), ((tt, tt), ((tt, tt), ((tt, tt), tt)))))))))))))))))))))))))))))) (λ l₀ l₁ l₂ l₃ l₄ l₅ l₆ l₇ l₈ l₉ l₁₀ l₁₁ l₁₂ l₁₃ l₁₄ l₁₅ l₁₆ l₁₇ l₁₈ l₁₉ l₂₀ l₂₁ l₂₂ l₂₃ l₂₄ l₂₅ l₂₆ l₂₇ l₂₈ l₂₉ l₃₀ l₃₁ l₃₂ l₃₃ l₃₄ l₃₅ l₃₆ l₃₇ l₃₈ l₃₉ l₄₀ l₄₁ l₄₂ l₄₃ l₄₄ l₄₅ l₄₆ l₄₇ l₄₈ l₄₉ l₅₀ l₅₁.
+        assigns ! (addr ! (from ! (fld ! refl (hop ! (look-in ! 38 (sub ! 0 refl (whole !))) (stop !))))) (from ! (stop !)) (init ! 66 refl (tt, tt)) $
+        assigns ! (agg ! (and-then ! (load ! (from ! (stop !)) (look ! 66 refl)) (and-then ! (load ! (from ! (fld ! refl (stop !))) (look-in ! 38 (sub ! 1 refl (whole !)))) (no-more !)))) (from ! (stop !)) (init ! 68 refl (tt, (tt, (record { fits = room₁₉ .0 }, tt)))) $
+        assigns ! (addr ! (from ! (fld ! refl (hop ! (look-in ! 40 (sub ! 0 refl (whole !))) (stop !))))) (from ! (stop !)) (init ! 70 refl (tt, tt)) $
+        assigns ! (agg ! (and-then ! (load ! (from ! (stop !)) (look ! 70 refl)) (and-then ! (load ! (from ! (fld ! refl (stop !))) (look-in ! 40 (sub ! 1 refl (whole !)))) (no-more !)))) (from ! (stop !)) (init ! 72 refl (tt, (tt, (record { fits = room₂₀ .0 }, tt)))) $
+        assigns ! (addr ! (from ! (fld ! refl (hop ! (look-in ! 42 (sub ! 0 refl (whole !))) (stop !))))) (from ! (stop !)) (init ! 74 refl (tt, tt)) $
+        assigns ! (agg ! (and-then ! (load ! (from ! (stop !)) (look ! 74 refl)) (and-then ! (load ! (from ! (fld ! refl (stop !))) (look-in ! 42 (sub ! 1 refl (whole !)))) (no-more !)))) (from ! (stop !)) (init ! 76 refl (tt, (tt, (record { fits = room₂₁ .0 }, tt)))) $
+        assigns ! (addr ! (from ! (fld ! refl (hop ! (look-in ! 44 (sub ! 0 refl (whole !))) (stop !))))) (from ! (stop !)) (init ! 78 refl (tt, tt)) $
+        assigns ! (agg ! (and-then ! (load ! (from ! (stop !)) (look ! 78 refl)) (and-then ! (load ! (from ! (fld ! refl (stop !))) (look-in ! 44 (sub ! 1 refl (whole !)))) (no-more !)))) (from ! (stop !)) (init ! 80 refl (tt, (tt, (record { fits = room₂₂ .0 }, tt)))) $
+        assigns ! (addr ! (from ! (fld ! refl (hop ! (look-in ! 46 (sub ! 0 refl (whole !))) (stop !))))) (from ! (stop !)) (init ! 82 refl (tt, tt)) $
+        assigns ! (agg ! (and-then ! (load ! (from ! (stop !)) (look ! 82 refl)) (and-then ! (load ! (from ! (fld ! refl (stop !))) (look-in ! 46 (sub ! 1 refl (whole !)))) (no-more !)))) (from ! (stop !)) (init ! 84 refl (tt, (tt, (record { fits = room₂₃ .0 }, tt)))) $
+        assigns ! (of-opd ! (load ! (from ! (fld ! refl (stop !))) (look-in ! 48 (sub ! 1 refl (whole !))))) (from ! (stop !)) (init ! 86 refl (tt, record { fits = room₂₄ .0 })) $
         move ! (104 ∷ 105 ∷ []) $
         use2 W (raw (Measures 𝓤 H A at-mem run .pre to-measures) ⊛ ‵ (flft κ₁₃ q₁₃) ⊛ ‵ ((MutSlice (named 13) κ₁₃ R.the-row) .own x₂₄ (sliceVal (x₂₄ .ptr) (length (x₂₄ .now)) ∷ [])) ⊛ (‵ (flft κ₁₄ q₁₄) ⊛ ‵ (flft κ₁₅ q₁₅) ⊛ ‵ (flft κ₁₆ q₁₆) ⊛ ‵ (flft κ₁₇ q₁₇) ⊛ ‵ (flft κ₁₈ q₁₈) ⊛ ‵ (flft κ₁₉ q₁₉) ⊛ ‵ ftrue) ⊛ ‵ own-refs) goes-measures $
         split ! $ move ! (1 ∷ []) $ split ! $ move ! (1 ∷ []) $ split ! $ move ! (1 ∷ []) $ split ! $ move ! (4 ∷ []) $
-        calls-at ! fm (Measures 𝓤 H A at-mem run) known-measures to-measures (and-then ! (load ! (from ! (stop !)) (look ! 105 refl)) (and-then ! (load ! (from ! (stop !)) (look ! 103 refl)) (and-then ! (load ! (from ! (stop !)) (look ! 101 refl)) (and-then ! (load ! (from ! (stop !)) (look ! 99 refl)) (and-then ! (load ! (from ! (stop !)) (look ! 97 refl)) (and-then ! (load ! (from ! (stop !)) (look ! 95 refl)) (and-then ! (load ! (from ! (stop !)) (look ! 93 refl)) (and-then ! (load ! (from ! (stop !)) (look ! 91 refl)) (and-then ! (load ! (from ! (stop !)) (look ! 89 refl)) (and-then ! (load ! (from ! (stop !)) (look ! 87 refl)) (and-then ! (load ! (from ! (stop !)) (look ! 85 refl)) (and-then ! (load ! (from ! (stop !)) (look ! 83 refl)) (and-then ! (load ! (from ! (stop !)) (look ! 81 refl)) (and-then ! (load ! (from ! (stop !)) (look ! 79 refl)) (and-then ! (load ! (from ! (stop !)) (look ! 77 refl)) (and-then ! (load ! (from ! (stop !)) (look ! 75 refl)) (and-then ! (load ! (from ! (stop !)) (look ! 73 refl)) (and-then ! (load ! (from ! (stop !)) (look ! 71 refl)) (and-then ! (load ! (from ! (stop !)) (look ! 39 refl)) (and-then ! (load ! (from ! (stop !)) (look ! 35 refl)) (and-then ! (load ! (from ! (stop !)) (look ! 31 refl)) (and-then ! (load ! (from ! (stop !)) (look ! 27 refl)) (and-then ! (load ! (from ! (stop !)) (look ! 23 refl)) (and-then ! (load ! (from ! (stop !)) (look ! 21 refl)) (no-more !))))))))))))))))))))))))) (λ tv.
+        calls-at ! fm (Measures 𝓤 H A at-mem run) known-measures to-measures (and-then ! (load ! (from ! (stop !)) (look ! 7 refl)) (and-then ! (load ! (from ! (stop !)) (look ! 9 refl)) (and-then ! (load ! (from ! (stop !)) (look ! 11 refl)) (and-then ! (load ! (from ! (stop !)) (look ! 13 refl)) (and-then ! (load ! (from ! (stop !)) (look ! 15 refl)) (and-then ! (load ! (from ! (stop !)) (look ! 17 refl)) (and-then ! (load ! (from ! (stop !)) (look ! 19 refl)) (and-then ! (load ! (from ! (stop !)) (look ! 21 refl)) (and-then ! (load ! (from ! (stop !)) (look ! 23 refl)) (and-then ! (load ! (from ! (stop !)) (look ! 25 refl)) (and-then ! (load ! (from ! (stop !)) (look ! 27 refl)) (and-then ! (load ! (from ! (stop !)) (look ! 29 refl)) (and-then ! (load ! (from ! (stop !)) (look ! 31 refl)) (and-then ! (load ! (from ! (stop !)) (look ! 33 refl)) (and-then ! (load ! (from ! (stop !)) (look ! 35 refl)) (and-then ! (load ! (from ! (stop !)) (look ! 37 refl)) (and-then ! (load ! (from ! (stop !)) (look ! 39 refl)) (and-then ! (load ! (from ! (stop !)) (look ! 41 refl)) (and-then ! (load ! (from ! (stop !)) (look ! 73 refl)) (and-then ! (load ! (from ! (stop !)) (look ! 77 refl)) (and-then ! (load ! (from ! (stop !)) (look ! 81 refl)) (and-then ! (load ! (from ! (stop !)) (look ! 85 refl)) (and-then ! (load ! (from ! (stop !)) (look ! 89 refl)) (and-then ! (load ! (from ! (stop !)) (look ! 91 refl)) (no-more !))))))))))))))))))))))))) (λ tv.
         use1 W (later (some (λ (t : Told). ((‵ (flft κ₀ q₀) ⊛ ‵ (flft κ₁ q₁) ⊛ ‵ (flft κ₂ q₂) ⊛ ‵ (flft κ₃ q₃) ⊛ ‵ (flft κ₄ q₄) ⊛ ‵ (flft κ₅ q₅) ⊛ ‵ (flft κ₆ q₆) ⊛ ‵ (flft κ₇ q₇) ⊛ ‵ (flft κ₈ q₈) ⊛ ‵ (flft κ₉ q₉) ⊛ ‵ (flft κ₁₀ q₁₀) ⊛ ‵ (flft κ₁₁ q₁₁) ⊛ ‵ (flft κ₁₂ q₁₂) ⊛ ‵ ftrue) ⊛ ‵ (T.the-row .own t (tv ∷ []))) ⊛ raw (ensured 𝓤 H A measures.ended (measures.clauses 𝓤 H A at-mem run) (κ₀, (κ₁, (κ₂, (κ₃, (κ₄, (κ₅, (κ₆, (κ₇, (κ₈, (κ₉, (κ₁₀, (κ₁₁, (κ₁₂, tt))))))))))))) (x₁, (x₂, (x₃, (x₄, (x₅, (x₆, (x₇, (x₈, (x₉, (x₁₀, (x₁₁, (x₁₂, (x₁₃, (x₁₄, (x₁₅, (x₁₆, (x₁₇, (x₁₈, (x₁₉, (x₂₀, (x₂₁, (x₂₂, (x₂₃, ((length (x₂₄ .now)), tt)))))))))))))))))))))))) tt t)))) (id⊢ 𝓤 _) $
         await ! tt $ pick ! (λ t. split ! $ move ! (1 ∷ []) $
         use1 W (some (λ (ws : Lasts measures.ended (κ₀, (κ₁, (κ₂, (κ₃, (κ₄, (κ₅, (κ₆, (κ₇, (κ₈, (κ₉, (κ₁₀, (κ₁₁, (κ₁₂, tt))))))))))))) (x₁, (x₂, (x₃, (x₄, (x₅, (x₆, (x₇, (x₈, (x₉, (x₁₀, (x₁₁, (x₁₂, (x₁₃, (x₁₄, (x₁₅, (x₁₆, (x₁₇, (x₁₈, (x₁₉, (x₂₀, (x₂₁, (x₂₂, (x₂₃, ((length (x₂₄ .now)), tt))))))))))))))))))))))))). ‵ (lasts measures.ended (κ₀, (κ₁, (κ₂, (κ₃, (κ₄, (κ₅, (κ₆, (κ₇, (κ₈, (κ₉, (κ₁₀, (κ₁₁, (κ₁₂, tt))))))))))))) (x₁, (x₂, (x₃, (x₄, (x₅, (x₆, (x₇, (x₈, (x₉, (x₁₀, (x₁₁, (x₁₂, (x₁₃, (x₁₄, (x₁₅, (x₁₆, (x₁₇, (x₁₈, (x₁₉, (x₂₀, (x₂₁, (x₂₂, (x₂₃, ((length (x₂₄ .now)), tt)))))))))))))))))))))))) ws) ⊛ raw (fact 𝓤 (ranAs t (ws .1 .1 .1 .1 .1 .1 .1 .1 .1 .1 .1 .1 .1 .1 .1 .1 .1 .1 .0) (ws .1 .1 .1 .1 .1 .1 .1 .1 .1 .1 .1 .1 .1 .1 .1 .1 .1 .1 .1 .0) (ws .1 .1 .1 .1 .1 .1 .1 .1 .1 .1 .1 .1 .1 .1 .1 .1 .1 .1 .1 .1 .0) (ws .1 .1 .1 .1 .1 .1 .1 .1 .1 .1 .1 .1 .1 .1 .1 .1 .1 .1 .1 .1 .1 .0) (ws .1 .1 .1 .1 .1 .1 .1 .1 .1 .1 .1 .1 .1 .1 .1 .1 .1 .1 .1 .1 .1 .1 .0) ≡ measuredOf (shape x₁ x₂ x₃) (chainColumns (x₄ .now) (x₅ .now) (x₆ .now) (x₇ .now)) (shape x₈ x₉ x₁₀) (chainColumns (x₁₁ .now) (x₁₂ .now) (x₁₃ .now) (x₁₄ .now)) x₁₅ (options x₁₆ x₁₇ x₁₈) (x₁₉ .now) (x₂₀ .now) (x₂₁ .now) (x₂₂ .now) (x₂₃ .now) (length (x₂₄ .now)))))) (id⊢ 𝓤 _) $
         pick ! (λ ws. split ! $ move ! (1 ∷ []) $
         heard ! (ranAs t (ws .1 .1 .1 .1 .1 .1 .1 .1 .1 .1 .1 .1 .1 .1 .1 .1 .1 .1 .0) (ws .1 .1 .1 .1 .1 .1 .1 .1 .1 .1 .1 .1 .1 .1 .1 .1 .1 .1 .1 .0) (ws .1 .1 .1 .1 .1 .1 .1 .1 .1 .1 .1 .1 .1 .1 .1 .1 .1 .1 .1 .1 .0) (ws .1 .1 .1 .1 .1 .1 .1 .1 .1 .1 .1 .1 .1 .1 .1 .1 .1 .1 .1 .1 .1 .0) (ws .1 .1 .1 .1 .1 .1 .1 .1 .1 .1 .1 .1 .1 .1 .1 .1 .1 .1 .1 .1 .1 .1 .0) ≡ measuredOf (shape x₁ x₂ x₃) (chainColumns (x₄ .now) (x₅ .now) (x₆ .now) (x₇ .now)) (shape x₈ x₉ x₁₀) (chainColumns (x₁₁ .now) (x₁₂ .now) (x₁₃ .now) (x₁₄ .now)) x₁₅ (options x₁₆ x₁₇ x₁₈) (x₁₉ .now) (x₂₀ .now) (x₂₁ .now) (x₂₂ .now) (x₂₃ .now) (length (x₂₄ .now))) (λ ran.
         move ! (1 ∷ []) $ split ! $ move ! (1 ∷ []) $ peeks ! T.the-row (Is T.the-row) (shows 𝓤 H A T.the-row) t (tv ∷ []) (λ is-t.
-        land ! (from ! (stop !)) (init ! 47 refl (LL.lawful T.the-type T′.the-laws 𝓤 H A W .typed t _ is-t .0)) $
-        assigns ! (addr ! (from ! (fld ! refl (hop ! (look-in ! 61 (sub ! 0 refl (whole !))) (stop !))))) (from ! (stop !)) (init ! 21 refl (tt, tt)) $
-        assigns ! (agg ! (and-then ! (load ! (from ! (stop !)) (look ! 21 refl)) (and-then ! (load ! (from ! (fld ! refl (stop !))) (look-in ! 61 (sub ! 1 refl (whole !)))) (no-more !)))) (from ! (stop !)) (init ! 19 refl (tt, (tt, (record { fits = room₂₄ .0 }, tt)))) $
+        land ! (from ! (stop !)) (init ! 69 refl (LL.lawful T.the-type T′.the-laws 𝓤 H A W .typed t _ is-t .0)) $
+        assigns ! (addr ! (from ! (fld ! refl (hop ! (look-in ! 55 (sub ! 0 refl (whole !))) (stop !))))) (from ! (stop !)) (init ! 95 refl (tt, tt)) $
+        assigns ! (agg ! (and-then ! (load ! (from ! (stop !)) (look ! 95 refl)) (and-then ! (load ! (from ! (fld ! refl (stop !))) (look-in ! 55 (sub ! 1 refl (whole !)))) (no-more !)))) (from ! (stop !)) (init ! 97 refl (tt, (tt, (record { fits = room₂₄ .0 }, tt)))) $
         nothing ! $ move ! (1 ∷ 0 ∷ []) $ fjoin ! $ move ! (5 ∷ 0 ∷ []) $ fjoin ! $ nothing ! $ move ! (6 ∷ 0 ∷ []) $ join ! $
         use2 W (raw (Hands 𝓤 H A at-mem run .pre (to-hands t tv))) (goes-hands t tv) $
-        calls-at ! fm (Hands 𝓤 H A at-mem run) known-hands (to-hands t tv) (and-then ! (load ! (from ! (stop !)) (look ! 17 refl)) (and-then ! (load ! (from ! (stop !)) (look ! 45 refl)) (no-more !))) (λ rv.
+        calls-at ! fm (Hands 𝓤 H A at-mem run) known-hands (to-hands t tv) (and-then ! (load ! (from ! (stop !)) (look ! 95 refl)) (and-then ! (load ! (from ! (stop !)) (look ! 67 refl)) (no-more !))) (λ rv.
         use1 W (later (some (λ (r : Measured). ((‵ (flft κ₁₃ q₁₃) ⊛ ‵ ftrue) ⊛ ‵ (S.the-row .own r (rv ∷ []))) ⊛ raw (ensured 𝓤 H A hands.ended (hands.clauses 𝓤 H A at-mem run) (κ₁₃, tt) (x₂₄, (t, tt)) tt r)))) (id⊢ 𝓤 _) $
         await ! tt $ pick ! (λ r. split ! $ move ! (1 ∷ []) $
         use1 W (some (λ (us : Lasts hands.ended (κ₁₃, tt) (x₂₄, (t, tt))). ‵ (lasts hands.ended (κ₁₃, tt) (x₂₄, (t, tt)) us) ⊛ raw (fact 𝓤 (handed r (us .0) ≡ handOut t (x₂₄ .now))))) (id⊢ 𝓤 _) $
         pick ! (λ us. split ! $ move ! (1 ∷ []) $ heard ! (handed r (us .0) ≡ handOut t (x₂₄ .now)) (λ out. move ! (1 ∷ []) $ split ! $ move ! (1 ∷ []) $
         peeks ! S.the-row (Is S.the-row) (shows 𝓤 H A S.the-row) r (rv ∷ []) (λ is-r.
-        land ! (from ! (stop !)) (init ! 45 refl (EL.lawful S.the-type S′.the-laws 𝓤 H A W tt .typed r _ is-r .0)) $
-        assigns ! (addr ! (from ! (hop ! (look ! 59 refl) (stop !)))) (from ! (stop !)) (init ! 17 refl (tt, tt)) $
-        assigns ! (addr ! (from ! (hop ! (look ! 57 refl) (stop !)))) (from ! (stop !)) (init ! 15 refl (tt, tt)) $
-        assigns ! (addr ! (from ! (hop ! (look ! 55 refl) (stop !)))) (from ! (stop !)) (init ! 13 refl (tt, tt)) $
-        assigns ! (addr ! (from ! (hop ! (look ! 53 refl) (stop !)))) (from ! (stop !)) (init ! 11 refl (tt, tt)) $
-        assigns ! (addr ! (from ! (hop ! (look ! 51 refl) (stop !)))) (from ! (stop !)) (init ! 9 refl (tt, tt)) $
-        assigns ! (addr ! (from ! (hop ! (look ! 49 refl) (stop !)))) (from ! (stop !)) (init ! 7 refl (tt, tt)) $ move ! (0 ∷ 6 ∷ []) $ fjoin ! $
+        land ! (from ! (stop !)) (init ! 71 refl (EL.lawful S.the-type S′.the-laws 𝓤 H A W tt .typed r _ is-r .0)) $
+        assigns ! (addr ! (from ! (hop ! (look ! 57 refl) (stop !)))) (from ! (stop !)) (init ! 99 refl (tt, tt)) $
+        assigns ! (addr ! (from ! (hop ! (look ! 59 refl) (stop !)))) (from ! (stop !)) (init ! 101 refl (tt, tt)) $
+        assigns ! (addr ! (from ! (hop ! (look ! 61 refl) (stop !)))) (from ! (stop !)) (init ! 103 refl (tt, tt)) $
+        assigns ! (addr ! (from ! (hop ! (look ! 63 refl) (stop !)))) (from ! (stop !)) (init ! 105 refl (tt, tt)) $
+        assigns ! (addr ! (from ! (hop ! (look ! 65 refl) (stop !)))) (from ! (stop !)) (init ! 107 refl (tt, tt)) $
+        assigns ! (addr ! (from ! (hop ! (look ! 67 refl) (stop !)))) (from ! (stop !)) (init ! 109 refl (tt, tt)) $ move ! (0 ∷ 6 ∷ []) $ fjoin ! $
         move ! (5 ∷ 0 ∷ []) $ use2 W (raw (Puts 𝓤 H A at-mem run .pre (to-puts r rv))) (goes-puts r rv) $
-        calls-at ! fm (Puts 𝓤 H A at-mem run) known-puts (to-puts r rv) (and-then ! (load ! (from ! (stop !)) (look ! 43 refl)) (and-then ! (load ! (from ! (stop !)) (look ! 15 refl)) (and-then ! (load ! (from ! (stop !)) (look ! 13 refl)) (and-then ! (load ! (from ! (stop !)) (look ! 11 refl)) (and-then ! (load ! (from ! (stop !)) (look ! 9 refl)) (and-then ! (load ! (from ! (stop !)) (look ! 7 refl)) (and-then ! (load ! (from ! (stop !)) (look ! 5 refl)) (no-more !)))))))) (λ v.
+        calls-at ! fm (Puts 𝓤 H A at-mem run) known-puts (to-puts r rv) (and-then ! (load ! (from ! (stop !)) (look ! 69 refl)) (and-then ! (load ! (from ! (stop !)) (look ! 97 refl)) (and-then ! (load ! (from ! (stop !)) (look ! 99 refl)) (and-then ! (load ! (from ! (stop !)) (look ! 101 refl)) (and-then ! (load ! (from ! (stop !)) (look ! 103 refl)) (and-then ! (load ! (from ! (stop !)) (look ! 105 refl)) (and-then ! (load ! (from ! (stop !)) (look ! 107 refl)) (no-more !)))))))) (λ v.
         use1 W (later (some (λ (k : ℕ). ((‵ (flft κ₁₄ q₁₄) ⊛ ‵ (flft κ₁₅ q₁₅) ⊛ ‵ (flft κ₁₆ q₁₆) ⊛ ‵ (flft κ₁₇ q₁₇) ⊛ ‵ (flft κ₁₈ q₁₈) ⊛ ‵ (flft κ₁₉ q₁₉) ⊛ ‵ ftrue) ⊛ ‵ (u32 .own k (v ∷ []))) ⊛ raw (ensured 𝓤 H A puts.ended (puts.clauses 𝓤 H A at-mem run) (κ₁₄, (κ₁₅, (κ₁₆, (κ₁₇, (κ₁₈, (κ₁₉, tt)))))) (r, (x₂₅, (x₂₆, (x₂₇, (x₂₈, (x₂₉, (x₃₀, tt))))))) tt k)))) (id⊢ 𝓤 _) $
         await ! tt $ pick ! (λ k. split ! $ move ! (1 ∷ []) $
         use1 W (some (λ (vs : Lasts puts.ended (κ₁₄, (κ₁₅, (κ₁₆, (κ₁₇, (κ₁₈, (κ₁₉, tt)))))) (r, (x₂₅, (x₂₆, (x₂₇, (x₂₈, (x₂₉, (x₃₀, tt)))))))). ‵ (lasts puts.ended (κ₁₄, (κ₁₅, (κ₁₆, (κ₁₇, (κ₁₈, (κ₁₉, tt)))))) (r, (x₂₅, (x₂₆, (x₂₇, (x₂₈, (x₂₉, (x₃₀, tt))))))) vs) ⊛ raw (fact 𝓤 (replied k (vs .1 .0) (vs .1 .1 .0) (vs .1 .1 .1 .0) (vs .1 .1 .1 .1 .0) (vs .1 .1 .1 .1 .1 .0) (vs .1 .1 .1 .1 .1 .1 .0) ≡ ofMeasured r (x₂₅ .now) (x₂₆ .now) (x₂₇ .now) (x₂₈ .now) (x₂₉ .now) (x₃₀ .now))))) (id⊢ 𝓤 _) $
         pick ! (λ vs. split ! $ move ! (1 ∷ []) $
         heard ! (replied k (vs .1 .0) (vs .1 .1 .0) (vs .1 .1 .1 .0) (vs .1 .1 .1 .1 .0) (vs .1 .1 .1 .1 .1 .0) (vs .1 .1 .1 .1 .1 .1 .0) ≡ ofMeasured r (x₂₅ .now) (x₂₆ .now) (x₂₇ .now) (x₂₈ .now) (x₂₉ .now) (x₃₀ .now)) (λ put-is.
         move ! (1 ∷ []) $ split ! $ move ! (1 ∷ []) $ peeks ! u32 (Is u32) (shows 𝓤 H A u32) k (v ∷ []) (λ is-k.
-        land ! (from ! (stop !)) (init ! 109 refl (uint-lawful 𝓤 H A W w32 .typed k _ is-k .0)) $ returns ! (look ! 109 refl) $ forget ! 109 refl $
-        forget ! 107 refl $ forget ! 105 refl $ forget ! 103 refl $ forget ! 101 refl $ forget ! 99 refl $ forget ! 97 refl $ forget ! 95 refl $
-        forget ! 93 refl $ forget ! 91 refl $ forget ! 89 refl $ forget ! 87 refl $ forget ! 85 refl $ forget ! 83 refl $ forget ! 81 refl $ forget ! 79 refl $
-        forget ! 77 refl $ forget ! 75 refl $ forget ! 73 refl $ forget ! 71 refl $ forget ! 69 refl $ forget ! 67 refl $ forget ! 65 refl $ forget ! 63 refl $
-        forget ! 61 refl $ forget ! 59 refl $ forget ! 57 refl $ forget ! 55 refl $ forget ! 53 refl $ forget ! 51 refl $ forget ! 49 refl $ forget ! 47 refl $
-        forget ! 45 refl $ forget ! 43 refl $ forget ! 41 refl $ forget ! 39 refl $ forget ! 37 refl $ forget ! 35 refl $ forget ! 33 refl $ forget ! 31 refl $
-        forget ! 29 refl $ forget ! 27 refl $ forget ! 25 refl $ forget ! 23 refl $ forget ! 21 refl $ forget ! 19 refl $ forget ! 17 refl $ forget ! 15 refl $
-        forget ! 13 refl $ forget ! 11 refl $ forget ! 9 refl $ forget ! 7 refl $ move ! (109 ∷ 110 ∷ []) $ free1 ! $ move ! (107 ∷ 108 ∷ []) $ free1 ! $
-        move ! (105 ∷ 106 ∷ []) $ free1 ! $ move ! (103 ∷ 104 ∷ []) $ free1 ! $ move ! (101 ∷ 102 ∷ []) $ free1 ! $ move ! (99 ∷ 100 ∷ []) $ free1 ! $
-        move ! (97 ∷ 98 ∷ []) $ free1 ! $ move ! (95 ∷ 96 ∷ []) $ free1 ! $ move ! (93 ∷ 94 ∷ []) $ free1 ! $ move ! (91 ∷ 92 ∷ []) $ free1 ! $
-        move ! (89 ∷ 90 ∷ []) $ free1 ! $ move ! (87 ∷ 88 ∷ []) $ free1 ! $ move ! (85 ∷ 86 ∷ []) $ free1 ! $ move ! (83 ∷ 84 ∷ []) $ free1 ! $
-        move ! (81 ∷ 82 ∷ []) $ free1 ! $ move ! (79 ∷ 80 ∷ []) $ free1 ! $ move ! (77 ∷ 78 ∷ []) $ free1 ! $ move ! (75 ∷ 76 ∷ []) $ free1 ! $
-        move ! (73 ∷ 74 ∷ []) $ free1 ! $ move ! (71 ∷ 72 ∷ []) $ free1 ! $ move ! (69 ∷ 70 ∷ []) $ free1 ! $ move ! (67 ∷ 68 ∷ []) $ free1 ! $
-        move ! (65 ∷ 66 ∷ []) $ free1 ! $ move ! (63 ∷ 64 ∷ []) $ free1 ! $ move ! (61 ∷ 62 ∷ []) $ free1 ! $ move ! (59 ∷ 60 ∷ []) $ free1 ! $
-        move ! (57 ∷ 58 ∷ []) $ free1 ! $ move ! (55 ∷ 56 ∷ []) $ free1 ! $ move ! (53 ∷ 54 ∷ []) $ free1 ! $ move ! (51 ∷ 52 ∷ []) $ free1 ! $
-        move ! (49 ∷ 50 ∷ []) $ free1 ! $ move ! (47 ∷ 48 ∷ []) $ free1 ! $ move ! (45 ∷ 46 ∷ []) $ free1 ! $ move ! (43 ∷ 44 ∷ []) $ free1 ! $
-        move ! (41 ∷ 42 ∷ []) $ free1 ! $ move ! (39 ∷ 40 ∷ []) $ free1 ! $ move ! (37 ∷ 38 ∷ []) $ free1 ! $ move ! (35 ∷ 36 ∷ []) $ free1 ! $
-        move ! (33 ∷ 34 ∷ []) $ free1 ! $ move ! (31 ∷ 32 ∷ []) $ free1 ! $ move ! (29 ∷ 30 ∷ []) $ free1 ! $ move ! (27 ∷ 28 ∷ []) $ free1 ! $
-        move ! (25 ∷ 26 ∷ []) $ free1 ! $ move ! (23 ∷ 24 ∷ []) $ free1 ! $ move ! (21 ∷ 22 ∷ []) $ free1 ! $ move ! (19 ∷ 20 ∷ []) $ free1 ! $
-        move ! (17 ∷ 18 ∷ []) $ free1 ! $ move ! (15 ∷ 16 ∷ []) $ free1 ! $ move ! (13 ∷ 14 ∷ []) $ free1 ! $ move ! (11 ∷ 12 ∷ []) $ free1 ! $
-        move ! (9 ∷ 10 ∷ []) $ free1 ! $ move ! (7 ∷ 8 ∷ []) $ free1 ! $ free0 ! $ move ! (0 ∷ 5 ∷ 6 ∷ 3 ∷ 4 ∷ 1 ∷ 2 ∷ []) $
-        by ! (exits k v t tv r ws us vs ran out put-is))))))))))))))))))))))))))))))))))))))))))))))))))))))))))))))))))))
+        land ! (from ! (stop !)) (init ! 7 refl (uint-lawful 𝓤 H A W w32 .typed k _ is-k .0)) $ returns ! (look ! 7 refl) $
+        move ! (0 ∷ 5 ∷ 6 ∷ 3 ∷ 4 ∷ 1 ∷ 2 ∷ []) $ group ! 7 $
+        leave-all ! _ (v, (vint w64 x₁, (vint w64 x₂, (vint w32 x₃, (sliceVal (x₄ .ptr) (length (x₄ .now)), (sliceVal (x₅ .ptr) (length (x₅ .now)), (sliceVal (x₆ .ptr) (length (x₆ .now)), (sliceVal (x₇ .ptr) (length (x₇ .now)), (vint w64 x₈, (vint w64 x₉, (vint w32 x₁₀, (sliceVal (x₁₁ .ptr) (length (x₁₁ .now)), (sliceVal (x₁₂ .ptr) (length (x₁₂ .now)), (sliceVal (x₁₃ .ptr) (length (x₁₃ .now)), (sliceVal (x₁₄ .ptr) (length (x₁₄ .now)), (vfloat binary64 x₁₅, (vfloat binary64 x₁₆, (vint w64 x₁₇, (vint w64 x₁₈, (sliceVal (x₁₉ .ptr) (length (x₁₉ .now)), (sliceVal (x₂₀ .ptr) (length (x₂₀ .now)), (sliceVal (x₂₁ .ptr) (length (x₂₁ .now)), (sliceVal (x₂₂ .ptr) (length (x₂₂ .now)), (sliceVal (x₂₃ .ptr) (length (x₂₃ .now)), (sliceVal (x₂₄ .ptr) (length (x₂₄ .now)), (vptr (x₂₅ .ptr .0) (x₂₅ .ptr .1), (vptr (x₂₆ .ptr .0) (x₂₆ .ptr .1), (vptr (x₂₇ .ptr .0) (x₂₇ .ptr .1), (vptr (x₂₈ .ptr .0) (x₂₈ .ptr .1), (vptr (x₂₉ .ptr .0) (x₂₉ .ptr .1), (vptr (x₃₀ .ptr .0) (x₃₀ .ptr .1), (tv, (rv, (vptr (x₁₉ .ptr .0) (x₁₉ .ptr .1), (sliceVal (x₁₉ .ptr) (length (x₁₉ .now)), (vptr (x₂₀ .ptr .0) (x₂₀ .ptr .1), (sliceVal (x₂₀ .ptr) (length (x₂₀ .now)), (vptr (x₂₁ .ptr .0) (x₂₁ .ptr .1), (sliceVal (x₂₁ .ptr) (length (x₂₁ .now)), (vptr (x₂₂ .ptr .0) (x₂₂ .ptr .1), (sliceVal (x₂₂ .ptr) (length (x₂₂ .now)), (vptr (x₂₃ .ptr .0) (x₂₃ .ptr .1), (sliceVal (x₂₃ .ptr) (length (x₂₃ .now)), (vint w64 (length (x₂₄ .now)), (vptr (x₂₄ .ptr .0) (x₂₄ .ptr .1), (sliceVal (x₂₄ .ptr) (length (x₂₄ .now)), (vptr (x₂₅ .ptr .0) (x₂₅ .ptr .1), (vptr (x₂₆ .ptr .0) (x₂₆ .ptr .1), (vptr (x₂₇ .ptr .0) (x₂₇ .ptr .1), (vptr (x₂₈ .ptr .0) (x₂₈ .ptr .1), (vptr (x₂₉ .ptr .0) (x₂₉ .ptr .1), (vptr (x₃₀ .ptr .0) (x₃₀ .ptr .1), tt)))))))))))))))))))))))))))))))))))))))))))))))))))) (by ! (exits k v t tv r ws us vs ran out put-is))))))))))))))))))
 
 module _ {M : Type 1} (𝓤 : URA M) (H : Heap 𝓤) (A : Atoms 𝓤) (W : Given 𝓤 H A) (at-mem : Memory → SProp 𝓤) (run : Routine → Fun 𝓤) where
   distance-walks : (C : Calls 𝓤 H) (Λ : Loops 𝓤 H) → FmC 𝓤 H (W .laws) C → Triple 𝓤 (C #measures) (Measures 𝓤 H A at-mem run) → Triple 𝓤 (C #hands) (Hands 𝓤 H A at-mem run) → Triple 𝓤 (C #puts) (Puts 𝓤 H A at-mem run) → Walks 𝓤 H A f.ended stayed (WpFn 𝓤 H C Λ code.function) (f.clauses 𝓤 H A at-mem run)
