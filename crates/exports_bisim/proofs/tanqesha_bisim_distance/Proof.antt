@@ -17,9 +17,9 @@ use prog.Wp.{Heap, Calls, Loops, WpFn, Tables}
 use ghost.Atoms.{Atoms, sem}
 use contract.Monad.{Fun, fact}
 use contract.Running.{givenOf, tables, tablesOf}
-use types.Kit.{Given, Item, ‵, raw, _⊛_, ⋆, some, later, _$_, _∵_, !, qed, by, move, drop, use0, use1, use2, split, join, pick, fsplit, fjoin, feqL, suffices, frame, await, done}
+use types.Kit.{Given, Item, ‵, raw, _⊛_, ⋆, some, later, _$_, _∵_, !, qed, by, move, drop, use0, use1, use2, split, join, pick, fsplit, fjoin, feqL, suffices, frame, await, done, group}
 use types.Part.{agg, whole, sub, look-in}
-use types.Run.{look, init, forget, stop, hop, fld, from, load, addr, of-opd, and-then, no-more, assigns, land, returns, enter, alloc1, alloc0, params1, pass1, pass0}
+use types.Run.{look, init, stop, hop, fld, from, load, addr, of-opd, and-then, no-more, assigns, land, returns, enter}
 use sound.WpLaws.{FmC, fmOf, WpFn-mono}
 use denote.RattleType.{RattleType, owns}
 use denote.Laws.{Is, shows}
@@ -56,10 +56,10 @@ use Rattle.distance_run.proofs.told.Told.Laws as T′
 use Rattle.distance.specs.Measuring.{handed, handOut}
 use Rattle.bisim_measure.specs.Measure.{measuring, bisimMeasure}
 use Rattle.bisim_distance.proofs.Concluding.{concludes}
+use Rattle.distance_replies.proofs.Locals.{stands, leave-all}
 use Rattle.distance_replies.specs.Distances.{Replied, replied, ofMeasured}
 use Rattle.replies.specs.Answers.{initial, shape}
 use Rattle.exports_bisim.specs.Models.{options}
-use Rattle.exports_bisim.proofs.Leaving.{leave-all}
 use Rattle.exports_bisim.proofs.measure_numbers as measures
 use Rattle.exports_bisim.proofs.measure_numbers.Symbol as measures-def
 use Rattle.exports_bisim.proofs.measure_numbers.Symbol.{name as #measures}
@@ -204,122 +204,73 @@ module _ {M : Type 1} (𝓤 : URA M) (H : Heap 𝓤) (A : Atoms 𝓤) (W : Given
     walk =
         qed W ((‵ (flft κ₀ q₀) ⊛ ‵ (flft κ₁ q₁) ⊛ ‵ (flft κ₂ q₂) ⊛ ‵ (flft κ₃ q₃) ⊛ ‵ (flft κ₄ q₄) ⊛ ‵ (flft κ₅ q₅) ⊛ ‵ (flft κ₆ q₆) ⊛ ‵ (flft κ₇ q₇) ⊛ ‵ (flft κ₈ q₈) ⊛ ‵ (flft κ₉ q₉) ⊛ ‵ (flft κ₁₀ q₁₀) ⊛ ‵ (flft κ₁₁ q₁₁) ⊛ ‵ (flft κ₁₂ q₁₂) ⊛ ‵ (flft κ₁₃ q₁₃) ⊛ ‵ (flft κ₁₄ q₁₄) ⊛ ‵ (flft κ₁₅ q₁₅) ⊛ ‵ (flft κ₁₆ q₁₆) ⊛ ‵ (flft κ₁₇ q₁₇) ⊛ ‵ (flft κ₁₈ q₁₈) ⊛ ‵ (flft κ₁₉ q₁₉) ⊛ ‵ (flft κ₂₀ q₂₀) ⊛ ‵ (flft κ₂₁ q₂₁) ⊛ ‵ (flft κ₂₂ q₂₂) ⊛ ‵ (flft κ₂₃ q₂₃) ⊛ ‵ (flft κ₂₄ q₂₄) ⊛ ‵ (flft κ₂₅ q₂₅) ⊛ ‵ (flft κ₂₆ q₂₆) ⊛ ‵ (flft κ₂₇ q₂₇) ⊛ ‵ (flft κ₂₈ q₂₈) ⊛ ‵ (flft κ₂₉ q₂₉) ⊛ ‵ (flft κ₃₀ q₃₀) ⊛ ‵ (flft κ₃₁ q₃₁) ⊛ ‵ ftrue) ∷ ‵ (owns (usize ∷ usize ∷ usize ∷ u32 ∷ u32 ∷ ShrSlice (named 0) κ₀ u32 ∷ ShrSlice (named 1) κ₁ u32 ∷ ShrSlice (named 2) κ₂ u32 ∷ ShrSlice (named 3) κ₃ u32 ∷ ShrSlice (named 4) κ₄ f64 ∷ u32 ∷ ShrSlice (named 5) κ₅ f64 ∷ MutSlice (named 6) κ₆ u32 ∷ MutSlice (named 7) κ₇ u32 ∷ MutSlice (named 8) κ₈ f64 ∷ MutSlice (named 9) κ₉ f64 ∷ usize ∷ usize ∷ usize ∷ u32 ∷ u32 ∷ ShrSlice (named 10) κ₁₀ u32 ∷ ShrSlice (named 11) κ₁₁ u32 ∷ ShrSlice (named 12) κ₁₂ u32 ∷ ShrSlice (named 13) κ₁₃ u32 ∷ ShrSlice (named 14) κ₁₄ f64 ∷ u32 ∷ ShrSlice (named 15) κ₁₅ f64 ∷ MutSlice (named 16) κ₁₆ u32 ∷ MutSlice (named 17) κ₁₇ u32 ∷ MutSlice (named 18) κ₁₈ f64 ∷ MutSlice (named 19) κ₁₉ f64 ∷ f64 ∷ f64 ∷ usize ∷ usize ∷ MutSlice (named 20) κ₂₀ u32 ∷ MutSlice (named 21) κ₂₁ u32 ∷ MutSlice (named 22) κ₂₂ u64 ∷ MutSlice (named 23) κ₂₃ u32 ∷ MutSlice (named 24) κ₂₄ f64 ∷ MutSlice (named 25) κ₂₅ R.the-row ∷ MutRef (named 26) κ₂₆ f64 ∷ MutRef (named 27) κ₂₇ f64 ∷ MutRef (named 28) κ₂₈ f64 ∷ MutRef (named 29) κ₂₉ usize ∷ MutRef (named 30) κ₃₀ usize ∷ MutRef (named 31) κ₃₁ usize ∷ []) a at) ∷ []) ∵
         enter ! C Λ code.function (vint w64 x₁ ∷ vint w64 x₂ ∷ vint w64 x₃ ∷ vint w32 x₄ ∷ vint w32 x₅ ∷ sliceVal (x₆ .ptr) (length (x₆ .now)) ∷ sliceVal (x₇ .ptr) (length (x₇ .now)) ∷ sliceVal (x₈ .ptr) (length (x₈ .now)) ∷ sliceVal (x₉ .ptr) (length (x₉ .now)) ∷ sliceVal (x₁₀ .ptr) (length (x₁₀ .now)) ∷ vint w32 x₁₁ ∷ sliceVal (x₁₂ .ptr) (length (x₁₂ .now)) ∷ sliceVal (x₁₃ .ptr) (length (x₁₃ .now)) ∷ sliceVal (x₁₄ .ptr) (length (x₁₄ .now)) ∷ sliceVal (x₁₅ .ptr) (length (x₁₅ .now)) ∷ sliceVal (x₁₆ .ptr) (length (x₁₆ .now)) ∷ vint w64 x₁₇ ∷ vint w64 x₁₈ ∷ vint w64 x₁₉ ∷ vint w32 x₂₀ ∷ vint w32 x₂₁ ∷ sliceVal (x₂₂ .ptr) (length (x₂₂ .now)) ∷ sliceVal (x₂₃ .ptr) (length (x₂₃ .now)) ∷ sliceVal (x₂₄ .ptr) (length (x₂₄ .now)) ∷ sliceVal (x₂₅ .ptr) (length (x₂₅ .now)) ∷ sliceVal (x₂₆ .ptr) (length (x₂₆ .now)) ∷ vint w32 x₂₇ ∷ sliceVal (x₂₈ .ptr) (length (x₂₈ .now)) ∷ sliceVal (x₂₉ .ptr) (length (x₂₉ .now)) ∷ sliceVal (x₃₀ .ptr) (length (x₃₀ .now)) ∷ sliceVal (x₃₁ .ptr) (length (x₃₁ .now)) ∷ sliceVal (x₃₂ .ptr) (length (x₃₂ .now)) ∷ vfloat binary64 x₃₃ ∷ vfloat binary64 x₃₄ ∷ vint w64 x₃₅ ∷ vint w64 x₃₆ ∷ sliceVal (x₃₇ .ptr) (length (x₃₇ .now)) ∷ sliceVal (x₃₈ .ptr) (length (x₃₈ .now)) ∷ sliceVal (x₃₉ .ptr) (length (x₃₉ .now)) ∷ sliceVal (x₄₀ .ptr) (length (x₄₀ .now)) ∷ sliceVal (x₄₁ .ptr) (length (x₄₁ .now)) ∷ sliceVal (x₄₂ .ptr) (length (x₄₂ .now)) ∷ vptr (x₄₃ .ptr .0) (x₄₃ .ptr .1) ∷ vptr (x₄₄ .ptr .0) (x₄₄ .ptr .1) ∷ vptr (x₄₅ .ptr .0) (x₄₅ .ptr .1) ∷ vptr (x₄₆ .ptr .0) (x₄₆ .ptr .1) ∷ vptr (x₄₇ .ptr .0) (x₄₇ .ptr .1) ∷ vptr (x₄₈ .ptr .0) (x₄₈ .ptr .1) ∷ []) _ $
-        alloc1 ! (λ l₀. alloc1 ! (λ l₁. alloc1 ! (λ l₂. alloc1 ! (λ l₃. alloc1 ! (λ l₄. alloc1 ! (λ l₅. alloc1 ! (λ l₆. alloc1 ! (λ l₇. alloc1 ! (λ l₈. alloc1 ! (λ l₉. alloc1 ! (λ l₁₀. alloc1 ! (λ l₁₁. alloc1 ! (λ l₁₂. alloc1 ! (λ l₁₃. alloc1 ! (λ l₁₄. alloc1 ! (λ l₁₅. alloc1 ! (λ l₁₆. alloc1 ! (λ l₁₇. alloc1 ! (λ l₁₈. alloc1 ! (λ l₁₉. alloc1 ! (λ l₂₀. alloc1 ! (λ l₂₁. alloc1 ! (λ l₂₂. alloc1 ! (λ l₂₃. alloc1 ! (λ l₂₄. alloc1 ! (λ l₂₅. alloc1 ! (λ l₂₆. alloc1 ! (λ l₂₇. alloc1 ! (λ l₂₈. alloc1 ! (λ l₂₉. alloc1 ! (λ l₃₀. alloc1 ! (λ l₃₁. alloc1 ! (λ l₃₂. alloc1 ! (λ l₃₃. alloc1 ! (λ l₃₄. alloc1 ! (λ l₃₅. alloc1 ! (λ l₃₆. alloc1 ! (λ l₃₇. alloc1 ! (λ l₃₈. alloc1 ! (λ l₃₉. alloc1 ! (λ l₄₀. alloc1 ! (λ l₄₁. alloc1 ! (λ l₄₂. alloc1 ! (λ l₄₃. alloc1 ! (λ l₄₄. alloc1 ! (λ l₄₅. alloc1 ! (λ l₄₆. alloc1 ! (λ l₄₇. alloc1 ! (λ l₄₈. alloc1 ! (λ l₄₉. alloc1 ! (λ l₅₀. alloc1 ! (λ l₅₁. alloc1 ! (λ l₅₂. alloc1 ! (λ l₅₃. alloc1 ! (λ l₅₄. alloc1 ! (λ l₅₅. alloc1 ! (λ l₅₆. alloc1 ! (λ l₅₇. alloc1 ! (λ l₅₈. alloc1 ! (λ l₅₉. alloc1 ! (λ l₆₀. alloc1 ! (λ l₆₁. alloc1 ! (λ l₆₂. alloc1 ! (λ l₆₃. alloc1 ! (λ l₆₄. alloc1 ! (λ l₆₅. alloc1 ! (λ l₆₆. alloc1 ! (λ l₆₇. alloc1 ! (λ l₆₈. alloc1 ! (λ l₆₉. alloc1 ! (λ l₇₀. alloc1 ! (λ l₇₁. alloc1 ! (λ l₇₂. alloc1 ! (λ l₇₃. alloc1 ! (λ l₇₄. alloc1 ! (λ l₇₅. alloc1 ! (λ l₇₆. alloc1 ! (λ l₇₇. alloc1 ! (λ l₇₈. alloc1 ! (λ l₇₉. alloc1 ! (λ l₈₀. alloc1 ! (λ l₈₁. alloc1 ! (λ l₈₂. alloc1 ! (λ l₈₃. alloc1 ! (λ l₈₄. alloc1 ! (λ l₈₅. alloc0 ! $ params1 ! $
-        pass1 ! (init ! 168 refl (uint-lawful 𝓤 H A W w64 .typed x₁ _ is₁ .0)) $
-        pass1 ! (init ! 166 refl (uint-lawful 𝓤 H A W w64 .typed x₂ _ is₂ .0)) $
-        pass1 ! (init ! 164 refl (uint-lawful 𝓤 H A W w64 .typed x₃ _ is₃ .0)) $
-        pass1 ! (init ! 162 refl (uint-lawful 𝓤 H A W w32 .typed x₄ _ is₄ .0)) $
-        pass1 ! (init ! 160 refl (uint-lawful 𝓤 H A W w32 .typed x₅ _ is₅ .0)) $
-        pass1 ! (init ! 158 refl (tt, (tt, (record { fits = room₆ .0 }, tt)))) $
-        pass1 ! (init ! 156 refl (tt, (tt, (record { fits = room₇ .0 }, tt)))) $
-        pass1 ! (init ! 154 refl (tt, (tt, (record { fits = room₈ .0 }, tt)))) $
-        pass1 ! (init ! 152 refl (tt, (tt, (record { fits = room₉ .0 }, tt)))) $
-        pass1 ! (init ! 150 refl (tt, (tt, (record { fits = room₁₀ .0 }, tt)))) $
-        pass1 ! (init ! 148 refl (uint-lawful 𝓤 H A W w32 .typed x₁₁ _ is₁₁ .0)) $
-        pass1 ! (init ! 146 refl (tt, (tt, (record { fits = room₁₂ .0 }, tt)))) $
-        pass1 ! (init ! 144 refl (tt, (tt, (record { fits = room₁₃ .0 }, tt)))) $
-        pass1 ! (init ! 142 refl (tt, (tt, (record { fits = room₁₄ .0 }, tt)))) $
-        pass1 ! (init ! 140 refl (tt, (tt, (record { fits = room₁₅ .0 }, tt)))) $
-        pass1 ! (init ! 138 refl (tt, (tt, (record { fits = room₁₆ .0 }, tt)))) $
-        pass1 ! (init ! 136 refl (uint-lawful 𝓤 H A W w64 .typed x₁₇ _ is₁₇ .0)) $
-        pass1 ! (init ! 134 refl (uint-lawful 𝓤 H A W w64 .typed x₁₈ _ is₁₈ .0)) $
-        pass1 ! (init ! 132 refl (uint-lawful 𝓤 H A W w64 .typed x₁₉ _ is₁₉ .0)) $
-        pass1 ! (init ! 130 refl (uint-lawful 𝓤 H A W w32 .typed x₂₀ _ is₂₀ .0)) $
-        pass1 ! (init ! 128 refl (uint-lawful 𝓤 H A W w32 .typed x₂₁ _ is₂₁ .0)) $
-        pass1 ! (init ! 126 refl (tt, (tt, (record { fits = room₂₂ .0 }, tt)))) $
-        pass1 ! (init ! 124 refl (tt, (tt, (record { fits = room₂₃ .0 }, tt)))) $
-        pass1 ! (init ! 122 refl (tt, (tt, (record { fits = room₂₄ .0 }, tt)))) $
-        pass1 ! (init ! 120 refl (tt, (tt, (record { fits = room₂₅ .0 }, tt)))) $
-        pass1 ! (init ! 118 refl (tt, (tt, (record { fits = room₂₆ .0 }, tt)))) $
-        pass1 ! (init ! 116 refl (uint-lawful 𝓤 H A W w32 .typed x₂₇ _ is₂₇ .0)) $
-        pass1 ! (init ! 114 refl (tt, (tt, (record { fits = room₂₈ .0 }, tt)))) $
-        pass1 ! (init ! 112 refl (tt, (tt, (record { fits = room₂₉ .0 }, tt)))) $
-        pass1 ! (init ! 110 refl (tt, (tt, (record { fits = room₃₀ .0 }, tt)))) $
-        pass1 ! (init ! 108 refl (tt, (tt, (record { fits = room₃₁ .0 }, tt)))) $
-        pass1 ! (init ! 106 refl (tt, (tt, (record { fits = room₃₂ .0 }, tt)))) $
-        pass1 ! (init ! 104 refl (float-lawful 𝓤 H A W binary64 .typed x₃₃ _ is₃₃ .0)) $
-        pass1 ! (init ! 102 refl (float-lawful 𝓤 H A W binary64 .typed x₃₄ _ is₃₄ .0)) $
-        pass1 ! (init ! 100 refl (uint-lawful 𝓤 H A W w64 .typed x₃₅ _ is₃₅ .0)) $
-        pass1 ! (init ! 98 refl (uint-lawful 𝓤 H A W w64 .typed x₃₆ _ is₃₆ .0)) $
-        pass1 ! (init ! 96 refl (tt, (tt, (record { fits = room₃₇ .0 }, tt)))) $
-        pass1 ! (init ! 94 refl (tt, (tt, (record { fits = room₃₈ .0 }, tt)))) $
-        pass1 ! (init ! 92 refl (tt, (tt, (record { fits = room₃₉ .0 }, tt)))) $
-        pass1 ! (init ! 90 refl (tt, (tt, (record { fits = room₄₀ .0 }, tt)))) $
-        pass1 ! (init ! 88 refl (tt, (tt, (record { fits = room₄₁ .0 }, tt)))) $
-        pass1 ! (init ! 86 refl (tt, (tt, (record { fits = room₄₂ .0 }, tt)))) $
-        pass1 ! (init ! 84 refl (tt, tt)) $
-        pass1 ! (init ! 82 refl (tt, tt)) $
-        pass1 ! (init ! 80 refl (tt, tt)) $
-        pass1 ! (init ! 78 refl (tt, tt)) $
-        pass1 ! (init ! 76 refl (tt, tt)) $
-        pass1 ! (init ! 74 refl (tt, tt)) $
-        pass0 ! $
-        assigns ! (addr ! (from ! (fld ! refl (hop ! (look-in ! 144 (sub ! 0 refl (whole !))) (stop !))))) (from ! (stop !)) (init ! 68 refl (tt, tt)) $
-        assigns ! (agg ! (and-then ! (load ! (from ! (stop !)) (look ! 68 refl)) (and-then ! (load ! (from ! (fld ! refl (stop !))) (look-in ! 144 (sub ! 1 refl (whole !)))) (no-more !)))) (from ! (stop !)) (init ! 66 refl (tt, (tt, (record { fits = room₁₃ .0 }, tt)))) $
-        assigns ! (addr ! (from ! (fld ! refl (hop ! (look-in ! 142 (sub ! 0 refl (whole !))) (stop !))))) (from ! (stop !)) (init ! 64 refl (tt, tt)) $
-        assigns ! (agg ! (and-then ! (load ! (from ! (stop !)) (look ! 64 refl)) (and-then ! (load ! (from ! (fld ! refl (stop !))) (look-in ! 142 (sub ! 1 refl (whole !)))) (no-more !)))) (from ! (stop !)) (init ! 62 refl (tt, (tt, (record { fits = room₁₄ .0 }, tt)))) $
-        assigns ! (addr ! (from ! (fld ! refl (hop ! (look-in ! 140 (sub ! 0 refl (whole !))) (stop !))))) (from ! (stop !)) (init ! 60 refl (tt, tt)) $
-        assigns ! (agg ! (and-then ! (load ! (from ! (stop !)) (look ! 60 refl)) (and-then ! (load ! (from ! (fld ! refl (stop !))) (look-in ! 140 (sub ! 1 refl (whole !)))) (no-more !)))) (from ! (stop !)) (init ! 58 refl (tt, (tt, (record { fits = room₁₅ .0 }, tt)))) $
-        assigns ! (addr ! (from ! (fld ! refl (hop ! (look-in ! 138 (sub ! 0 refl (whole !))) (stop !))))) (from ! (stop !)) (init ! 56 refl (tt, tt)) $
-        assigns ! (agg ! (and-then ! (load ! (from ! (stop !)) (look ! 56 refl)) (and-then ! (load ! (from ! (fld ! refl (stop !))) (look-in ! 138 (sub ! 1 refl (whole !)))) (no-more !)))) (from ! (stop !)) (init ! 54 refl (tt, (tt, (record { fits = room₁₆ .0 }, tt)))) $
-        assigns ! (addr ! (from ! (fld ! refl (hop ! (look-in ! 112 (sub ! 0 refl (whole !))) (stop !))))) (from ! (stop !)) (init ! 52 refl (tt, tt)) $
-        assigns ! (agg ! (and-then ! (load ! (from ! (stop !)) (look ! 52 refl)) (and-then ! (load ! (from ! (fld ! refl (stop !))) (look-in ! 112 (sub ! 1 refl (whole !)))) (no-more !)))) (from ! (stop !)) (init ! 50 refl (tt, (tt, (record { fits = room₂₉ .0 }, tt)))) $
-        assigns ! (addr ! (from ! (fld ! refl (hop ! (look-in ! 110 (sub ! 0 refl (whole !))) (stop !))))) (from ! (stop !)) (init ! 48 refl (tt, tt)) $
-        assigns ! (agg ! (and-then ! (load ! (from ! (stop !)) (look ! 48 refl)) (and-then ! (load ! (from ! (fld ! refl (stop !))) (look-in ! 110 (sub ! 1 refl (whole !)))) (no-more !)))) (from ! (stop !)) (init ! 46 refl (tt, (tt, (record { fits = room₃₀ .0 }, tt)))) $
-        assigns ! (addr ! (from ! (fld ! refl (hop ! (look-in ! 108 (sub ! 0 refl (whole !))) (stop !))))) (from ! (stop !)) (init ! 44 refl (tt, tt)) $
-        assigns ! (agg ! (and-then ! (load ! (from ! (stop !)) (look ! 44 refl)) (and-then ! (load ! (from ! (fld ! refl (stop !))) (look-in ! 108 (sub ! 1 refl (whole !)))) (no-more !)))) (from ! (stop !)) (init ! 42 refl (tt, (tt, (record { fits = room₃₁ .0 }, tt)))) $
-        assigns ! (addr ! (from ! (fld ! refl (hop ! (look-in ! 106 (sub ! 0 refl (whole !))) (stop !))))) (from ! (stop !)) (init ! 40 refl (tt, tt)) $
-        assigns ! (agg ! (and-then ! (load ! (from ! (stop !)) (look ! 40 refl)) (and-then ! (load ! (from ! (fld ! refl (stop !))) (look-in ! 106 (sub ! 1 refl (whole !)))) (no-more !)))) (from ! (stop !)) (init ! 38 refl (tt, (tt, (record { fits = room₃₂ .0 }, tt)))) $
-        assigns ! (addr ! (from ! (fld ! refl (hop ! (look-in ! 96 (sub ! 0 refl (whole !))) (stop !))))) (from ! (stop !)) (init ! 36 refl (tt, tt)) $
-        assigns ! (agg ! (and-then ! (load ! (from ! (stop !)) (look ! 36 refl)) (and-then ! (load ! (from ! (fld ! refl (stop !))) (look-in ! 96 (sub ! 1 refl (whole !)))) (no-more !)))) (from ! (stop !)) (init ! 34 refl (tt, (tt, (record { fits = room₃₇ .0 }, tt)))) $
-        assigns ! (addr ! (from ! (fld ! refl (hop ! (look-in ! 94 (sub ! 0 refl (whole !))) (stop !))))) (from ! (stop !)) (init ! 32 refl (tt, tt)) $
-        assigns ! (agg ! (and-then ! (load ! (from ! (stop !)) (look ! 32 refl)) (and-then ! (load ! (from ! (fld ! refl (stop !))) (look-in ! 94 (sub ! 1 refl (whole !)))) (no-more !)))) (from ! (stop !)) (init ! 30 refl (tt, (tt, (record { fits = room₃₈ .0 }, tt)))) $
-        assigns ! (addr ! (from ! (fld ! refl (hop ! (look-in ! 92 (sub ! 0 refl (whole !))) (stop !))))) (from ! (stop !)) (init ! 28 refl (tt, tt)) $
-        assigns ! (agg ! (and-then ! (load ! (from ! (stop !)) (look ! 28 refl)) (and-then ! (load ! (from ! (fld ! refl (stop !))) (look-in ! 92 (sub ! 1 refl (whole !)))) (no-more !)))) (from ! (stop !)) (init ! 26 refl (tt, (tt, (record { fits = room₃₉ .0 }, tt)))) $
-        assigns ! (addr ! (from ! (fld ! refl (hop ! (look-in ! 90 (sub ! 0 refl (whole !))) (stop !))))) (from ! (stop !)) (init ! 24 refl (tt, tt)) $
-        assigns ! (agg ! (and-then ! (load ! (from ! (stop !)) (look ! 24 refl)) (and-then ! (load ! (from ! (fld ! refl (stop !))) (look-in ! 90 (sub ! 1 refl (whole !)))) (no-more !)))) (from ! (stop !)) (init ! 22 refl (tt, (tt, (record { fits = room₄₀ .0 }, tt)))) $
-        assigns ! (addr ! (from ! (fld ! refl (hop ! (look-in ! 88 (sub ! 0 refl (whole !))) (stop !))))) (from ! (stop !)) (init ! 20 refl (tt, tt)) $
-        assigns ! (agg ! (and-then ! (load ! (from ! (stop !)) (look ! 20 refl)) (and-then ! (load ! (from ! (fld ! refl (stop !))) (look-in ! 88 (sub ! 1 refl (whole !)))) (no-more !)))) (from ! (stop !)) (init ! 18 refl (tt, (tt, (record { fits = room₄₁ .0 }, tt)))) $
-        assigns ! (of-opd ! (load ! (from ! (fld ! refl (stop !))) (look-in ! 86 (sub ! 1 refl (whole !))))) (from ! (stop !)) (init ! 16 refl (tt, record { fits = room₄₂ .0 })) $
+        stands ! _ _ ((uint-lawful 𝓤 H A W w64 .typed x₁ _ is₁ .0), ((uint-lawful 𝓤 H A W w64 .typed x₂ _ is₂ .0), ((uint-lawful 𝓤 H A W w64 .typed x₃ _ is₃ .0), ((uint-lawful 𝓤 H A W w32 .typed x₄ _ is₄ .0), ((uint-lawful 𝓤 H A W w32 .typed x₅ _ is₅ .0), ((tt, (tt, (record { fits = room₆ .0 }, tt))), ((tt, (tt, (record { fits = room₇ .0 }, tt))), ((tt, (tt, (record { fits = room₈ .0 }, tt))), ((tt, (tt, (record { fits = room₉ .0 }, tt))), ((tt, (tt, (record { fits = room₁₀ .0 }, tt))), ((uint-lawful 𝓤 H A W w32 .typed x₁₁ _ is₁₁ .0), ((tt, (tt, (record { fits = room₁₂ .0 }, tt))), ((tt, (tt, (record { fits = room₁₃ .0 }, tt))), ((tt, (tt, (record { fits = room₁₄ .0 }, tt))), ((tt, (tt, (record { fits = room₁₅ .0 }, tt))), ((tt, (tt, (record { fits = room₁₆ .0 }, tt))), ((uint-lawful 𝓤 H A W w64 .typed x₁₇ _ is₁₇ .0), ((uint-lawful 𝓤 H A W w64 .typed x₁₈ _ is₁₈ .0), ((uint-lawful 𝓤 H A W w64 .typed x₁₉ _ is₁₉ .0), ((uint-lawful 𝓤 H A W w32 .typed x₂₀ _ is₂₀ .0), ((uint-lawful 𝓤 H A W w32 .typed x₂₁ _ is₂₁ .0), ((tt, (tt, (record { fits = room₂₂ .0 }, tt))), ((tt, (tt, (record { fits = room₂₃ .0 }, tt))), ((tt, (tt, (record { fits = room₂₄ .0 }, tt))), ((tt, (tt, (record { fits = room₂₅ .0 }, tt))), ((tt, (tt, (record { fits = room₂₆ .0 }, tt))), ((uint-lawful 𝓤 H A W w32 .typed x₂₇ _ is₂₇ .0), ((tt, (tt, (record { fits = room₂₈ .0 }, tt))), ((tt, (tt, (record { fits = room₂₉ .0 }, tt))), ((tt, (tt, (record { fits = room₃₀ .0 }, tt))), ((tt, (tt, (record { fits = room₃₁ .0 }, tt))), ((tt, (tt, (record { fits = room₃₂ .0 }, tt))), ((float-lawful 𝓤 H A W binary64 .typed x₃₃ _ is₃₃ .0), ((float-lawful 𝓤 H A W binary64 .typed x₃₄ _ is₃₄ .0), ((uint-lawful 𝓤 H A W w64 .typed x₃₅ _ is₃₅ .0), ((uint-lawful 𝓤 H A W w64 .typed x₃₆ _ is₃₆ .0), ((tt, (tt, (record { fits = room₃₇ .0 }, tt))), ((tt, (tt, (record { fits = room₃₈ .0 }, tt))), ((tt, (tt, (record { fits = room₃₉ .0 }, tt))), ((tt, (tt, (record { fits = room₄₀ .0 }, tt))), ((tt, (tt, (record { fits = room₄₁ .0 }, tt))), ((tt, (tt, (record { fits = room₄₂ .0 }, tt))), ((tt, tt), ((tt, tt), ((tt, tt), ((tt, tt), ((tt, tt), ((tt, tt), tt)))))))))))))))))))))))))))))))))))))))))))))))) (λ l₀ l₁ l₂ l₃ l₄ l₅ l₆ l₇ l₈ l₉ l₁₀ l₁₁ l₁₂ l₁₃ l₁₄ l₁₅ l₁₆ l₁₇ l₁₈ l₁₉ l₂₀ l₂₁ l₂₂ l₂₃ l₂₄ l₂₅ l₂₆ l₂₇ l₂₈ l₂₉ l₃₀ l₃₁ l₃₂ l₃₃ l₃₄ l₃₅ l₃₆ l₃₇ l₃₈ l₃₉ l₄₀ l₄₁ l₄₂ l₄₃ l₄₄ l₄₅ l₄₆ l₄₇ l₄₈ l₄₉ l₅₀ l₅₁ l₅₂ l₅₃ l₅₄ l₅₅ l₅₆ l₅₇ l₅₈ l₅₉ l₆₀ l₆₁ l₆₂ l₆₃ l₆₄ l₆₅ l₆₆ l₆₇ l₆₈ l₆₉ l₇₀ l₇₁ l₇₂ l₇₃ l₇₄ l₇₅ l₇₆ l₇₇ l₇₈ l₇₉ l₈₀ l₈₁ l₈₂ l₈₃ l₈₄ l₈₅.
+        assigns ! (addr ! (from ! (fld ! refl (hop ! (look-in ! 26 (sub ! 0 refl (whole !))) (stop !))))) (from ! (stop !)) (init ! 102 refl (tt, tt)) $
+        assigns ! (agg ! (and-then ! (load ! (from ! (stop !)) (look ! 102 refl)) (and-then ! (load ! (from ! (fld ! refl (stop !))) (look-in ! 26 (sub ! 1 refl (whole !)))) (no-more !)))) (from ! (stop !)) (init ! 104 refl (tt, (tt, (record { fits = room₁₃ .0 }, tt)))) $
+        assigns ! (addr ! (from ! (fld ! refl (hop ! (look-in ! 28 (sub ! 0 refl (whole !))) (stop !))))) (from ! (stop !)) (init ! 106 refl (tt, tt)) $
+        assigns ! (agg ! (and-then ! (load ! (from ! (stop !)) (look ! 106 refl)) (and-then ! (load ! (from ! (fld ! refl (stop !))) (look-in ! 28 (sub ! 1 refl (whole !)))) (no-more !)))) (from ! (stop !)) (init ! 108 refl (tt, (tt, (record { fits = room₁₄ .0 }, tt)))) $
+        assigns ! (addr ! (from ! (fld ! refl (hop ! (look-in ! 30 (sub ! 0 refl (whole !))) (stop !))))) (from ! (stop !)) (init ! 110 refl (tt, tt)) $
+        assigns ! (agg ! (and-then ! (load ! (from ! (stop !)) (look ! 110 refl)) (and-then ! (load ! (from ! (fld ! refl (stop !))) (look-in ! 30 (sub ! 1 refl (whole !)))) (no-more !)))) (from ! (stop !)) (init ! 112 refl (tt, (tt, (record { fits = room₁₅ .0 }, tt)))) $
+        assigns ! (addr ! (from ! (fld ! refl (hop ! (look-in ! 32 (sub ! 0 refl (whole !))) (stop !))))) (from ! (stop !)) (init ! 114 refl (tt, tt)) $
+        assigns ! (agg ! (and-then ! (load ! (from ! (stop !)) (look ! 114 refl)) (and-then ! (load ! (from ! (fld ! refl (stop !))) (look-in ! 32 (sub ! 1 refl (whole !)))) (no-more !)))) (from ! (stop !)) (init ! 116 refl (tt, (tt, (record { fits = room₁₆ .0 }, tt)))) $
+        assigns ! (addr ! (from ! (fld ! refl (hop ! (look-in ! 58 (sub ! 0 refl (whole !))) (stop !))))) (from ! (stop !)) (init ! 118 refl (tt, tt)) $
+        assigns ! (agg ! (and-then ! (load ! (from ! (stop !)) (look ! 118 refl)) (and-then ! (load ! (from ! (fld ! refl (stop !))) (look-in ! 58 (sub ! 1 refl (whole !)))) (no-more !)))) (from ! (stop !)) (init ! 120 refl (tt, (tt, (record { fits = room₂₉ .0 }, tt)))) $
+        assigns ! (addr ! (from ! (fld ! refl (hop ! (look-in ! 60 (sub ! 0 refl (whole !))) (stop !))))) (from ! (stop !)) (init ! 122 refl (tt, tt)) $
+        assigns ! (agg ! (and-then ! (load ! (from ! (stop !)) (look ! 122 refl)) (and-then ! (load ! (from ! (fld ! refl (stop !))) (look-in ! 60 (sub ! 1 refl (whole !)))) (no-more !)))) (from ! (stop !)) (init ! 124 refl (tt, (tt, (record { fits = room₃₀ .0 }, tt)))) $
+        assigns ! (addr ! (from ! (fld ! refl (hop ! (look-in ! 62 (sub ! 0 refl (whole !))) (stop !))))) (from ! (stop !)) (init ! 126 refl (tt, tt)) $
+        assigns ! (agg ! (and-then ! (load ! (from ! (stop !)) (look ! 126 refl)) (and-then ! (load ! (from ! (fld ! refl (stop !))) (look-in ! 62 (sub ! 1 refl (whole !)))) (no-more !)))) (from ! (stop !)) (init ! 128 refl (tt, (tt, (record { fits = room₃₁ .0 }, tt)))) $
+        assigns ! (addr ! (from ! (fld ! refl (hop ! (look-in ! 64 (sub ! 0 refl (whole !))) (stop !))))) (from ! (stop !)) (init ! 130 refl (tt, tt)) $
+        assigns ! (agg ! (and-then ! (load ! (from ! (stop !)) (look ! 130 refl)) (and-then ! (load ! (from ! (fld ! refl (stop !))) (look-in ! 64 (sub ! 1 refl (whole !)))) (no-more !)))) (from ! (stop !)) (init ! 132 refl (tt, (tt, (record { fits = room₃₂ .0 }, tt)))) $
+        assigns ! (addr ! (from ! (fld ! refl (hop ! (look-in ! 74 (sub ! 0 refl (whole !))) (stop !))))) (from ! (stop !)) (init ! 134 refl (tt, tt)) $
+        assigns ! (agg ! (and-then ! (load ! (from ! (stop !)) (look ! 134 refl)) (and-then ! (load ! (from ! (fld ! refl (stop !))) (look-in ! 74 (sub ! 1 refl (whole !)))) (no-more !)))) (from ! (stop !)) (init ! 136 refl (tt, (tt, (record { fits = room₃₇ .0 }, tt)))) $
+        assigns ! (addr ! (from ! (fld ! refl (hop ! (look-in ! 76 (sub ! 0 refl (whole !))) (stop !))))) (from ! (stop !)) (init ! 138 refl (tt, tt)) $
+        assigns ! (agg ! (and-then ! (load ! (from ! (stop !)) (look ! 138 refl)) (and-then ! (load ! (from ! (fld ! refl (stop !))) (look-in ! 76 (sub ! 1 refl (whole !)))) (no-more !)))) (from ! (stop !)) (init ! 140 refl (tt, (tt, (record { fits = room₃₈ .0 }, tt)))) $
+        assigns ! (addr ! (from ! (fld ! refl (hop ! (look-in ! 78 (sub ! 0 refl (whole !))) (stop !))))) (from ! (stop !)) (init ! 142 refl (tt, tt)) $
+        assigns ! (agg ! (and-then ! (load ! (from ! (stop !)) (look ! 142 refl)) (and-then ! (load ! (from ! (fld ! refl (stop !))) (look-in ! 78 (sub ! 1 refl (whole !)))) (no-more !)))) (from ! (stop !)) (init ! 144 refl (tt, (tt, (record { fits = room₃₉ .0 }, tt)))) $
+        assigns ! (addr ! (from ! (fld ! refl (hop ! (look-in ! 80 (sub ! 0 refl (whole !))) (stop !))))) (from ! (stop !)) (init ! 146 refl (tt, tt)) $
+        assigns ! (agg ! (and-then ! (load ! (from ! (stop !)) (look ! 146 refl)) (and-then ! (load ! (from ! (fld ! refl (stop !))) (look-in ! 80 (sub ! 1 refl (whole !)))) (no-more !)))) (from ! (stop !)) (init ! 148 refl (tt, (tt, (record { fits = room₄₀ .0 }, tt)))) $
+        assigns ! (addr ! (from ! (fld ! refl (hop ! (look-in ! 82 (sub ! 0 refl (whole !))) (stop !))))) (from ! (stop !)) (init ! 150 refl (tt, tt)) $
+        assigns ! (agg ! (and-then ! (load ! (from ! (stop !)) (look ! 150 refl)) (and-then ! (load ! (from ! (fld ! refl (stop !))) (look-in ! 82 (sub ! 1 refl (whole !)))) (no-more !)))) (from ! (stop !)) (init ! 152 refl (tt, (tt, (record { fits = room₄₁ .0 }, tt)))) $
+        assigns ! (of-opd ! (load ! (from ! (fld ! refl (stop !))) (look-in ! 84 (sub ! 1 refl (whole !))))) (from ! (stop !)) (init ! 154 refl (tt, record { fits = room₄₂ .0 })) $
         move ! (172 ∷ 173 ∷ []) $
         use2 W (raw (Measures 𝓤 H A at-mem run .pre to-measures) ⊛ ‵ (flft κ₂₅ q₂₅) ⊛ ‵ ((MutSlice (named 25) κ₂₅ R.the-row) .own x₄₂ (sliceVal (x₄₂ .ptr) (length (x₄₂ .now)) ∷ [])) ⊛ (‵ (flft κ₂₆ q₂₆) ⊛ ‵ (flft κ₂₇ q₂₇) ⊛ ‵ (flft κ₂₈ q₂₈) ⊛ ‵ (flft κ₂₉ q₂₉) ⊛ ‵ (flft κ₃₀ q₃₀) ⊛ ‵ (flft κ₃₁ q₃₁) ⊛ ‵ ftrue) ⊛ ‵ own-refs) goes-measures $
         split ! $ move ! (1 ∷ []) $ split ! $ move ! (1 ∷ []) $ split ! $ move ! (1 ∷ []) $ split ! $ move ! (4 ∷ []) $
-        calls-at ! fm (Measures 𝓤 H A at-mem run) known-measures to-measures (and-then ! (load ! (from ! (stop !)) (look ! 173 refl)) (and-then ! (load ! (from ! (stop !)) (look ! 171 refl)) (and-then ! (load ! (from ! (stop !)) (look ! 169 refl)) (and-then ! (load ! (from ! (stop !)) (look ! 167 refl)) (and-then ! (load ! (from ! (stop !)) (look ! 165 refl)) (and-then ! (load ! (from ! (stop !)) (look ! 163 refl)) (and-then ! (load ! (from ! (stop !)) (look ! 161 refl)) (and-then ! (load ! (from ! (stop !)) (look ! 159 refl)) (and-then ! (load ! (from ! (stop !)) (look ! 157 refl)) (and-then ! (load ! (from ! (stop !)) (look ! 155 refl)) (and-then ! (load ! (from ! (stop !)) (look ! 153 refl)) (and-then ! (load ! (from ! (stop !)) (look ! 151 refl)) (and-then ! (load ! (from ! (stop !)) (look ! 71 refl)) (and-then ! (load ! (from ! (stop !)) (look ! 67 refl)) (and-then ! (load ! (from ! (stop !)) (look ! 63 refl)) (and-then ! (load ! (from ! (stop !)) (look ! 59 refl)) (and-then ! (load ! (from ! (stop !)) (look ! 141 refl)) (and-then ! (load ! (from ! (stop !)) (look ! 139 refl)) (and-then ! (load ! (from ! (stop !)) (look ! 137 refl)) (and-then ! (load ! (from ! (stop !)) (look ! 135 refl)) (and-then ! (load ! (from ! (stop !)) (look ! 133 refl)) (and-then ! (load ! (from ! (stop !)) (look ! 131 refl)) (and-then ! (load ! (from ! (stop !)) (look ! 129 refl)) (and-then ! (load ! (from ! (stop !)) (look ! 127 refl)) (and-then ! (load ! (from ! (stop !)) (look ! 125 refl)) (and-then ! (load ! (from ! (stop !)) (look ! 123 refl)) (and-then ! (load ! (from ! (stop !)) (look ! 121 refl)) (and-then ! (load ! (from ! (stop !)) (look ! 119 refl)) (and-then ! (load ! (from ! (stop !)) (look ! 55 refl)) (and-then ! (load ! (from ! (stop !)) (look ! 51 refl)) (and-then ! (load ! (from ! (stop !)) (look ! 47 refl)) (and-then ! (load ! (from ! (stop !)) (look ! 43 refl)) (and-then ! (load ! (from ! (stop !)) (look ! 109 refl)) (and-then ! (load ! (from ! (stop !)) (look ! 107 refl)) (and-then ! (load ! (from ! (stop !)) (look ! 105 refl)) (and-then ! (load ! (from ! (stop !)) (look ! 103 refl)) (and-then ! (load ! (from ! (stop !)) (look ! 39 refl)) (and-then ! (load ! (from ! (stop !)) (look ! 35 refl)) (and-then ! (load ! (from ! (stop !)) (look ! 31 refl)) (and-then ! (load ! (from ! (stop !)) (look ! 27 refl)) (and-then ! (load ! (from ! (stop !)) (look ! 23 refl)) (and-then ! (load ! (from ! (stop !)) (look ! 21 refl)) (no-more !))))))))))))))))))))))))))))))))))))))))))) (λ tv.
+        calls-at ! fm (Measures 𝓤 H A at-mem run) known-measures to-measures (and-then ! (load ! (from ! (stop !)) (look ! 7 refl)) (and-then ! (load ! (from ! (stop !)) (look ! 9 refl)) (and-then ! (load ! (from ! (stop !)) (look ! 11 refl)) (and-then ! (load ! (from ! (stop !)) (look ! 13 refl)) (and-then ! (load ! (from ! (stop !)) (look ! 15 refl)) (and-then ! (load ! (from ! (stop !)) (look ! 17 refl)) (and-then ! (load ! (from ! (stop !)) (look ! 19 refl)) (and-then ! (load ! (from ! (stop !)) (look ! 21 refl)) (and-then ! (load ! (from ! (stop !)) (look ! 23 refl)) (and-then ! (load ! (from ! (stop !)) (look ! 25 refl)) (and-then ! (load ! (from ! (stop !)) (look ! 27 refl)) (and-then ! (load ! (from ! (stop !)) (look ! 29 refl)) (and-then ! (load ! (from ! (stop !)) (look ! 109 refl)) (and-then ! (load ! (from ! (stop !)) (look ! 113 refl)) (and-then ! (load ! (from ! (stop !)) (look ! 117 refl)) (and-then ! (load ! (from ! (stop !)) (look ! 121 refl)) (and-then ! (load ! (from ! (stop !)) (look ! 39 refl)) (and-then ! (load ! (from ! (stop !)) (look ! 41 refl)) (and-then ! (load ! (from ! (stop !)) (look ! 43 refl)) (and-then ! (load ! (from ! (stop !)) (look ! 45 refl)) (and-then ! (load ! (from ! (stop !)) (look ! 47 refl)) (and-then ! (load ! (from ! (stop !)) (look ! 49 refl)) (and-then ! (load ! (from ! (stop !)) (look ! 51 refl)) (and-then ! (load ! (from ! (stop !)) (look ! 53 refl)) (and-then ! (load ! (from ! (stop !)) (look ! 55 refl)) (and-then ! (load ! (from ! (stop !)) (look ! 57 refl)) (and-then ! (load ! (from ! (stop !)) (look ! 59 refl)) (and-then ! (load ! (from ! (stop !)) (look ! 61 refl)) (and-then ! (load ! (from ! (stop !)) (look ! 125 refl)) (and-then ! (load ! (from ! (stop !)) (look ! 129 refl)) (and-then ! (load ! (from ! (stop !)) (look ! 133 refl)) (and-then ! (load ! (from ! (stop !)) (look ! 137 refl)) (and-then ! (load ! (from ! (stop !)) (look ! 71 refl)) (and-then ! (load ! (from ! (stop !)) (look ! 73 refl)) (and-then ! (load ! (from ! (stop !)) (look ! 75 refl)) (and-then ! (load ! (from ! (stop !)) (look ! 77 refl)) (and-then ! (load ! (from ! (stop !)) (look ! 141 refl)) (and-then ! (load ! (from ! (stop !)) (look ! 145 refl)) (and-then ! (load ! (from ! (stop !)) (look ! 149 refl)) (and-then ! (load ! (from ! (stop !)) (look ! 153 refl)) (and-then ! (load ! (from ! (stop !)) (look ! 157 refl)) (and-then ! (load ! (from ! (stop !)) (look ! 159 refl)) (no-more !))))))))))))))))))))))))))))))))))))))))))) (λ tv.
         use1 W (later (some (λ (t : Told). ((‵ (flft κ₀ q₀) ⊛ ‵ (flft κ₁ q₁) ⊛ ‵ (flft κ₂ q₂) ⊛ ‵ (flft κ₃ q₃) ⊛ ‵ (flft κ₄ q₄) ⊛ ‵ (flft κ₅ q₅) ⊛ ‵ (flft κ₆ q₆) ⊛ ‵ (flft κ₇ q₇) ⊛ ‵ (flft κ₈ q₈) ⊛ ‵ (flft κ₉ q₉) ⊛ ‵ (flft κ₁₀ q₁₀) ⊛ ‵ (flft κ₁₁ q₁₁) ⊛ ‵ (flft κ₁₂ q₁₂) ⊛ ‵ (flft κ₁₃ q₁₃) ⊛ ‵ (flft κ₁₄ q₁₄) ⊛ ‵ (flft κ₁₅ q₁₅) ⊛ ‵ (flft κ₁₆ q₁₆) ⊛ ‵ (flft κ₁₇ q₁₇) ⊛ ‵ (flft κ₁₈ q₁₈) ⊛ ‵ (flft κ₁₉ q₁₉) ⊛ ‵ (flft κ₂₀ q₂₀) ⊛ ‵ (flft κ₂₁ q₂₁) ⊛ ‵ (flft κ₂₂ q₂₂) ⊛ ‵ (flft κ₂₃ q₂₃) ⊛ ‵ (flft κ₂₄ q₂₄) ⊛ ‵ ftrue) ⊛ ‵ (T.the-row .own t (tv ∷ []))) ⊛ raw (ensured 𝓤 H A measures.ended (measures.clauses 𝓤 H A at-mem run) (κ₀, (κ₁, (κ₂, (κ₃, (κ₄, (κ₅, (κ₆, (κ₇, (κ₈, (κ₉, (κ₁₀, (κ₁₁, (κ₁₂, (κ₁₃, (κ₁₄, (κ₁₅, (κ₁₆, (κ₁₇, (κ₁₈, (κ₁₉, (κ₂₀, (κ₂₁, (κ₂₂, (κ₂₃, (κ₂₄, tt))))))))))))))))))))))))) (x₁, (x₂, (x₃, (x₄, (x₅, (x₆, (x₇, (x₈, (x₉, (x₁₀, (x₁₁, (x₁₂, (x₁₃, (x₁₄, (x₁₅, (x₁₆, (x₁₇, (x₁₈, (x₁₉, (x₂₀, (x₂₁, (x₂₂, (x₂₃, (x₂₄, (x₂₅, (x₂₆, (x₂₇, (x₂₈, (x₂₉, (x₃₀, (x₃₁, (x₃₂, (x₃₃, (x₃₄, (x₃₅, (x₃₆, (x₃₇, (x₃₈, (x₃₉, (x₄₀, (x₄₁, ((length (x₄₂ .now)), tt)))))))))))))))))))))))))))))))))))))))))) tt t)))) (id⊢ 𝓤 _) $
         await ! tt $ pick ! (λ t. split ! $ move ! (1 ∷ []) $
         use1 W (some (λ (ws : Lasts measures.ended (κ₀, (κ₁, (κ₂, (κ₃, (κ₄, (κ₅, (κ₆, (κ₇, (κ₈, (κ₉, (κ₁₀, (κ₁₁, (κ₁₂, (κ₁₃, (κ₁₄, (κ₁₅, (κ₁₆, (κ₁₇, (κ₁₈, (κ₁₉, (κ₂₀, (κ₂₁, (κ₂₂, (κ₂₃, (κ₂₄, tt))))))))))))))))))))))))) (x₁, (x₂, (x₃, (x₄, (x₅, (x₆, (x₇, (x₈, (x₉, (x₁₀, (x₁₁, (x₁₂, (x₁₃, (x₁₄, (x₁₅, (x₁₆, (x₁₇, (x₁₈, (x₁₉, (x₂₀, (x₂₁, (x₂₂, (x₂₃, (x₂₄, (x₂₅, (x₂₆, (x₂₇, (x₂₈, (x₂₉, (x₃₀, (x₃₁, (x₃₂, (x₃₃, (x₃₄, (x₃₅, (x₃₆, (x₃₇, (x₃₈, (x₃₉, (x₄₀, (x₄₁, ((length (x₄₂ .now)), tt))))))))))))))))))))))))))))))))))))))))))). ‵ (lasts measures.ended (κ₀, (κ₁, (κ₂, (κ₃, (κ₄, (κ₅, (κ₆, (κ₇, (κ₈, (κ₉, (κ₁₀, (κ₁₁, (κ₁₂, (κ₁₃, (κ₁₄, (κ₁₅, (κ₁₆, (κ₁₇, (κ₁₈, (κ₁₉, (κ₂₀, (κ₂₁, (κ₂₂, (κ₂₃, (κ₂₄, tt))))))))))))))))))))))))) (x₁, (x₂, (x₃, (x₄, (x₅, (x₆, (x₇, (x₈, (x₉, (x₁₀, (x₁₁, (x₁₂, (x₁₃, (x₁₄, (x₁₅, (x₁₆, (x₁₇, (x₁₈, (x₁₉, (x₂₀, (x₂₁, (x₂₂, (x₂₃, (x₂₄, (x₂₅, (x₂₆, (x₂₇, (x₂₈, (x₂₉, (x₃₀, (x₃₁, (x₃₂, (x₃₃, (x₃₄, (x₃₅, (x₃₆, (x₃₇, (x₃₈, (x₃₉, (x₄₀, (x₄₁, ((length (x₄₂ .now)), tt)))))))))))))))))))))))))))))))))))))))))) ws) ⊛ raw (fact 𝓤 (measuring (ranAs t (ws .1 .1 .1 .1 .1 .1 .1 .1 .1 .1 .1 .1 .1 .1 .1 .1 .1 .1 .1 .1 .1 .1 .1 .1 .1 .1 .1 .1 .1 .1 .1 .1 .1 .1 .1 .1 .0) (ws .1 .1 .1 .1 .1 .1 .1 .1 .1 .1 .1 .1 .1 .1 .1 .1 .1 .1 .1 .1 .1 .1 .1 .1 .1 .1 .1 .1 .1 .1 .1 .1 .1 .1 .1 .1 .1 .0) (ws .1 .1 .1 .1 .1 .1 .1 .1 .1 .1 .1 .1 .1 .1 .1 .1 .1 .1 .1 .1 .1 .1 .1 .1 .1 .1 .1 .1 .1 .1 .1 .1 .1 .1 .1 .1 .1 .1 .0) (ws .1 .1 .1 .1 .1 .1 .1 .1 .1 .1 .1 .1 .1 .1 .1 .1 .1 .1 .1 .1 .1 .1 .1 .1 .1 .1 .1 .1 .1 .1 .1 .1 .1 .1 .1 .1 .1 .1 .1 .0) (ws .1 .1 .1 .1 .1 .1 .1 .1 .1 .1 .1 .1 .1 .1 .1 .1 .1 .1 .1 .1 .1 .1 .1 .1 .1 .1 .1 .1 .1 .1 .1 .1 .1 .1 .1 .1 .1 .1 .1 .1 .0)) (chainColumns (ws .1 .1 .1 .1 .1 .1 .1 .1 .1 .1 .1 .1 .0) (ws .1 .1 .1 .1 .1 .1 .1 .1 .1 .1 .1 .1 .1 .0) (ws .1 .1 .1 .1 .1 .1 .1 .1 .1 .1 .1 .1 .1 .1 .0) (ws .1 .1 .1 .1 .1 .1 .1 .1 .1 .1 .1 .1 .1 .1 .1 .0)) (chainColumns (ws .1 .1 .1 .1 .1 .1 .1 .1 .1 .1 .1 .1 .1 .1 .1 .1 .1 .1 .1 .1 .1 .1 .1 .1 .1 .1 .1 .1 .0) (ws .1 .1 .1 .1 .1 .1 .1 .1 .1 .1 .1 .1 .1 .1 .1 .1 .1 .1 .1 .1 .1 .1 .1 .1 .1 .1 .1 .1 .1 .0) (ws .1 .1 .1 .1 .1 .1 .1 .1 .1 .1 .1 .1 .1 .1 .1 .1 .1 .1 .1 .1 .1 .1 .1 .1 .1 .1 .1 .1 .1 .1 .0) (ws .1 .1 .1 .1 .1 .1 .1 .1 .1 .1 .1 .1 .1 .1 .1 .1 .1 .1 .1 .1 .1 .1 .1 .1 .1 .1 .1 .1 .1 .1 .1 .0)) ≡ bisimMeasure (shape x₁ x₂ x₃ (initial x₄ x₅)) (columns (x₆ .now) (x₇ .now) (x₈ .now) (x₉ .now) (x₁₀ .now)) x₁₁ (x₁₂ .now) (chainColumns (x₁₃ .now) (x₁₄ .now) (x₁₅ .now) (x₁₆ .now)) (shape x₁₇ x₁₈ x₁₉ (initial x₂₀ x₂₁)) (columns (x₂₂ .now) (x₂₃ .now) (x₂₄ .now) (x₂₅ .now) (x₂₆ .now)) x₂₇ (x₂₈ .now) (chainColumns (x₂₉ .now) (x₃₀ .now) (x₃₁ .now) (x₃₂ .now)) x₃₃ (options x₃₄ x₃₅ x₃₆) (x₃₇ .now) (x₃₈ .now) (x₃₉ .now) (x₄₀ .now) (x₄₁ .now) (length (x₄₂ .now)))))) (id⊢ 𝓤 _) $
         pick ! (λ ws. split ! $ move ! (1 ∷ []) $
         heard ! (measuring (ranAs t (ws .1 .1 .1 .1 .1 .1 .1 .1 .1 .1 .1 .1 .1 .1 .1 .1 .1 .1 .1 .1 .1 .1 .1 .1 .1 .1 .1 .1 .1 .1 .1 .1 .1 .1 .1 .1 .0) (ws .1 .1 .1 .1 .1 .1 .1 .1 .1 .1 .1 .1 .1 .1 .1 .1 .1 .1 .1 .1 .1 .1 .1 .1 .1 .1 .1 .1 .1 .1 .1 .1 .1 .1 .1 .1 .1 .0) (ws .1 .1 .1 .1 .1 .1 .1 .1 .1 .1 .1 .1 .1 .1 .1 .1 .1 .1 .1 .1 .1 .1 .1 .1 .1 .1 .1 .1 .1 .1 .1 .1 .1 .1 .1 .1 .1 .1 .0) (ws .1 .1 .1 .1 .1 .1 .1 .1 .1 .1 .1 .1 .1 .1 .1 .1 .1 .1 .1 .1 .1 .1 .1 .1 .1 .1 .1 .1 .1 .1 .1 .1 .1 .1 .1 .1 .1 .1 .1 .0) (ws .1 .1 .1 .1 .1 .1 .1 .1 .1 .1 .1 .1 .1 .1 .1 .1 .1 .1 .1 .1 .1 .1 .1 .1 .1 .1 .1 .1 .1 .1 .1 .1 .1 .1 .1 .1 .1 .1 .1 .1 .0)) (chainColumns (ws .1 .1 .1 .1 .1 .1 .1 .1 .1 .1 .1 .1 .0) (ws .1 .1 .1 .1 .1 .1 .1 .1 .1 .1 .1 .1 .1 .0) (ws .1 .1 .1 .1 .1 .1 .1 .1 .1 .1 .1 .1 .1 .1 .0) (ws .1 .1 .1 .1 .1 .1 .1 .1 .1 .1 .1 .1 .1 .1 .1 .0)) (chainColumns (ws .1 .1 .1 .1 .1 .1 .1 .1 .1 .1 .1 .1 .1 .1 .1 .1 .1 .1 .1 .1 .1 .1 .1 .1 .1 .1 .1 .1 .0) (ws .1 .1 .1 .1 .1 .1 .1 .1 .1 .1 .1 .1 .1 .1 .1 .1 .1 .1 .1 .1 .1 .1 .1 .1 .1 .1 .1 .1 .1 .0) (ws .1 .1 .1 .1 .1 .1 .1 .1 .1 .1 .1 .1 .1 .1 .1 .1 .1 .1 .1 .1 .1 .1 .1 .1 .1 .1 .1 .1 .1 .1 .0) (ws .1 .1 .1 .1 .1 .1 .1 .1 .1 .1 .1 .1 .1 .1 .1 .1 .1 .1 .1 .1 .1 .1 .1 .1 .1 .1 .1 .1 .1 .1 .1 .0)) ≡ bisimMeasure (shape x₁ x₂ x₃ (initial x₄ x₅)) (columns (x₆ .now) (x₇ .now) (x₈ .now) (x₉ .now) (x₁₀ .now)) x₁₁ (x₁₂ .now) (chainColumns (x₁₃ .now) (x₁₄ .now) (x₁₅ .now) (x₁₆ .now)) (shape x₁₇ x₁₈ x₁₉ (initial x₂₀ x₂₁)) (columns (x₂₂ .now) (x₂₃ .now) (x₂₄ .now) (x₂₅ .now) (x₂₆ .now)) x₂₇ (x₂₈ .now) (chainColumns (x₂₉ .now) (x₃₀ .now) (x₃₁ .now) (x₃₂ .now)) x₃₃ (options x₃₄ x₃₅ x₃₆) (x₃₇ .now) (x₃₈ .now) (x₃₉ .now) (x₄₀ .now) (x₄₁ .now) (length (x₄₂ .now))) (λ ran.
         move ! (1 ∷ []) $ split ! $ move ! (1 ∷ []) $ peeks ! T.the-row (Is T.the-row) (shows 𝓤 H A T.the-row) t (tv ∷ []) (λ is-t.
-        land ! (from ! (stop !)) (init ! 79 refl (LL.lawful T.the-type T′.the-laws 𝓤 H A W .typed t _ is-t .0)) $
-        assigns ! (addr ! (from ! (fld ! refl (hop ! (look-in ! 93 (sub ! 0 refl (whole !))) (stop !))))) (from ! (stop !)) (init ! 21 refl (tt, tt)) $
-        assigns ! (agg ! (and-then ! (load ! (from ! (stop !)) (look ! 21 refl)) (and-then ! (load ! (from ! (fld ! refl (stop !))) (look-in ! 93 (sub ! 1 refl (whole !)))) (no-more !)))) (from ! (stop !)) (init ! 19 refl (tt, (tt, (record { fits = room₄₂ .0 }, tt)))) $
+        land ! (from ! (stop !)) (init ! 105 refl (LL.lawful T.the-type T′.the-laws 𝓤 H A W .typed t _ is-t .0)) $
+        assigns ! (addr ! (from ! (fld ! refl (hop ! (look-in ! 91 (sub ! 0 refl (whole !))) (stop !))))) (from ! (stop !)) (init ! 163 refl (tt, tt)) $
+        assigns ! (agg ! (and-then ! (load ! (from ! (stop !)) (look ! 163 refl)) (and-then ! (load ! (from ! (fld ! refl (stop !))) (look-in ! 91 (sub ! 1 refl (whole !)))) (no-more !)))) (from ! (stop !)) (init ! 165 refl (tt, (tt, (record { fits = room₄₂ .0 }, tt)))) $
         nothing ! $ move ! (1 ∷ 0 ∷ []) $ fjoin ! $ move ! (5 ∷ 0 ∷ []) $ fjoin ! $ nothing ! $ move ! (6 ∷ 0 ∷ []) $ join ! $
         use2 W (raw (Hands 𝓤 H A at-mem run .pre (to-hands t tv))) (goes-hands t tv) $
-        calls-at ! fm (Hands 𝓤 H A at-mem run) known-hands (to-hands t tv) (and-then ! (load ! (from ! (stop !)) (look ! 17 refl)) (and-then ! (load ! (from ! (stop !)) (look ! 77 refl)) (no-more !))) (λ rv.
+        calls-at ! fm (Hands 𝓤 H A at-mem run) known-hands (to-hands t tv) (and-then ! (load ! (from ! (stop !)) (look ! 163 refl)) (and-then ! (load ! (from ! (stop !)) (look ! 103 refl)) (no-more !))) (λ rv.
         use1 W (later (some (λ (r : Measured). ((‵ (flft κ₂₅ q₂₅) ⊛ ‵ ftrue) ⊛ ‵ (S.the-row .own r (rv ∷ []))) ⊛ raw (ensured 𝓤 H A hands.ended (hands.clauses 𝓤 H A at-mem run) (κ₂₅, tt) (x₄₂, (t, tt)) tt r)))) (id⊢ 𝓤 _) $
         await ! tt $ pick ! (λ r. split ! $ move ! (1 ∷ []) $
         use1 W (some (λ (us : Lasts hands.ended (κ₂₅, tt) (x₄₂, (t, tt))). ‵ (lasts hands.ended (κ₂₅, tt) (x₄₂, (t, tt)) us) ⊛ raw (fact 𝓤 (handed r (us .0) ≡ handOut t (x₄₂ .now))))) (id⊢ 𝓤 _) $
         pick ! (λ us. split ! $ move ! (1 ∷ []) $ heard ! (handed r (us .0) ≡ handOut t (x₄₂ .now)) (λ out. move ! (1 ∷ []) $ split ! $ move ! (1 ∷ []) $
         peeks ! S.the-row (Is S.the-row) (shows 𝓤 H A S.the-row) r (rv ∷ []) (λ is-r.
-        land ! (from ! (stop !)) (init ! 77 refl (EL.lawful S.the-type S′.the-laws 𝓤 H A W tt .typed r _ is-r .0)) $
-        assigns ! (addr ! (from ! (hop ! (look ! 91 refl) (stop !)))) (from ! (stop !)) (init ! 17 refl (tt, tt)) $
-        assigns ! (addr ! (from ! (hop ! (look ! 89 refl) (stop !)))) (from ! (stop !)) (init ! 15 refl (tt, tt)) $
-        assigns ! (addr ! (from ! (hop ! (look ! 87 refl) (stop !)))) (from ! (stop !)) (init ! 13 refl (tt, tt)) $
-        assigns ! (addr ! (from ! (hop ! (look ! 85 refl) (stop !)))) (from ! (stop !)) (init ! 11 refl (tt, tt)) $
-        assigns ! (addr ! (from ! (hop ! (look ! 83 refl) (stop !)))) (from ! (stop !)) (init ! 9 refl (tt, tt)) $
-        assigns ! (addr ! (from ! (hop ! (look ! 81 refl) (stop !)))) (from ! (stop !)) (init ! 7 refl (tt, tt)) $
+        land ! (from ! (stop !)) (init ! 107 refl (EL.lawful S.the-type S′.the-laws 𝓤 H A W tt .typed r _ is-r .0)) $
+        assigns ! (addr ! (from ! (hop ! (look ! 93 refl) (stop !)))) (from ! (stop !)) (init ! 167 refl (tt, tt)) $
+        assigns ! (addr ! (from ! (hop ! (look ! 95 refl) (stop !)))) (from ! (stop !)) (init ! 169 refl (tt, tt)) $
+        assigns ! (addr ! (from ! (hop ! (look ! 97 refl) (stop !)))) (from ! (stop !)) (init ! 171 refl (tt, tt)) $
+        assigns ! (addr ! (from ! (hop ! (look ! 99 refl) (stop !)))) (from ! (stop !)) (init ! 173 refl (tt, tt)) $
+        assigns ! (addr ! (from ! (hop ! (look ! 101 refl) (stop !)))) (from ! (stop !)) (init ! 175 refl (tt, tt)) $
+        assigns ! (addr ! (from ! (hop ! (look ! 103 refl) (stop !)))) (from ! (stop !)) (init ! 177 refl (tt, tt)) $
         move ! (0 ∷ 6 ∷ []) $ fjoin ! $ move ! (5 ∷ 0 ∷ []) $ use2 W (raw (Puts 𝓤 H A at-mem run .pre (to-puts r rv))) (goes-puts r rv) $
-        calls-at ! fm (Puts 𝓤 H A at-mem run) known-puts (to-puts r rv) (and-then ! (load ! (from ! (stop !)) (look ! 75 refl)) (and-then ! (load ! (from ! (stop !)) (look ! 15 refl)) (and-then ! (load ! (from ! (stop !)) (look ! 13 refl)) (and-then ! (load ! (from ! (stop !)) (look ! 11 refl)) (and-then ! (load ! (from ! (stop !)) (look ! 9 refl)) (and-then ! (load ! (from ! (stop !)) (look ! 7 refl)) (and-then ! (load ! (from ! (stop !)) (look ! 5 refl)) (no-more !)))))))) (λ v.
+        calls-at ! fm (Puts 𝓤 H A at-mem run) known-puts (to-puts r rv) (and-then ! (load ! (from ! (stop !)) (look ! 105 refl)) (and-then ! (load ! (from ! (stop !)) (look ! 165 refl)) (and-then ! (load ! (from ! (stop !)) (look ! 167 refl)) (and-then ! (load ! (from ! (stop !)) (look ! 169 refl)) (and-then ! (load ! (from ! (stop !)) (look ! 171 refl)) (and-then ! (load ! (from ! (stop !)) (look ! 173 refl)) (and-then ! (load ! (from ! (stop !)) (look ! 175 refl)) (no-more !)))))))) (λ v.
         use1 W (later (some (λ (k : ℕ). ((‵ (flft κ₂₆ q₂₆) ⊛ ‵ (flft κ₂₇ q₂₇) ⊛ ‵ (flft κ₂₈ q₂₈) ⊛ ‵ (flft κ₂₉ q₂₉) ⊛ ‵ (flft κ₃₀ q₃₀) ⊛ ‵ (flft κ₃₁ q₃₁) ⊛ ‵ ftrue) ⊛ ‵ (u32 .own k (v ∷ []))) ⊛ raw (ensured 𝓤 H A puts.ended (puts.clauses 𝓤 H A at-mem run) (κ₂₆, (κ₂₇, (κ₂₈, (κ₂₉, (κ₃₀, (κ₃₁, tt)))))) (r, (x₄₃, (x₄₄, (x₄₅, (x₄₆, (x₄₇, (x₄₈, tt))))))) tt k)))) (id⊢ 𝓤 _) $
         await ! tt $ pick ! (λ k. split ! $ move ! (1 ∷ []) $
         use1 W (some (λ (vs : Lasts puts.ended (κ₂₆, (κ₂₇, (κ₂₈, (κ₂₉, (κ₃₀, (κ₃₁, tt)))))) (r, (x₄₃, (x₄₄, (x₄₅, (x₄₆, (x₄₇, (x₄₈, tt)))))))). ‵ (lasts puts.ended (κ₂₆, (κ₂₇, (κ₂₈, (κ₂₉, (κ₃₀, (κ₃₁, tt)))))) (r, (x₄₃, (x₄₄, (x₄₅, (x₄₆, (x₄₇, (x₄₈, tt))))))) vs) ⊛ raw (fact 𝓤 (replied k (vs .1 .0) (vs .1 .1 .0) (vs .1 .1 .1 .0) (vs .1 .1 .1 .1 .0) (vs .1 .1 .1 .1 .1 .0) (vs .1 .1 .1 .1 .1 .1 .0) ≡ ofMeasured r (x₄₃ .now) (x₄₄ .now) (x₄₅ .now) (x₄₆ .now) (x₄₇ .now) (x₄₈ .now))))) (id⊢ 𝓤 _) $
         pick ! (λ vs. split ! $ move ! (1 ∷ []) $
         heard ! (replied k (vs .1 .0) (vs .1 .1 .0) (vs .1 .1 .1 .0) (vs .1 .1 .1 .1 .0) (vs .1 .1 .1 .1 .1 .0) (vs .1 .1 .1 .1 .1 .1 .0) ≡ ofMeasured r (x₄₃ .now) (x₄₄ .now) (x₄₅ .now) (x₄₆ .now) (x₄₇ .now) (x₄₈ .now)) (λ put-is.
         move ! (1 ∷ []) $ split ! $ move ! (1 ∷ []) $ peeks ! u32 (Is u32) (shows 𝓤 H A u32) k (v ∷ []) (λ is-k.
-        land ! (from ! (stop !)) (init ! 177 refl (uint-lawful 𝓤 H A W w32 .typed k _ is-k .0)) $ returns ! (look ! 177 refl) $
-        move ! (177 ∷ 178 ∷ 175 ∷ 176 ∷ 173 ∷ 174 ∷ 171 ∷ 172 ∷ 169 ∷ 170 ∷ 167 ∷ 168 ∷ 165 ∷ 166 ∷ 163 ∷ 164 ∷ 161 ∷ 162 ∷ 159 ∷ 160 ∷ 157 ∷ 158 ∷ 155 ∷ 156 ∷ 153 ∷ 154 ∷ 151 ∷ 152 ∷ 149 ∷ 150 ∷ 147 ∷ 148 ∷ 145 ∷ 146 ∷ 143 ∷ 144 ∷ 141 ∷ 142 ∷ 139 ∷ 140 ∷ 137 ∷ 138 ∷ 135 ∷ 136 ∷ 133 ∷ 134 ∷ 131 ∷ 132 ∷ 129 ∷ 130 ∷ 127 ∷ 128 ∷ 125 ∷ 126 ∷ 123 ∷ 124 ∷ 121 ∷ 122 ∷ 119 ∷ 120 ∷ 117 ∷ 118 ∷ 115 ∷ 116 ∷ 113 ∷ 114 ∷ 111 ∷ 112 ∷ 109 ∷ 110 ∷ 107 ∷ 108 ∷ 105 ∷ 106 ∷ 103 ∷ 104 ∷ 101 ∷ 102 ∷ 99 ∷ 100 ∷ 97 ∷ 98 ∷ 95 ∷ 96 ∷ 93 ∷ 94 ∷ 91 ∷ 92 ∷ 89 ∷ 90 ∷ 87 ∷ 88 ∷ 85 ∷ 86 ∷ 83 ∷ 84 ∷ 81 ∷ 82 ∷ 79 ∷ 80 ∷ 77 ∷ 78 ∷ 75 ∷ 76 ∷ 73 ∷ 74 ∷ 71 ∷ 72 ∷ 69 ∷ 70 ∷ 67 ∷ 68 ∷ 65 ∷ 66 ∷ 63 ∷ 64 ∷ 61 ∷ 62 ∷ 59 ∷ 60 ∷ 57 ∷ 58 ∷ 55 ∷ 56 ∷ 53 ∷ 54 ∷ 51 ∷ 52 ∷ 49 ∷ 50 ∷ 47 ∷ 48 ∷ 45 ∷ 46 ∷ 43 ∷ 44 ∷ 41 ∷ 42 ∷ 39 ∷ 40 ∷ 37 ∷ 38 ∷ 35 ∷ 36 ∷ 33 ∷ 34 ∷ 31 ∷ 32 ∷ 29 ∷ 30 ∷ 27 ∷ 28 ∷ 25 ∷ 26 ∷ 23 ∷ 24 ∷ 21 ∷ 22 ∷ 19 ∷ 20 ∷ 17 ∷ 18 ∷ 15 ∷ 16 ∷ 13 ∷ 14 ∷ 11 ∷ 12 ∷ 9 ∷ 10 ∷ 7 ∷ 8 ∷ 0 ∷ 5 ∷ 6 ∷ 3 ∷ 4 ∷ 1 ∷ 2 ∷ []) $
-        leave-all ! _ (v, (vint w64 x₁, (vint w64 x₂, (vint w64 x₃, (vint w32 x₄, (vint w32 x₅, (sliceVal (x₆ .ptr) (length (x₆ .now)), (sliceVal (x₇ .ptr) (length (x₇ .now)), (sliceVal (x₈ .ptr) (length (x₈ .now)), (sliceVal (x₉ .ptr) (length (x₉ .now)), (sliceVal (x₁₀ .ptr) (length (x₁₀ .now)), (vint w32 x₁₁, (sliceVal (x₁₂ .ptr) (length (x₁₂ .now)), (sliceVal (x₁₃ .ptr) (length (x₁₃ .now)), (sliceVal (x₁₄ .ptr) (length (x₁₄ .now)), (sliceVal (x₁₅ .ptr) (length (x₁₅ .now)), (sliceVal (x₁₆ .ptr) (length (x₁₆ .now)), (vint w64 x₁₇, (vint w64 x₁₈, (vint w64 x₁₉, (vint w32 x₂₀, (vint w32 x₂₁, (sliceVal (x₂₂ .ptr) (length (x₂₂ .now)), (sliceVal (x₂₃ .ptr) (length (x₂₃ .now)), (sliceVal (x₂₄ .ptr) (length (x₂₄ .now)), (sliceVal (x₂₅ .ptr) (length (x₂₅ .now)), (sliceVal (x₂₆ .ptr) (length (x₂₆ .now)), (vint w32 x₂₇, (sliceVal (x₂₈ .ptr) (length (x₂₈ .now)), (sliceVal (x₂₉ .ptr) (length (x₂₉ .now)), (sliceVal (x₃₀ .ptr) (length (x₃₀ .now)), (sliceVal (x₃₁ .ptr) (length (x₃₁ .now)), (sliceVal (x₃₂ .ptr) (length (x₃₂ .now)), (vfloat binary64 x₃₃, (vfloat binary64 x₃₄, (vint w64 x₃₅, (vint w64 x₃₆, (sliceVal (x₃₇ .ptr) (length (x₃₇ .now)), (sliceVal (x₃₈ .ptr) (length (x₃₈ .now)), (sliceVal (x₃₉ .ptr) (length (x₃₉ .now)), (sliceVal (x₄₀ .ptr) (length (x₄₀ .now)), (sliceVal (x₄₁ .ptr) (length (x₄₁ .now)), (sliceVal (x₄₂ .ptr) (length (x₄₂ .now)), (vptr (x₄₃ .ptr .0) (x₄₃ .ptr .1), (vptr (x₄₄ .ptr .0) (x₄₄ .ptr .1), (vptr (x₄₅ .ptr .0) (x₄₅ .ptr .1), (vptr (x₄₆ .ptr .0) (x₄₆ .ptr .1), (vptr (x₄₇ .ptr .0) (x₄₇ .ptr .1), (vptr (x₄₈ .ptr .0) (x₄₈ .ptr .1), (tv, (rv, (vptr (x₁₃ .ptr .0) (x₁₃ .ptr .1), (sliceVal (x₁₃ .ptr) (length (x₁₃ .now)), (vptr (x₁₄ .ptr .0) (x₁₄ .ptr .1), (sliceVal (x₁₄ .ptr) (length (x₁₄ .now)), (vptr (x₁₅ .ptr .0) (x₁₅ .ptr .1), (sliceVal (x₁₅ .ptr) (length (x₁₅ .now)), (vptr (x₁₆ .ptr .0) (x₁₆ .ptr .1), (sliceVal (x₁₆ .ptr) (length (x₁₆ .now)), (vptr (x₂₉ .ptr .0) (x₂₉ .ptr .1), (sliceVal (x₂₉ .ptr) (length (x₂₉ .now)), (vptr (x₃₀ .ptr .0) (x₃₀ .ptr .1), (sliceVal (x₃₀ .ptr) (length (x₃₀ .now)), (vptr (x₃₁ .ptr .0) (x₃₁ .ptr .1), (sliceVal (x₃₁ .ptr) (length (x₃₁ .now)), (vptr (x₃₂ .ptr .0) (x₃₂ .ptr .1), (sliceVal (x₃₂ .ptr) (length (x₃₂ .now)), (vptr (x₃₇ .ptr .0) (x₃₇ .ptr .1), (sliceVal (x₃₇ .ptr) (length (x₃₇ .now)), (vptr (x₃₈ .ptr .0) (x₃₈ .ptr .1), (sliceVal (x₃₈ .ptr) (length (x₃₈ .now)), (vptr (x₃₉ .ptr .0) (x₃₉ .ptr .1), (sliceVal (x₃₉ .ptr) (length (x₃₉ .now)), (vptr (x₄₀ .ptr .0) (x₄₀ .ptr .1), (sliceVal (x₄₀ .ptr) (length (x₄₀ .now)), (vptr (x₄₁ .ptr .0) (x₄₁ .ptr .1), (sliceVal (x₄₁ .ptr) (length (x₄₁ .now)), (vint w64 (length (x₄₂ .now)), (vptr (x₄₂ .ptr .0) (x₄₂ .ptr .1), (sliceVal (x₄₂ .ptr) (length (x₄₂ .now)), (vptr (x₄₃ .ptr .0) (x₄₃ .ptr .1), (vptr (x₄₄ .ptr .0) (x₄₄ .ptr .1), (vptr (x₄₅ .ptr .0) (x₄₅ .ptr .1), (vptr (x₄₆ .ptr .0) (x₄₆ .ptr .1), (vptr (x₄₇ .ptr .0) (x₄₇ .ptr .1), (vptr (x₄₈ .ptr .0) (x₄₈ .ptr .1), tt)))))))))))))))))))))))))))))))))))))))))))))))))))))))))))))))))))))))))))))))))))))) (‵ (u32 .own k (v ∷ [])) ∷ (‵ (flft κ₀ q₀) ⊛ ‵ (flft κ₁ q₁) ⊛ ‵ (flft κ₂ q₂) ⊛ ‵ (flft κ₃ q₃) ⊛ ‵ (flft κ₄ q₄) ⊛ ‵ (flft κ₅ q₅) ⊛ ‵ (flft κ₆ q₆) ⊛ ‵ (flft κ₇ q₇) ⊛ ‵ (flft κ₈ q₈) ⊛ ‵ (flft κ₉ q₉) ⊛ ‵ (flft κ₁₀ q₁₀) ⊛ ‵ (flft κ₁₁ q₁₁) ⊛ ‵ (flft κ₁₂ q₁₂) ⊛ ‵ (flft κ₁₃ q₁₃) ⊛ ‵ (flft κ₁₄ q₁₄) ⊛ ‵ (flft κ₁₅ q₁₅) ⊛ ‵ (flft κ₁₆ q₁₆) ⊛ ‵ (flft κ₁₇ q₁₇) ⊛ ‵ (flft κ₁₈ q₁₈) ⊛ ‵ (flft κ₁₉ q₁₉) ⊛ ‵ (flft κ₂₀ q₂₀) ⊛ ‵ (flft κ₂₁ q₂₁) ⊛ ‵ (flft κ₂₂ q₂₂) ⊛ ‵ (flft κ₂₃ q₂₃) ⊛ ‵ (flft κ₂₄ q₂₄) ⊛ ‵ ftrue) ∷ ‵ (lasts measures.ended (κ₀, (κ₁, (κ₂, (κ₃, (κ₄, (κ₅, (κ₆, (κ₇, (κ₈, (κ₉, (κ₁₀, (κ₁₁, (κ₁₂, (κ₁₃, (κ₁₄, (κ₁₅, (κ₁₆, (κ₁₇, (κ₁₈, (κ₁₉, (κ₂₀, (κ₂₁, (κ₂₂, (κ₂₃, (κ₂₄, tt))))))))))))))))))))))))) (x₁, (x₂, (x₃, (x₄, (x₅, (x₆, (x₇, (x₈, (x₉, (x₁₀, (x₁₁, (x₁₂, (x₁₃, (x₁₄, (x₁₅, (x₁₆, (x₁₇, (x₁₈, (x₁₉, (x₂₀, (x₂₁, (x₂₂, (x₂₃, (x₂₄, (x₂₅, (x₂₆, (x₂₇, (x₂₈, (x₂₉, (x₃₀, (x₃₁, (x₃₂, (x₃₃, (x₃₄, (x₃₅, (x₃₆, (x₃₇, (x₃₈, (x₃₉, (x₄₀, (x₄₁, ((length (x₄₂ .now)), tt)))))))))))))))))))))))))))))))))))))))))) ws) ∷ (‵ (flft κ₂₅ q₂₅) ⊛ ‵ ftrue) ∷ ‵ (lasts hands.ended (κ₂₅, tt) (x₄₂, (t, tt)) us) ∷ (‵ (flft κ₂₆ q₂₆) ⊛ ‵ (flft κ₂₇ q₂₇) ⊛ ‵ (flft κ₂₈ q₂₈) ⊛ ‵ (flft κ₂₉ q₂₉) ⊛ ‵ (flft κ₃₀ q₃₀) ⊛ ‵ (flft κ₃₁ q₃₁) ⊛ ‵ ftrue) ∷ ‵ (lasts puts.ended (κ₂₆, (κ₂₇, (κ₂₈, (κ₂₉, (κ₃₀, (κ₃₁, tt)))))) (r, (x₄₃, (x₄₄, (x₄₅, (x₄₆, (x₄₇, (x₄₈, tt))))))) vs) ∷ []) (by ! (exits k v t tv r ws us vs ran out put-is)))))))))))))))))))))))))))))))))))))))))))))))))))))))))))))))))))))))))))))))))))))))))))))))))))))))
+        land ! (from ! (stop !)) (init ! 7 refl (uint-lawful 𝓤 H A W w32 .typed k _ is-k .0)) $ returns ! (look ! 7 refl) $
+        move ! (0 ∷ 5 ∷ 6 ∷ 3 ∷ 4 ∷ 1 ∷ 2 ∷ []) $ group ! 7 $
+        leave-all ! _ (v, (vint w64 x₁, (vint w64 x₂, (vint w64 x₃, (vint w32 x₄, (vint w32 x₅, (sliceVal (x₆ .ptr) (length (x₆ .now)), (sliceVal (x₇ .ptr) (length (x₇ .now)), (sliceVal (x₈ .ptr) (length (x₈ .now)), (sliceVal (x₉ .ptr) (length (x₉ .now)), (sliceVal (x₁₀ .ptr) (length (x₁₀ .now)), (vint w32 x₁₁, (sliceVal (x₁₂ .ptr) (length (x₁₂ .now)), (sliceVal (x₁₃ .ptr) (length (x₁₃ .now)), (sliceVal (x₁₄ .ptr) (length (x₁₄ .now)), (sliceVal (x₁₅ .ptr) (length (x₁₅ .now)), (sliceVal (x₁₆ .ptr) (length (x₁₆ .now)), (vint w64 x₁₇, (vint w64 x₁₈, (vint w64 x₁₉, (vint w32 x₂₀, (vint w32 x₂₁, (sliceVal (x₂₂ .ptr) (length (x₂₂ .now)), (sliceVal (x₂₃ .ptr) (length (x₂₃ .now)), (sliceVal (x₂₄ .ptr) (length (x₂₄ .now)), (sliceVal (x₂₅ .ptr) (length (x₂₅ .now)), (sliceVal (x₂₆ .ptr) (length (x₂₆ .now)), (vint w32 x₂₇, (sliceVal (x₂₈ .ptr) (length (x₂₈ .now)), (sliceVal (x₂₉ .ptr) (length (x₂₉ .now)), (sliceVal (x₃₀ .ptr) (length (x₃₀ .now)), (sliceVal (x₃₁ .ptr) (length (x₃₁ .now)), (sliceVal (x₃₂ .ptr) (length (x₃₂ .now)), (vfloat binary64 x₃₃, (vfloat binary64 x₃₄, (vint w64 x₃₅, (vint w64 x₃₆, (sliceVal (x₃₇ .ptr) (length (x₃₇ .now)), (sliceVal (x₃₈ .ptr) (length (x₃₈ .now)), (sliceVal (x₃₉ .ptr) (length (x₃₉ .now)), (sliceVal (x₄₀ .ptr) (length (x₄₀ .now)), (sliceVal (x₄₁ .ptr) (length (x₄₁ .now)), (sliceVal (x₄₂ .ptr) (length (x₄₂ .now)), (vptr (x₄₃ .ptr .0) (x₄₃ .ptr .1), (vptr (x₄₄ .ptr .0) (x₄₄ .ptr .1), (vptr (x₄₅ .ptr .0) (x₄₅ .ptr .1), (vptr (x₄₆ .ptr .0) (x₄₆ .ptr .1), (vptr (x₄₇ .ptr .0) (x₄₇ .ptr .1), (vptr (x₄₈ .ptr .0) (x₄₈ .ptr .1), (tv, (rv, (vptr (x₁₃ .ptr .0) (x₁₃ .ptr .1), (sliceVal (x₁₃ .ptr) (length (x₁₃ .now)), (vptr (x₁₄ .ptr .0) (x₁₄ .ptr .1), (sliceVal (x₁₄ .ptr) (length (x₁₄ .now)), (vptr (x₁₅ .ptr .0) (x₁₅ .ptr .1), (sliceVal (x₁₅ .ptr) (length (x₁₅ .now)), (vptr (x₁₆ .ptr .0) (x₁₆ .ptr .1), (sliceVal (x₁₆ .ptr) (length (x₁₆ .now)), (vptr (x₂₉ .ptr .0) (x₂₉ .ptr .1), (sliceVal (x₂₉ .ptr) (length (x₂₉ .now)), (vptr (x₃₀ .ptr .0) (x₃₀ .ptr .1), (sliceVal (x₃₀ .ptr) (length (x₃₀ .now)), (vptr (x₃₁ .ptr .0) (x₃₁ .ptr .1), (sliceVal (x₃₁ .ptr) (length (x₃₁ .now)), (vptr (x₃₂ .ptr .0) (x₃₂ .ptr .1), (sliceVal (x₃₂ .ptr) (length (x₃₂ .now)), (vptr (x₃₇ .ptr .0) (x₃₇ .ptr .1), (sliceVal (x₃₇ .ptr) (length (x₃₇ .now)), (vptr (x₃₈ .ptr .0) (x₃₈ .ptr .1), (sliceVal (x₃₈ .ptr) (length (x₃₈ .now)), (vptr (x₃₉ .ptr .0) (x₃₉ .ptr .1), (sliceVal (x₃₉ .ptr) (length (x₃₉ .now)), (vptr (x₄₀ .ptr .0) (x₄₀ .ptr .1), (sliceVal (x₄₀ .ptr) (length (x₄₀ .now)), (vptr (x₄₁ .ptr .0) (x₄₁ .ptr .1), (sliceVal (x₄₁ .ptr) (length (x₄₁ .now)), (vint w64 (length (x₄₂ .now)), (vptr (x₄₂ .ptr .0) (x₄₂ .ptr .1), (sliceVal (x₄₂ .ptr) (length (x₄₂ .now)), (vptr (x₄₃ .ptr .0) (x₄₃ .ptr .1), (vptr (x₄₄ .ptr .0) (x₄₄ .ptr .1), (vptr (x₄₅ .ptr .0) (x₄₅ .ptr .1), (vptr (x₄₆ .ptr .0) (x₄₆ .ptr .1), (vptr (x₄₇ .ptr .0) (x₄₇ .ptr .1), (vptr (x₄₈ .ptr .0) (x₄₈ .ptr .1), tt)))))))))))))))))))))))))))))))))))))))))))))))))))))))))))))))))))))))))))))))))))))) (by ! (exits k v t tv r ws us vs ran out put-is))))))))))))))))))
 
 module _ {M : Type 1} (𝓤 : URA M) (H : Heap 𝓤) (A : Atoms 𝓤) (W : Given 𝓤 H A) (at-mem : Memory → SProp 𝓤) (run : Routine → Fun 𝓤) where
   entry-walks : (C : Calls 𝓤 H) (Λ : Loops 𝓤 H) → FmC 𝓤 H (W .laws) C → Triple 𝓤 (C #measures) (Measures 𝓤 H A at-mem run) → Triple 𝓤 (C #hands) (Hands 𝓤 H A at-mem run) → Triple 𝓤 (C #puts) (Puts 𝓤 H A at-mem run) → Walks 𝓤 H A f.ended stayed (WpFn 𝓤 H C Λ code.function) (f.clauses 𝓤 H A at-mem run)
