@@ -1,2 +1,5 @@
 pub mod Wholes
 pub mod Cuts
+pub mod Routes
+pub mod Least
+pub mod Pushed
