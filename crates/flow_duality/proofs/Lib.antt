@@ -3,3 +3,4 @@ pub mod Cuts
 pub mod Routes
 pub mod Least
 pub mod Pushed
+pub mod Trails

@@ -60,7 +60,7 @@ pub record Allowed (N : Net) (c₀ : List Float) (S : ℕ → Bool) : Type 0 whe
 
 -- a link stays infinite, or stays finite and at most 1 and the flow
 abbrev pub Fine : List Float → ℕ → Float → List Float → ℕ → Type 0
-Fine c₀ n t c e = ((left c₀ e ≡ inf false) × (left c e ≡ inf false)) ⊎ (Whole (left c e) × (val (left c e) ≤ 2 ^ 49 * ulp + val t + 2 * (n * ulp)))
+Fine c₀ n t c e = ((left c₀ e ≡ inf false) × (left c e ≡ inf false)) ⊎ ((left c₀ e ≢ inf false) × Whole (left c e) × (val (left c e) ≤ 2 ^ 49 * ulp + val t + 2 * (n * ulp)))
 
 -- after n pushes from capacities c₀
 pub record Flowing (N : Net) (c₀ : List Float) (n : ℕ) (t : Float) (c : List Float) : Type 0 where
@@ -73,8 +73,10 @@ pub record Flowing (N : Net) (c₀ : List Float) (n : ℕ) (t : Float) (c : List
 abbrev pub alone : Net → ℕ → Bool
 alone N v = eqb v (N .source)
 
--- what a run starts from: the source's links are finite, and have 8 at most
+-- what a run starts from: each link is infinite or has 1 at most; the source's links are finite, and have 8 at most
 pub record Begins (N : Net) (c₀ : List Float) : Type 0 where
+  pub size : length c₀ ≡ links N
+  pub each : (e : ℕ) → e < links N → (left c₀ e ≡ inf false) ⊎ ((left c₀ e ≢ inf false) × Whole (left c₀ e) × (val (left c₀ e) ≤ 2 ^ 49 * ulp))
   pub first : (e : ℕ) → e < links N → tail N e ≡ N .source → left c₀ e ≢ inf false
   pub source : Allowed N c₀ (alone N)
   pub most : outOf N (alone N) c₀ ≤ 8 * (2 ^ 49 * ulp)
@@ -86,11 +88,11 @@ within-whole x (fin true m e) h (p, f) = absurd p
 within-whole x (fin false m e) (inr (w, l)) v = l
 within-whole x (fin false m e) (inl q) v = absurd (fin-inf false m e q)
 
-module _ (N : Net) (G : WellFormed N) (c₀ : List Float) (B : Begins N c₀) (n : ℕ) (few : n < 1360) (t : Float) (c : List Float) (F : Flowing N c₀ n t c) where
-  bound : n * ulp ≤ 1360 * ulp
-  bound = mul-le-mul-right ulp (let h : n ≤ 1360 = omega arith in h)
+module _ (N : Net) (G : WellFormed N) (c₀ : List Float) (B : Begins N c₀) (n : ℕ) (few : n < 1361) (t : Float) (c : List Float) (F : Flowing N c₀ n t c) where
+  pub bound : n * ulp ≤ 1361 * ulp
+  bound = mul-le-mul-right ulp (let h : n ≤ 1361 = omega arith in h)
 
-  total-low : val t ≤ 8 * (2 ^ 49 * ulp) + 18 * (n * ulp)
+  pub total-low : val t ≤ 8 * (2 ^ 49 * ulp) + 18 * (n * ulp)
   total-low = let h = F .balance (alone N) (B .source) .0 in let m = B .most in omega arith
 
   capacity : (e : ℕ) → e < links N → Capacity (left c e)
@@ -98,15 +100,15 @@ module _ (N : Net) (G : WellFormed N) (c₀ : List Float) (B : Begins N c₀) (n
     where
       pick : Fine c₀ n t c e → Capacity (left c e)
       pick (inl (p, q)) = inl q
-      pick (inr (w, h)) = inr w
+      pick (inr (o, w, h)) = inr w
 
   -- a finite link is as the invariant says
-  finite : (e : ℕ) → e < links N → left c₀ e ≢ inf false → Whole (left c e) × (val (left c e) ≤ 2 ^ 49 * ulp + val t + 2 * (n * ulp))
+  pub finite : (e : ℕ) → e < links N → left c₀ e ≢ inf false → Whole (left c e) × (val (left c e) ≤ 2 ^ 49 * ulp + val t + 2 * (n * ulp))
   finite e l h = pick (F .fine e l)
     where
       pick : Fine c₀ n t c e → Whole (left c e) × (val (left c e) ≤ 2 ^ 49 * ulp + val t + 2 * (n * ulp))
       pick (inl (p, q)) = absurd (h p)
-      pick (inr w) = w
+      pick (inr (o, w, b)) = (w, b)
 
   back-in : (e : ℕ) → e < links N → rev e < links N
   back-in e l = rw (G .pairs) (rev-in e (G .added) (rw (← G .pairs) l))
@@ -147,9 +149,9 @@ module _ (N : Net) (G : WellFormed N) (c₀ : List Float) (B : Begins N c₀) (n
 
         pick : Left x ps c e → Fine c₀ n t c e → Fine c₀ (suc n) t' (pushPath x ps c) e
         pick (inl q) (inl (a, b)) = inl (a, q ∙ b)
-        pick (inl q) (inr (w, h)) = let (v, m, k) = more in let z = s in inr (rw q w, rw q (omega arith))
+        pick (inl q) (inr (o, w, h)) = let (v, m, k) = more in let z = s in inr (o, rw q w, rw q (omega arith))
         pick (inr (inl (i, q))) (inl (a, b)) = inl (a, q ∙ sub-inf x (left c e) (W .0) b)
-        pick (inr (inl (i, q))) (inr (w, h)) =
+        pick (inr (inl (i, q))) (inr (a, w, h)) =
             let (v, m, k) = more in
             let z = s in
             let g : val x ≤ val (left c e) = within-whole x (left c e) (within e i) w in
@@ -157,16 +159,16 @@ module _ (N : Net) (G : WellFormed N) (c₀ : List Float) (B : Begins N c₀) (n
             let b = bound in
             let u = ulp-pos in
             let (f, o, r) = sub-near (left c e) x (val (left c e) - val x) w W (omega arith) (omega arith) in
-            inr (rw q f, rw q (omega arith))
+            inr (a, rw q f, rw q (omega arith))
         pick (inr (inr q)) (inl (a, b)) = inl (a, q ∙ add-inf x (left c e) (W .0) b)
-        pick (inr (inr q)) (inr (w, h)) =
+        pick (inr (inr q)) (inr (a, w, h)) =
             let (v, m, k) = more in
             let z = s in
             let y = total-low in
             let b = bound in
             let u = ulp-pos in
             let (f, o, r) = add-near (left c e) x w W (omega arith) in
-            inr (rw q f, rw q (omega arith))
+            inr (a, rw q f, rw q (omega arith))
 
     moved : Flowing N c₀ (suc n) t' (pushPath x ps c)
     moved = record { size = pushPath-length x ps c ∙ F .size; total = more .0; fine = fine'; balance = balanced }
