@@ -11,24 +11,17 @@ use Rattle.numbers.specs.Real.{eps}
 use Rattle.numbers.specs.Choice.{choose, smaller}
 use Rattle.numbers.specs.Lists.{In}
 use Rattle.numbers.proofs.Floats.{Plain}
-use Rattle.numbers.proofs.Comparisons.{Above, lt-asym}
 use Rattle.numbers.proofs.Members.{Apart, apart-ne}
 use Rattle.flow_theory.specs.Network.{rev, left}
 use Rattle.flow_theory.specs.Augment.{least, pushLink, pushPath}
 use Rattle.flow_theory.proofs.Links.{rev-rev}
 use Rattle.flow_theory.proofs.Pushes.{plain-below, pushLink-length, pushLink-other, pushPath-other}
-use Rattle.flow_duality.proofs.Wholes.{val, Whole, val-ge}
+use Rattle.flow_duality.proofs.Wholes.{val, Whole, val-ge, val-lt}
 use Rattle.flow_duality.proofs.Cuts.{pushLink-back}
 
 -- an infinity, or finite
 abbrev pub Capacity : Float → Type 0
 Capacity y = (y ≡ inf false) ⊎ Whole y
-
-plain-above : (x : Float) → Plain x → Above x
-plain-above nan p = p
-plain-above (inf s) p = absurd p
-plain-above (fin true m e) p = p
-plain-above (fin false m e) p = p
 
 -- x is no more than y
 abbrev pub Within : Float → Float → Type 0
@@ -43,9 +36,6 @@ unfolding lt
 inf-not-below nan p h = p
 inf-not-below (inf s) p h = p
 inf-not-below (fin s m e) p h = false≢true h
-
-pub val-lt : (x y : Float) → Whole x → Whole y → lt x y ≡ true → val x ≤ val y
-val-lt x y w v h = val-ge y x v w (lt-asym x y (plain-above x (w .0)) (plain-above y (v .0)) h)
 
 module _ (c : List Float) where
   -- y becomes x, or stays

@@ -4,3 +4,5 @@ pub mod Routes
 pub mod Least
 pub mod Pushed
 pub mod Trails
+pub mod Starts
+pub mod Networks

@@ -22,36 +22,12 @@ use Rattle.flow_theory.specs.Run.{PhaseState, pushCounted, noPush, Phase, FlowR
 use Rattle.flow_theory.specs.Claim.{Phases, pushAt, PushTrail, PhasePushes, PhaseTrail, inCut, FlowClaim}
 use Rattle.flow_theory.proofs.Links.{WellFormed, Caps}
 use Rattle.flow_theory.proofs.Levels.{Levels, levels-ok}
-use Rattle.flow_duality.proofs.Wholes.{ulp, ulp-pos, val, Whole, val-ge, val-le}
+use Rattle.flow_duality.proofs.Wholes.{ulp, ulp-pos, val, Whole, val-ge, val-le, power-whole, power-val, nought-whole, nought-val, eps-whole, eps-val}
 use Rattle.flow_duality.proofs.Cuts.{upto, upto-under, leads, part, outOf}
 use Rattle.flow_duality.proofs.Routes.{Route, Came, walked, route-links, route-apart, route-one-way, route-length, route-chain}
 use Rattle.flow_duality.proofs.Pushed.{Allowed, Fine, Flowing, Begins, bound, total-low, finite, pushed}
 
--- ---- constants
-
-power-whole : Whole (power 40)
-unfolding fits
-power-whole = (tt, tt)
-
-power-val : 2 ^ 54 * ulp ≤ val (power 40)
-unfolding val ulp
-power-val = lit≤ tt
-
-nought-whole : Whole nought
-unfolding fits ofBits ofFields
-nought-whole = (tt, tt)
-
-nought-val : val nought ≡ 0
-unfolding val ofBits ofFields
-nought-val = refl
-
-eps-whole : Whole eps
-unfolding fits ofBits ofFields
-eps-whole = (tt, tt)
-
-eps-val : val eps ≤ 563 * ulp
-unfolding val ulp ofBits ofFields
-eps-val = lit≤ tt
+-- ---- tests
 
 over-eps : (x : Float) → x ≡ inf false → lt eps x ≡ true
 unfolding lt ofBits ofFields

@@ -9,7 +9,7 @@ use borrow.Author.Tests.{lt-ltb, le-ltb, ltb-false, eq-eqb}
 use lib.Dec.{T, isLe, isEq, ltb, leb, eqb, leb→le, nleb→lt, eqb→eq, lit<, lit≤}
 use lib.IntN.{ℤ, pos, negsuc}
 use lib.Pow.{pow-add, pow-pos, pow-mono, pow-lt}
-use lib.Ieee.{Float, nan, inf, fin, binary64, lt, le, eq, add, sub, round, size, nearest, up, down, fits}
+use lib.Ieee.{Float, nan, inf, fin, binary64, ofBits, ofFields, lt, le, eq, add, sub, round, size, nearest, up, down, fits}
 use lib.Ieee.Digits.{size-le, back}
 use lib.Ieee.Fits.{and-l, and-r, down-pos, round-fits}
 use lib.Ieee.Exact.{HasValue}
@@ -18,7 +18,10 @@ use lib.Ieee.Order.{drop, kept}
 use lib.Ieee.Scale.{grid, round-val}
 use lib.Ieee.Positive.{num, den, den-pos}
 use Rattle.numbers.proofs.Bools.{lt-or-ge}
-use Rattle.numbers.proofs.Floats.{Plain, plain-signed, add-is}
+use Rattle.numbers.specs.Real.{nought, one, eps}
+use Rattle.numbers.proofs.Floats.{power, Plain, plain-signed, add-is}
+use Rattle.numbers.proofs.Comparisons.{Above, lt-asym, le-not-lt}
+use Rattle.flow_duality.specs.Spare.{spare}
 
 -- 2^-49 in these units
 unfoldable pub ulp : ℕ
@@ -225,3 +228,57 @@ val-le (fin false m e) (fin false n d) w v h =
         pick : (a < b) ⊎ (b ≤ a) → (ltb a b || (eqb a b && (true || eqb a 0))) ≡ true
         pick (inl g) = rw (lt-ltb a b g)
         pick (inr g) = let z : a ≡ b = omega arith in rw (le-ltb a b g, eq-eqb a b z)
+
+pub plain-above : (x : Float) → Plain x → Above x
+plain-above nan p = p
+plain-above (inf s) p = absurd p
+plain-above (fin true m e) p = p
+plain-above (fin false m e) p = p
+
+pub val-lt : (x y : Float) → Whole x → Whole y → lt x y ≡ true → val x ≤ val y
+val-lt x y w v h = val-ge y x v w (lt-asym x y (plain-above x (w .0)) (plain-above y (v .0)) h)
+
+pub le-val : (x y : Float) → Whole x → Whole y → le x y ≡ true → val x ≤ val y
+le-val x y w v h = val-ge y x v w (le-not-lt x y (plain-above x (w .0)) (plain-above y (v .0)) h)
+
+-- ---- constants
+
+pub power-whole : Whole (power 40)
+unfolding fits
+power-whole = (tt, tt)
+
+pub power-val : 2 ^ 54 * ulp ≤ val (power 40)
+unfolding val ulp
+power-val = lit≤ tt
+
+pub nought-whole : Whole nought
+unfolding fits ofBits ofFields
+nought-whole = (tt, tt)
+
+pub nought-val : val nought ≡ 0
+unfolding val ofBits ofFields
+nought-val = refl
+
+pub one-whole : Whole one
+unfolding fits ofBits ofFields
+one-whole = (tt, tt)
+
+pub one-val : val one ≡ 2 ^ 49 * ulp
+unfolding val ulp ofBits ofFields
+one-val = refl
+
+pub eps-whole : Whole eps
+unfolding fits ofBits ofFields
+eps-whole = (tt, tt)
+
+pub eps-val : val eps ≤ 563 * ulp
+unfolding val ulp ofBits ofFields
+eps-val = lit≤ tt
+
+pub spare-whole : Whole spare
+unfolding fits ofBits ofFields
+spare-whole = (tt, tt)
+
+pub spare-val : (168884 * ulp ≤ val spare) × (val spare ≤ 168885 * ulp)
+unfolding val ulp ofBits ofFields
+spare-val = (lit≤ tt, lit≤ tt)
