@@ -6,3 +6,4 @@ pub mod Pushed
 pub mod Trails
 pub mod Starts
 pub mod Networks
+pub mod Duality

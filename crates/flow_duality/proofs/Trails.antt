@@ -156,7 +156,7 @@ module _ (N : Net) (G : WellFormed N) (few : nodes N ≤ 18) (c₀ : List Float)
     pub below-cut : (S : ℕ → Bool) → Allowed N c₀ S → val (r .total) ≤ outOf N S c₀ + 24480 * ulp
     below-cut S a = let h = ran .balance S a .0 in let f = few-ulps in omega arith
 
-    own-cut : Allowed N c₀ (inCut r)
+    pub own-cut : Allowed N c₀ (inCut r)
     own-cut = record { source-in = C .bounded .cut .source-in; sink-out = C .bounded .cut .sink-out; finite = λ e l h q. pick e l h q (ran .fine e l) }
       where
         pick : (e : ℕ) → e < links N → leads N (inCut r) e ≡ true → left c₀ e ≡ inf false → Fine c₀ (allPushes (r .phases)) (r .total) (r .cap) e → ⊥
