@@ -7,3 +7,4 @@ pub mod Trails
 pub mod Starts
 pub mod Networks
 pub mod Duality
+pub mod Plenty
