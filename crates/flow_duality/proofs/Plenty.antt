@@ -27,9 +27,9 @@ use Rattle.flow_duality.proofs.Duality.{Mutual, passes-back, passes-for
 
 -- ---- plenty
 
--- a flow that is plenty against a symmetric relation is enough, and so is the one back
+-- a flow that is plenty, between rows of at most 8 jumps against a symmetric relation, is enough, and so is the one back
 abbrev pub Plenty : ℕ → List ℕ → List ℕ → List Float → Float → Float → Type 0
-Plenty n S T P need plenty = (R : List Bool) → Symmetric n R → (s t : ℕ) → s < n → t < n → testIn n S T P plenty R s t ≡ true → (testIn n S T P need R s t ≡ true) × (testIn n S T P need R t s ≡ true)
+Plenty n S T P need plenty = (R : List Bool) → Symmetric n R → (s t : ℕ) → s < n → t < n → getD S (s + 1) 0 ≤ getD S s 0 + 8 → getD S (t + 1) 0 ≤ getD S t 0 + 8 → testIn n S T P plenty R s t ≡ true → (testIn n S T P need R s t ≡ true) × (testIn n S T P need R t s ≡ true)
 
 -- a number of the format
 abbrev pub Formed : Float → Type 0
@@ -39,9 +39,9 @@ Formed x = T (fits binary64 x)
 abbrev pub Light : ℕ → List ℕ → List Float → ℕ → Type 0
 Light n T P i = (getD T i 0 < n) × Formed (getD P i nan) × (lt nought (getD P i nan) ≡ true) × (le (getD P i nan) one ≡ true)
 
--- the row of s has at most 8 jumps, all of them such
+-- all jumps of s are such
 abbrev pub LightRow : ℕ → List ℕ → List ℕ → List Float → ℕ → Type 0
-LightRow n S T P s = (getD S (s + 1) 0 ≤ getD S s 0 + 8) × ((i : ℕ) → getD S s 0 ≤ i → i < getD S (s + 1) 0 → Light n T P i)
+LightRow n S T P s = (i : ℕ) → getD S s 0 ≤ i → i < getD S (s + 1) 0 → Light n T P i
 
 above-plain : (x : Float) → lt nought x ≡ true → le x one ≡ true → Plain x
 unfolding lt le eq ofBits ofFields
@@ -79,17 +79,16 @@ module _ {n : ℕ} {S T : List ℕ} {P : List Float} (F : RowsFit n S T P) where
       where
         share : (i : ℕ) → getD S s 0 + i < getD S (s + 1) 0 → Share (getD (slice (getD S s 0) (getD S (s + 1) 0) P) i nan)
         share i l =
-            let (_, f, p, q) = L .1 (getD S s 0 + i) (omega arith) l in
+            let (_, f, p, q) = L (getD S s 0 + i) (omega arith) l in
             subst⁻¹ Share (part-at (getD S s 0) (getD S (s + 1) 0) P nan i l) ((above-plain (getD P (getD S s 0 + i) nan) p q, f), q)
 
-    row-few : length (rowIn S T P s) ≤ 8
-    row-few =
+    row-few : getD S (s + 1) 0 ≤ getD S s 0 + 8 → length (rowIn S T P s) ≤ 8
+    row-few f =
         let a = getD S s 0 in
         let b = getD S (s + 1) 0 in
         let y = length-slice a b T (F .targets-long s h) in
         let z = length-slice a b P (F .probs-long s h) in
         let e = jumps-length (slice a b T) (slice a b P) (y ∙ sym z) in
-        let f = L .0 in
         omega arith
 
     row-targets : (j : Jump) → In j (rowIn S T P s) → j .target < n
@@ -101,20 +100,29 @@ module _ {n : ℕ} {S T : List ℕ} {P : List Float} (F : RowsFit n S T P) where
         targets-of n (slice a b T) (slice a b P) (λ i l. target i (omega arith))
       where
         target : (i : ℕ) → getD S s 0 + i < getD S (s + 1) 0 → getD (slice (getD S s 0) (getD S (s + 1) 0) T) i 0 < n
-        target i l = subst⁻¹ (λ (u : ℕ). u < n) (part-at (getD S s 0) (getD S (s + 1) 0) T 0 i l) (L .1 (getD S s 0 + i) (omega arith) l .0)
+        target i l = subst⁻¹ (λ (u : ℕ). u < n) (part-at (getD S s 0) (getD S (s + 1) 0) T 0 i l) (L (getD S s 0 + i) (omega arith) l .0)
 
   -- 3e-10 more than what is needed is plenty
   pub plenty-of : (need : Float) → Formed need → ((s : ℕ) → s < n → LightRow n S T P s) → Plenty n S T P need (add binary64 need spare)
-  plenty-of need f L R sym-R s t hs ht p =
+  plenty-of need f L R sym-R s t hs ht fs ft p =
       let m : Mutual n R (rowIn S T P s) (rowIn S T P t) = λ j k x y. sym-R (j .target) (k .target) (row-targets s hs (L s hs) j x) (row-targets t ht (L t ht) k y) in (
-        passes-forth n R (rowIn S T P s) (rowIn S T P t) (row-shares s hs (L s hs)) (row-shares t ht (L t ht)) (row-few s hs (L s hs)) (row-few t ht (L t ht)) m need f p,
-        passes-back n R (rowIn S T P s) (rowIn S T P t) (row-shares s hs (L s hs)) (row-shares t ht (L t ht)) (row-few s hs (L s hs)) (row-few t ht (L t ht)) m need f p,
+        passes-forth n R (rowIn S T P s) (rowIn S T P t) (row-shares s hs (L s hs)) (row-shares t ht (L t ht)) (row-few s hs (L s hs) fs) (row-few t ht (L t ht) ft) m need f p,
+        passes-back n R (rowIn S T P s) (rowIn S T P t) (row-shares s hs (L s hs)) (row-shares t ht (L t ht)) (row-few s hs (L s hs) fs) (row-few t ht (L t ht) ft) m need f p,
       )
+
+-- no flow is a number that is none
+pub none-above : (x : Float) → le nan x ≡ true → ⊥
+unfolding le lt eq
+none-above x h = false≢true h
 
 -- no flow is plenty
 pub plenty-none : (n : ℕ) (S T : List ℕ) (P : List Float) (need : Float) → Plenty n S T P need nan
 unfolding le lt eq
-plenty-none n S T P need R m s t hs ht p = absurd (false≢true p)
+plenty-none n S T P need R m s t hs ht fs ft p = absurd (false≢true p)
+
+-- what is plenty between rows a..b and c..d: where both have at most 8 jumps
+abbrev pub Between : ℕ → ℕ → ℕ → ℕ → Float → Float → Type 0
+Between a b c d plenty here = (x : Float) → le here x ≡ true → (b ≤ a + 8) × (d ≤ c + 8) × (le plenty x ≡ true)
 
 -- ---- a relation that stays symmetric
 
