@@ -41,7 +41,14 @@ fn make(
     let need = needed(epsilon);
     let plenty = plenty_of(starts, targets, probs, states, need);
     run(
-        exits, starts, targets, probs, states, need, plenty, relation,
+        exits,
+        starts,
+        targets,
+        probs,
+        states,
+        need,
+        plenty,
+        relation,
     );
 }
 

@@ -67,9 +67,7 @@ fn still_passes(
     if unchanged(starts, targets, states, changed, s, t) {
         return true;
     }
-    passes_both(
-        starts, targets, probs, states, need, plenty, relation, s, t,
-    )
+    passes_both(starts, targets, probs, states, need, plenty, relation, s, t)
 }
 
 // The turn of (s, t), and whether the sweep has struck then: a pair that stands is tested if s has an exit, and both orders are cleared where a test fails.
@@ -283,6 +281,13 @@ pub(crate) fn run(
         return;
     }
     run_large(
-        exits, starts, targets, probs, states, need, plenty, relation,
+        exits,
+        starts,
+        targets,
+        probs,
+        states,
+        need,
+        plenty,
+        relation,
     );
 }
