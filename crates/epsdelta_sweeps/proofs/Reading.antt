@@ -5,7 +5,8 @@ use mathlib.Core.Bool.{Bool, true, false, _&&_}
 use mathlib.Core.List.{List, []}
 use native.Mathlib.Omega.{arith}
 use lib.Dec.{eqb, leb, ltb, leb→le}
-use lib.Ieee.{Float, nan, le}
+use lib.Ieee.{Float, nan, binary64, le, sub}
+use lib.Ieee.Fits.{sub-fits}
 use lib.ListN.{length, getD, take, length-map}
 use lib.Seq.{getD-take, length-slice, ext-getD}
 use borrow.Author.Tests.{ltb-true}
@@ -13,7 +14,7 @@ use Rattle.numbers.specs.Lists.{span, every, all}
 use Rattle.numbers.proofs.Bools.{and-t, t-of}
 use Rattle.numbers.proofs.Spans.{span-length}
 use Rattle.numbers.proofs.Alls.{every-at}
-use Rattle.numbers.specs.Real.{isZero}
+use Rattle.numbers.specs.Real.{isZero, one, slack}
 use Rattle.numbers.specs.Bits.{packed}
 use Rattle.epsdelta_theory.specs.Jumps.{Jump, Jumps, Row, noRow, exit, prob}
 use Rattle.epsdelta_theory.specs.FlowTest.{runBetween, testRun, needed, flowOk}
@@ -21,11 +22,12 @@ use Rattle.epsdelta_theory.specs.Sweeps.{Task, Run, marked, marks, sweeps, run}
 use Rattle.epsdelta_theory.specs.Epsdelta.{Given, givenRows, ratesClose, class, task, epsdelta}
 use Rattle.epsdelta_theory.specs.Relation.{relationBytes}
 use Rattle.epsdelta_theory.proofs.Pairs.{count, count-le}
-use Rattle.epsdelta_theory.proofs.Marks.{marks-length}
+use Rattle.epsdelta_theory.proofs.Marks.{marks-length, marks-symmetric}
 use Rattle.epsdelta_theory.proofs.TasksIn.{markedIn, MarksIn, rowIn, testIn, SweepsIn, RowsFit}
 use Rattle.epsdelta_theory.proofs.Rows.{at-map-span}
 use Rattle.epsdelta_theory.proofs.RowsIn.{HoldsTo}
 use Rattle.epsdelta_theory.proofs.Runs.{run-bytes}
+use Rattle.flow_duality.proofs.Plenty.{Formed, Even, symmetric-even}
 use Rattle.flow_links.specs.Fits.{rateFits, rowFits}
 use Rattle.epsdelta_sweeps.specs.Rows.{entries, rowAt, rowsIn, rowStands, readable}
 use Rattle.epsdelta_sweeps.proofs.Sweeping.{Bytes}
@@ -38,6 +40,17 @@ unfolding marked
 marks-bytes n C E ρ store m =
     let Q : Task = record { states = n; class = λ s. getD C s 0; ratesPass = λ s t. ratesClose (getD E s nan) (getD E t nan) ρ; noExit = λ s. true; test = λ R s t. true } in
     (marks Q, m Q (record { states = refl; mark = λ s t h k. refl }), marks-length Q)
+
+pub marks-even : (n : ℕ) (C : List ℕ) (E : List Float) (ρ : Float) (store : List ℕ) → ((Q : Task) → MarksIn Q n C E ρ → store ≡ packed (marks Q)) → Even n store
+unfolding marked
+marks-even n C E ρ store m =
+    let Q : Task = record { states = n; class = λ s. getD C s 0; ratesPass = λ s t. ratesClose (getD E s nan) (getD E t nan) ρ; noExit = λ s. true; test = λ R s t. true } in
+    symmetric-even n store (marks Q) (m Q (record { states = refl; mark = λ s t h k. refl })) (marks-symmetric Q)
+
+-- what a flow has to come to is a number of the format
+pub needed-formed : {need : Float} (ε : Float) → need ≡ needed ε → Formed need
+unfolding needed
+needed-formed ε e = subst⁻¹ Formed e (sub-fits binary64 (sub binary64 one ε) slack)
 
 -- ---- the rows
 

@@ -1,11 +1,11 @@
 -- A pair's turn as code makes it: the pair is passed over without an exit, where it does not stand, and where both flow tests pass; else both orders are cleared.
 use mathlib.Core.Path.{_≡_, refl, sym, ap, subst⁻¹, _∙_}
 use Prim.Native.Nat.{ℕ, zero, suc, _+_, _-_, _*_, _<_}
-use mathlib.Core.Bool.{Bool, true, false, _&&_, not, false≢true}
+use mathlib.Core.Bool.{Bool, true, false, _&&_, _||_, not, false≢true}
 use mathlib.Core.List.{List, [], _∷_}
 use native.Mathlib.Omega.{arith}
 use lib.Dec.{leb, eqb}
-use lib.Ieee.{Float, nan}
+use lib.Ieee.{Float, nan, le}
 use lib.ListN.{length, getD, take, drop}
 use lib.Seq.{take-nil, slice, length-slice}
 use borrow.Author.Tests.{le-leb, eq-eqb}
@@ -18,6 +18,7 @@ use Rattle.epsdelta_theory.specs.FlowTest.{runBetween}
 use Rattle.epsdelta_theory.specs.Sweeps.{Task, Run, strike, afterBack, afterForth, testPair, turn}
 use Rattle.epsdelta_theory.proofs.Pairs.{packed-holds, packed-cleared}
 use Rattle.epsdelta_theory.proofs.TasksIn.{rowIn, testIn, RowsFit, SweepsIn, Stored}
+use Rattle.flow_duality.proofs.Plenty.{Plenty, Between, Even, even-symmetric}
 use Rattle.flow_links.specs.Fits.{rowFits, fits}
 use Rattle.flow_links.proofs.Fitting.{all-fit}
 use Rattle.epsdelta_theory.specs.Relation.{relationOf}
@@ -27,7 +28,7 @@ use Rattle.flow_core.specs.Outcome.{settled}
 use Rattle.flow_theory.specs.Run.{allPushes}
 use Rattle.flow_core.specs.declared.rows.Answer.{Answer}
 use Rattle.flow_core.specs.declared.rows.Answer.the-variants.{Flow}
-use Rattle.flow_direct.specs.Reaches.{bothReach, reaches, atLeast}
+use Rattle.flow_direct.specs.Reaches.{plentyOrBoth, reaches, atLeast}
 use Rattle.flow_direct.proofs.Beginning.{answer-reaches}
 
 -- ---- a flow test
@@ -89,12 +90,20 @@ module _ {n : ℕ} {S T : List ℕ} {P : List Float} (F : RowsFit n S T P) where
       let ws = partOf S t P in
       sym (answer-reaches need (fits us vs ts ws n) (runBetween n (relationOf store) (jumpsOf us vs) (jumpsOf ts ws))) ∙ ap (atLeast need) (passed-in store R z s t h k)
 
-  -- both ways
-  pub reached-both : (need : Float) (store : List ℕ) (R : List Bool) → store ≡ packed R → (s t : ℕ) → s < n → t < n
-      → bothReach (partOf S s T) (partOf S s P) (partOf S t T) (partOf S t P) n (relationOf store) need ≡ (testIn n S T P need R s t && testIn n S T P need R t s)
-  reached-both need store R z s t h k =
-      ap (λ (b : Bool). b && reaches (partOf S t T) (partOf S t P) (partOf S s T) (partOf S s P) n (relationOf store) need) (reached-in need store R z s t h k)
-      ∙ ap (λ (b : Bool). testIn n S T P need R s t && b) (reached-in need store R z t s k h)
+  -- both ways; where the flow one way is plenty, both tests pass
+  pub reached-plenty : (need plenty : Float) → Plenty n S T P need plenty → (here : Float) → (store : List ℕ) (R : List Bool) → store ≡ packed R → Even n store → (s t : ℕ) → Between (getD S s 0) (getD S (s + 1) 0) (getD S t 0) (getD S (t + 1) 0) plenty here → s < n → t < n
+      → plentyOrBoth (partOf S s T) (partOf S s P) (partOf S t T) (partOf S t P) n (relationOf store) need here ≡ (testIn n S T P need R s t && testIn n S T P need R t s)
+  reached-plenty need plenty K here store R z E s t B h k =
+      ap (λ (b : Bool). (le need here && b) || (reaches (partOf S s T) (partOf S s P) (partOf S t T) (partOf S t P) n (relationOf store) need && reaches (partOf S t T) (partOf S t P) (partOf S s T) (partOf S s P) n (relationOf store) need)) (reached-in here store R z s t h k)
+      ∙ ap (λ (b : Bool). (le need here && testIn n S T P here R s t) || (b && reaches (partOf S t T) (partOf S t P) (partOf S s T) (partOf S s P) n (relationOf store) need)) (reached-in need store R z s t h k)
+      ∙ ap (λ (b : Bool). (le need here && testIn n S T P here R s t) || (testIn n S T P need R s t && b)) (reached-in need store R z t s k h)
+      ∙ left-out (le need here) (testIn n S T P here R s t) (testIn n S T P need R s t) (testIn n S T P need R t s)
+      (λ p. let (x, y, q) = B ((runBetween n R (rowIn S T P s) (rowIn S T P t)) .total) p in K R (even-symmetric n store R z E) s t h k x y q)
+    where
+      left-out : (a p f b : Bool) → (p ≡ true → (f ≡ true) × (b ≡ true)) → ((a && p) || (f && b)) ≡ (f && b)
+      left-out false p f b g = refl
+      left-out true false f b g = refl
+      left-out true true f b g = let (x, y) = g refl in and-second f b true x (sym y)
 
 pub first-fails : (a b : Bool) → a ≡ false → false ≡ (a && b)
 first-fails a b h = ap (λ (x : Bool). x && b) (sym h)

@@ -1,5 +1,6 @@
 // The relation of the states whose rows stand in lists: marks, then sweeps.
 use crate::marks::marks;
+use crate::plenty::plenty_of;
 use crate::rows::all_stand;
 use crate::rows::long_enough;
 use crate::sweeps::run;
@@ -37,13 +38,16 @@ fn make(
     ensures { λ r. ⌜ now (relation .exit) ≡ packed (relationIn states (now (classes .entry)) (now (exits .entry)) (now (starts .entry)) (now (targets .entry)) (now (probs .entry)) epsilon rho) ⌝ }
 {
     marks(classes, exits, rho, states, relation);
+    let need = needed(epsilon);
+    let plenty = plenty_of(starts, targets, probs, states, need);
     run(
         exits,
         starts,
         targets,
         probs,
         states,
-        needed(epsilon),
+        need,
+        plenty,
         relation,
     );
 }

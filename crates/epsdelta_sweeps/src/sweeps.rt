@@ -2,6 +2,7 @@
 use crate::changes::fade;
 use crate::changes::strike;
 use crate::changes::unchanged;
+use crate::plenty::plenty_between;
 use flow_direct::reach::flows_reach;
 use numbers::bit;
 ghost use mathlib.Core.Path.{_≡_};
@@ -12,7 +13,8 @@ ghost use lib.ListN.{length, getD};
 ghost use Rattle.numbers.specs.Bits.{packed};
 ghost use Rattle.epsdelta_theory.specs.Sweeps;
 ghost use Rattle.epsdelta_theory.proofs.TasksIn.{RowsFit, testIn, Makes, RunsTo};
-ghost use Rattle.epsdelta_theory.proofs.Unchanged.{Settled, Noted};
+ghost use Rattle.epsdelta_theory.proofs.Unchanged.{Settled};
+ghost use Rattle.flow_duality.proofs.Plenty.{Plenty, Even, Kept};
 
 // Whether the flow test passes both ways.
 fn passes_both(
@@ -21,17 +23,19 @@ fn passes_both(
     probs: &[f64],
     states: usize,
     need: f64,
+    plenty: f64,
     relation: &[u8],
     s: usize,
     t: usize,
 ) -> bool
-    requires { ⌜ RowsFit states (now starts) (now targets) (now probs) × (s < states) × (t < states) ⌝ }
+    requires { ⌜ RowsFit states (now starts) (now targets) (now probs) × (s < states) × (t < states) × Plenty states (now starts) (now targets) (now probs) need plenty × Even states (now relation) ⌝ }
     ensures { λ r. ⌜ ((R : List Bool) → now (relation .entry) ≡ packed R → r ≡ (testIn states (now (starts .entry)) (now (targets .entry)) (now (probs .entry)) need R s t && testIn states (now (starts .entry)) (now (targets .entry)) (now (probs .entry)) need R t s)) ⌝ }
 {
     let a = starts[s] as usize;
     let b = starts[s + 1] as usize;
     let c = starts[t] as usize;
     let d = starts[t + 1] as usize;
+    let here = plenty_between(a, b, c, d, plenty);
     flows_reach(
         &targets[a..b],
         &probs[a..b],
@@ -40,6 +44,7 @@ fn passes_both(
         states,
         relation,
         need,
+        here,
     )
 }
 
@@ -50,18 +55,19 @@ fn still_passes(
     probs: &[f64],
     states: usize,
     need: f64,
+    plenty: f64,
     relation: &[u8],
     changed: &[u64],
     s: usize,
     t: usize,
 ) -> bool
-    requires { ⌜ RowsFit states (now starts) (now targets) (now probs) × (2 * states < length (now changed)) × (s < states) × (t < states) × Settled states (now starts) (now targets) (now probs) need (now relation) (now changed) s t ⌝ }
+    requires { ⌜ RowsFit states (now starts) (now targets) (now probs) × (2 * states < length (now changed)) × (s < states) × (t < states) × Settled states (now starts) (now targets) (now probs) need (now relation) (now changed) s t × Plenty states (now starts) (now targets) (now probs) need plenty × Even states (now relation) ⌝ }
     ensures { λ r. ⌜ ((R : List Bool) → now (relation .entry) ≡ packed R → r ≡ (testIn states (now (starts .entry)) (now (targets .entry)) (now (probs .entry)) need R s t && testIn states (now (starts .entry)) (now (targets .entry)) (now (probs .entry)) need R t s)) ⌝ }
 {
     if unchanged(starts, targets, states, changed, s, t) {
         return true;
     }
-    passes_both(starts, targets, probs, states, need, relation, s, t)
+    passes_both(starts, targets, probs, states, need, plenty, relation, s, t)
 }
 
 // The turn of (s, t), and whether the sweep has struck then: a pair that stands is tested if s has an exit, and both orders are cleared where a test fails.
@@ -72,14 +78,15 @@ fn turn(
     probs: &[f64],
     states: usize,
     need: f64,
+    plenty: f64,
     relation: &mut [u8],
     changed: &mut [u64],
     s: usize,
     t: usize,
     struck: bool,
 ) -> bool
-    requires { ⌜ RowsFit states (now starts) (now targets) (now probs) × (states ≤ length (now exits)) × (s < t) × (t < states) × Noted states (now exits) (now starts) (now targets) (now probs) need (now relation) (now changed) s t ⌝ }
-    ensures { λ r. ⌜ Makes states (now (exits .entry)) (now (starts .entry)) (now (targets .entry)) (now (probs .entry)) need (λ Q. Sweeps.turn Q s t) (now (relation .entry)) struck (now (relation .exit)) r × Noted states (now (exits .entry)) (now (starts .entry)) (now (targets .entry)) (now (probs .entry)) need (now (relation .exit)) (now (changed .exit)) s (t + 1) ⌝ }
+    requires { ⌜ RowsFit states (now starts) (now targets) (now probs) × (states ≤ length (now exits)) × (s < t) × (t < states) × Kept states (now exits) (now starts) (now targets) (now probs) need plenty (now relation) (now changed) s t ⌝ }
+    ensures { λ r. ⌜ Makes states (now (exits .entry)) (now (starts .entry)) (now (targets .entry)) (now (probs .entry)) need (λ Q. Sweeps.turn Q s t) (now (relation .entry)) struck (now (relation .exit)) r × Kept states (now (exits .entry)) (now (starts .entry)) (now (targets .entry)) (now (probs .entry)) need plenty (now (relation .exit)) (now (changed .exit)) s (t + 1) ⌝ }
 {
     if !bit(relation, s * states + t) {
         return struck;
@@ -93,6 +100,7 @@ fn turn(
         probs,
         states,
         need,
+        plenty,
         relation,
         changed,
         s,
@@ -112,13 +120,14 @@ fn sweep_row(
     probs: &[f64],
     states: usize,
     need: f64,
+    plenty: f64,
     relation: &mut [u8],
     changed: &mut [u64],
     s: usize,
     before: bool,
 ) -> bool
-    requires { ⌜ RowsFit states (now starts) (now targets) (now probs) × (states ≤ length (now exits)) × (s < states) × Noted states (now exits) (now starts) (now targets) (now probs) need (now relation) (now changed) s (s + 1) ⌝ }
-    ensures { λ r. ⌜ Makes states (now (exits .entry)) (now (starts .entry)) (now (targets .entry)) (now (probs .entry)) need (λ Q. Sweeps.sweepRow Q (states - (s + 1)) s (s + 1)) (now (relation .entry)) before (now (relation .exit)) r × Noted states (now (exits .entry)) (now (starts .entry)) (now (targets .entry)) (now (probs .entry)) need (now (relation .exit)) (now (changed .exit)) (s + 1) (s + 1 + 1) ⌝ }
+    requires { ⌜ RowsFit states (now starts) (now targets) (now probs) × (states ≤ length (now exits)) × (s < states) × Kept states (now exits) (now starts) (now targets) (now probs) need plenty (now relation) (now changed) s (s + 1) ⌝ }
+    ensures { λ r. ⌜ Makes states (now (exits .entry)) (now (starts .entry)) (now (targets .entry)) (now (probs .entry)) need (λ Q. Sweeps.sweepRow Q (states - (s + 1)) s (s + 1)) (now (relation .entry)) before (now (relation .exit)) r × Kept states (now (exits .entry)) (now (starts .entry)) (now (targets .entry)) (now (probs .entry)) need plenty (now (relation .exit)) (now (changed .exit)) (s + 1) (s + 1 + 1) ⌝ }
 {
     let mut struck = before;
     let mut t = s + 1;
@@ -130,6 +139,7 @@ fn sweep_row(
             probs,
             states,
             need,
+            plenty,
             relation,
             changed,
             s,
@@ -149,11 +159,12 @@ fn sweep(
     probs: &[f64],
     states: usize,
     need: f64,
+    plenty: f64,
     relation: &mut [u8],
     changed: &mut [u64],
 ) -> bool
-    requires { ⌜ RowsFit states (now starts) (now targets) (now probs) × (states ≤ length (now exits)) × Noted states (now exits) (now starts) (now targets) (now probs) need (now relation) (now changed) 0 1 ⌝ }
-    ensures { λ r. ⌜ Makes states (now (exits .entry)) (now (starts .entry)) (now (targets .entry)) (now (probs .entry)) need (λ Q. Sweeps.sweepRows Q states 0) (now (relation .entry)) false (now (relation .exit)) r × Noted states (now (exits .entry)) (now (starts .entry)) (now (targets .entry)) (now (probs .entry)) need (now (relation .exit)) (now (changed .exit)) states (states + 1) ⌝ }
+    requires { ⌜ RowsFit states (now starts) (now targets) (now probs) × (states ≤ length (now exits)) × Kept states (now exits) (now starts) (now targets) (now probs) need plenty (now relation) (now changed) 0 1 ⌝ }
+    ensures { λ r. ⌜ Makes states (now (exits .entry)) (now (starts .entry)) (now (targets .entry)) (now (probs .entry)) need (λ Q. Sweeps.sweepRows Q states 0) (now (relation .entry)) false (now (relation .exit)) r × Kept states (now (exits .entry)) (now (starts .entry)) (now (targets .entry)) (now (probs .entry)) need plenty (now (relation .exit)) (now (changed .exit)) states (states + 1) ⌝ }
 {
     let mut struck = false;
     let mut s: usize = 0;
@@ -165,6 +176,7 @@ fn sweep(
             probs,
             states,
             need,
+            plenty,
             relation,
             changed,
             s,
@@ -183,10 +195,11 @@ fn run_in(
     probs: &[f64],
     states: usize,
     need: f64,
+    plenty: f64,
     relation: &mut [u8],
     changed: &mut [u64],
 )
-    requires { ⌜ RowsFit states (now starts) (now targets) (now probs) × (states ≤ length (now exits)) ⌝ }
+    requires { ⌜ RowsFit states (now starts) (now targets) (now probs) × (states ≤ length (now exits)) × Plenty states (now starts) (now targets) (now probs) need plenty × Even states (now relation) ⌝ }
     requires { ⌜ ((R : List Bool) × (now relation ≡ packed R) × (length R ≡ states * states)) ⌝ }
     requires { ⌜ (2 * states < length (now changed)) × (getD (now changed) (2 * states) 0 ≡ 0) ⌝ }
     ensures { λ r. ⌜ RunsTo states (now (exits .entry)) (now (starts .entry)) (now (targets .entry)) (now (probs .entry)) need (now (relation .entry)) (now (relation .exit)) ⌝ }
@@ -200,6 +213,7 @@ fn run_in(
             probs,
             states,
             need,
+            plenty,
             relation,
             changed,
         );
@@ -215,9 +229,10 @@ fn run_large(
     probs: &[f64],
     states: usize,
     need: f64,
+    plenty: f64,
     relation: &mut [u8],
 )
-    requires { ⌜ RowsFit states (now starts) (now targets) (now probs) × (states ≤ length (now exits)) ⌝ }
+    requires { ⌜ RowsFit states (now starts) (now targets) (now probs) × (states ≤ length (now exits)) × Plenty states (now starts) (now targets) (now probs) need plenty × Even states (now relation) ⌝ }
     requires { ⌜ ((R : List Bool) × (now relation ≡ packed R) × (length R ≡ states * states)) ⌝ }
     ensures { λ r. ⌜ RunsTo states (now (exits .entry)) (now (starts .entry)) (now (targets .entry)) (now (probs .entry)) need (now (relation .entry)) (now (relation .exit)) ⌝ }
 {
@@ -229,6 +244,7 @@ fn run_large(
         probs,
         states,
         need,
+        plenty,
         relation,
         &mut changed,
     );
@@ -242,9 +258,10 @@ pub(crate) fn run(
     probs: &[f64],
     states: usize,
     need: f64,
+    plenty: f64,
     relation: &mut [u8],
 )
-    requires { ⌜ RowsFit states (now starts) (now targets) (now probs) × (states ≤ length (now exits)) ⌝ }
+    requires { ⌜ RowsFit states (now starts) (now targets) (now probs) × (states ≤ length (now exits)) × Plenty states (now starts) (now targets) (now probs) need plenty × Even states (now relation) ⌝ }
     requires { ⌜ ((R : List Bool) × (now relation ≡ packed R) × (length R ≡ states * states)) ⌝ }
     ensures { λ r. ⌜ RunsTo states (now (exits .entry)) (now (starts .entry)) (now (targets .entry)) (now (probs .entry)) need (now (relation .entry)) (now (relation .exit)) ⌝ }
 {
@@ -257,10 +274,20 @@ pub(crate) fn run(
             probs,
             states,
             need,
+            plenty,
             relation,
             &mut changed,
         );
         return;
     }
-    run_large(exits, starts, targets, probs, states, need, relation);
+    run_large(
+        exits,
+        starts,
+        targets,
+        probs,
+        states,
+        need,
+        plenty,
+        relation,
+    );
 }

@@ -7,15 +7,15 @@ use flow_core::rows::Answer;
 use flow_core::test::flow_between;
 use flow_links::fits::rows_fit;
 ghost use mathlib.Core.Path.{_≡_};
-ghost use mathlib.Core.Bool.{true};
+ghost use mathlib.Core.Bool.{true, _&&_};
 ghost use Prim.Native.Nat.{ℕ, _≤_, _<_, _*_};
 ghost use lib.ListN.{length, getD};
-ghost use lib.Ieee.{nan};
+ghost use lib.Ieee.{nan, le};
 ghost use Rattle.numbers.specs.Real.{nought};
 ghost use Rattle.epsdelta_theory.specs.Relation.{relationOf};
 ghost use Rattle.flow_links.specs.Fits.{fits};
 ghost use Rattle.flow_routes.proofs.Reaching.{Told};
-ghost use Rattle.flow_direct.specs.Reaches.{atLeast, reaches, bothReach};
+ghost use Rattle.flow_direct.specs.Reaches.{atLeast, reaches, plentyOrBoth};
 
 // Whether an answer is a flow that is enough.
 fn enough(answer: Answer, need: f64) -> bool
@@ -244,7 +244,35 @@ fn flow_reaches(
     )
 }
 
-// Whether the flows between two rows of jumps against a relation, from the one to the other and back, are at least what is needed: bit u * states + v says whether v is related with u.
+// Whether plenty is no less than what is needed, and the flow between two rows that fit is at least that.
+fn plenty_reaches(
+    left_targets: &[u32],
+    left_rates: &[f64],
+    right_targets: &[u32],
+    right_rates: &[f64],
+    states: usize,
+    relation: &[u8],
+    need: f64,
+    plenty: f64,
+) -> bool
+    requires { ⌜ fits (now «left_targets») (now «left_rates») (now «right_targets») (now «right_rates») states ≡ true ⌝ }
+    ensures { λ r. ⌜ r ≡ (le need plenty && reaches (now («left_targets» .entry)) (now («left_rates» .entry)) (now («right_targets» .entry)) (now («right_rates» .entry)) states (relationOf (now (relation .entry))) plenty) ⌝ }
+{
+    if need <= plenty {
+        return flow_reaches(
+            left_targets,
+            left_rates,
+            right_targets,
+            right_rates,
+            states,
+            relation,
+            plenty,
+        );
+    }
+    false
+}
+
+// Whether the flows between two rows of jumps against a relation, from the one to the other and back, are at least what is needed: bit u * states + v says whether v is related with u. Where the one to the other is plenty, the one back is not asked for.
 // They are not where a row has over 31 targets, or not one rate from 0 to 2^40 for each, or where the relation is over more than 2,000 states. The one back is asked for only where the other is enough.
 pub fn flows_reach(
     left_targets: &[u32],
@@ -254,11 +282,24 @@ pub fn flows_reach(
     states: usize,
     relation: &[u8],
     need: f64,
+    plenty: f64,
 ) -> bool
-    ensures { λ r. ⌜ r ≡ bothReach (now («left_targets» .entry)) (now («left_rates» .entry)) (now («right_targets» .entry)) (now («right_rates» .entry)) states (relationOf (now (relation .entry))) need ⌝ }
+    ensures { λ r. ⌜ r ≡ plentyOrBoth (now («left_targets» .entry)) (now («left_rates» .entry)) (now («right_targets» .entry)) (now («right_rates» .entry)) states (relationOf (now (relation .entry))) need plenty ⌝ }
 {
     if !rows_fit(left_targets, left_rates, right_targets, right_rates, states) {
         return false;
+    }
+    if plenty_reaches(
+        left_targets,
+        left_rates,
+        right_targets,
+        right_rates,
+        states,
+        relation,
+        need,
+        plenty,
+    ) {
+        return true;
     }
     if !flow_reaches(
         left_targets,

@@ -2,7 +2,7 @@
 use mathlib.Core.Path.{_∙_}
 use Prim.Native.Nat.{_+_}
 use native.Mathlib.Omega.{arith}
-use Rattle.epsdelta_sweeps.proofs.Turns.{reached-both}
+use Rattle.epsdelta_sweeps.proofs.Turns.{reached-plenty}
 use borrow.Author.Needs.{needs}
 use Rattle.epsdelta_sweeps.proofs.sweeps.passes_both.Statement.{statement}
 use Rattle.epsdelta_sweeps.proofs.sweeps.passes_both.Tie as tie
@@ -49,61 +49,64 @@ shared-slice-read-d c = search needs
 cast-d : tie.Need-cast-d
 cast-d c = omega (arith, c .shared-slice-known8 .given (c .before .before .before .before .before .before .before .before .args .t + 1))
 
+plenty-between-requires : tie.Need-plenty-between-requires
+plenty-between-requires c κs = (c .before .before .before .before .before .before .before .before .pre .0 .rise (c .before .before .before .before .before .before .before .before .args .s) (c .before .before .before .before .before .before .before .before .pre .1), c .before .before .before .before .before .before .before .before .pre .0 .rise (c .before .before .before .before .before .before .before .before .args .t) (c .before .before .before .before .before .before .before .before .pre .2))
+
 mul-flows-reach : tie.Need-mul-flows-reach
-mul-flows-reach c = omega (arith, c .before .before .before .shared-slice-known5 .given (c .before .before .before .before .before .before .before .before .args .s))
+mul-flows-reach c = omega (arith, c .before .before .before .before .shared-slice-known5 .given (c .before .before .before .before .before .before .before .before .before .args .s))
 
 sub-flows-reach : tie.Need-sub-flows-reach
-sub-flows-reach c = c .before .before .before .before .before .before .before .before .pre .0 .rise (c .before .before .before .before .before .before .before .before .args .s) (c .before .before .before .before .before .before .before .before .pre .1)
+sub-flows-reach c = c .before .before .before .before .before .before .before .before .before .pre .0 .rise (c .before .before .before .before .before .before .before .before .before .args .s) (c .before .before .before .before .before .before .before .before .before .pre .1)
 
 part-flows-reach-start : tie.Need-part-flows-reach-start
-part-flows-reach-start c = c .before .before .before .before .before .before .before .before .pre .0 .rise (c .before .before .before .before .before .before .before .before .args .s) (c .before .before .before .before .before .before .before .before .pre .1)
+part-flows-reach-start c = c .before .before .before .before .before .before .before .before .before .pre .0 .rise (c .before .before .before .before .before .before .before .before .before .args .s) (c .before .before .before .before .before .before .before .before .before .pre .1)
 
 part-flows-reach-end : tie.Need-part-flows-reach-end
-part-flows-reach-end c = c .before .before .before .before .before .before .before .before .pre .0 .targets-long (c .before .before .before .before .before .before .before .before .args .s) (c .before .before .before .before .before .before .before .before .pre .1)
+part-flows-reach-end c = c .before .before .before .before .before .before .before .before .before .pre .0 .targets-long (c .before .before .before .before .before .before .before .before .before .args .s) (c .before .before .before .before .before .before .before .before .before .pre .1)
 
 mul-flows-reach-2 : tie.Need-mul-flows-reach-2
-mul-flows-reach-2 c = omega (arith, c .before .before .before .before .shared-slice-known5 .given (c .before .before .before .before .before .before .before .before .before .args .s))
+mul-flows-reach-2 c = omega (arith, c .before .before .before .before .before .shared-slice-known5 .given (c .before .before .before .before .before .before .before .before .before .before .args .s))
 
 sub-flows-reach-2 : tie.Need-sub-flows-reach-2
-sub-flows-reach-2 c = c .before .before .before .before .before .before .before .before .before .pre .0 .rise (c .before .before .before .before .before .before .before .before .before .args .s) (c .before .before .before .before .before .before .before .before .before .pre .1)
+sub-flows-reach-2 c = c .before .before .before .before .before .before .before .before .before .before .pre .0 .rise (c .before .before .before .before .before .before .before .before .before .before .args .s) (c .before .before .before .before .before .before .before .before .before .before .pre .1)
 
 part-flows-reach-start-2 : tie.Need-part-flows-reach-start-2
-part-flows-reach-start-2 c = c .before .before .before .before .before .before .before .before .before .pre .0 .rise (c .before .before .before .before .before .before .before .before .before .args .s) (c .before .before .before .before .before .before .before .before .before .pre .1)
+part-flows-reach-start-2 c = c .before .before .before .before .before .before .before .before .before .before .pre .0 .rise (c .before .before .before .before .before .before .before .before .before .before .args .s) (c .before .before .before .before .before .before .before .before .before .before .pre .1)
 
 part-flows-reach-end-2 : tie.Need-part-flows-reach-end-2
-part-flows-reach-end-2 c = c .before .before .before .before .before .before .before .before .before .pre .0 .probs-long (c .before .before .before .before .before .before .before .before .before .args .s) (c .before .before .before .before .before .before .before .before .before .pre .1)
+part-flows-reach-end-2 c = c .before .before .before .before .before .before .before .before .before .before .pre .0 .probs-long (c .before .before .before .before .before .before .before .before .before .before .args .s) (c .before .before .before .before .before .before .before .before .before .before .pre .1)
 
 mul-flows-reach-3 : tie.Need-mul-flows-reach-3
-mul-flows-reach-3 c = omega (arith, c .before .before .before .shared-slice-known7 .given (c .before .before .before .before .before .before .before .before .before .before .args .t))
+mul-flows-reach-3 c = omega (arith, c .before .before .before .before .shared-slice-known7 .given (c .before .before .before .before .before .before .before .before .before .before .before .args .t))
 
 sub-flows-reach-3 : tie.Need-sub-flows-reach-3
-sub-flows-reach-3 c = c .before .before .before .before .before .before .before .before .before .before .pre .0 .rise (c .before .before .before .before .before .before .before .before .before .before .args .t) (c .before .before .before .before .before .before .before .before .before .before .pre .2)
+sub-flows-reach-3 c = c .before .before .before .before .before .before .before .before .before .before .before .pre .0 .rise (c .before .before .before .before .before .before .before .before .before .before .before .args .t) (c .before .before .before .before .before .before .before .before .before .before .before .pre .2)
 
 part-flows-reach-start-3 : tie.Need-part-flows-reach-start-3
-part-flows-reach-start-3 c = c .before .before .before .before .before .before .before .before .before .before .pre .0 .rise (c .before .before .before .before .before .before .before .before .before .before .args .t) (c .before .before .before .before .before .before .before .before .before .before .pre .2)
+part-flows-reach-start-3 c = c .before .before .before .before .before .before .before .before .before .before .before .pre .0 .rise (c .before .before .before .before .before .before .before .before .before .before .before .args .t) (c .before .before .before .before .before .before .before .before .before .before .before .pre .2)
 
 part-flows-reach-end-3 : tie.Need-part-flows-reach-end-3
-part-flows-reach-end-3 c = c .before .before .before .before .before .before .before .before .before .before .pre .0 .targets-long (c .before .before .before .before .before .before .before .before .before .before .args .t) (c .before .before .before .before .before .before .before .before .before .before .pre .2)
+part-flows-reach-end-3 c = c .before .before .before .before .before .before .before .before .before .before .before .pre .0 .targets-long (c .before .before .before .before .before .before .before .before .before .before .before .args .t) (c .before .before .before .before .before .before .before .before .before .before .before .pre .2)
 
 mul-flows-reach-4 : tie.Need-mul-flows-reach-4
-mul-flows-reach-4 c = omega (arith, c .before .before .before .before .shared-slice-known7 .given (c .before .before .before .before .before .before .before .before .before .before .before .args .t))
+mul-flows-reach-4 c = omega (arith, c .before .before .before .before .before .shared-slice-known7 .given (c .before .before .before .before .before .before .before .before .before .before .before .before .args .t))
 
 sub-flows-reach-4 : tie.Need-sub-flows-reach-4
-sub-flows-reach-4 c = c .before .before .before .before .before .before .before .before .before .before .before .pre .0 .rise (c .before .before .before .before .before .before .before .before .before .before .before .args .t) (c .before .before .before .before .before .before .before .before .before .before .before .pre .2)
+sub-flows-reach-4 c = c .before .before .before .before .before .before .before .before .before .before .before .before .pre .0 .rise (c .before .before .before .before .before .before .before .before .before .before .before .before .args .t) (c .before .before .before .before .before .before .before .before .before .before .before .before .pre .2)
 
 part-flows-reach-start-4 : tie.Need-part-flows-reach-start-4
-part-flows-reach-start-4 c = c .before .before .before .before .before .before .before .before .before .before .before .pre .0 .rise (c .before .before .before .before .before .before .before .before .before .before .before .args .t) (c .before .before .before .before .before .before .before .before .before .before .before .pre .2)
+part-flows-reach-start-4 c = c .before .before .before .before .before .before .before .before .before .before .before .before .pre .0 .rise (c .before .before .before .before .before .before .before .before .before .before .before .before .args .t) (c .before .before .before .before .before .before .before .before .before .before .before .before .pre .2)
 
 part-flows-reach-end-4 : tie.Need-part-flows-reach-end-4
-part-flows-reach-end-4 c = c .before .before .before .before .before .before .before .before .before .before .before .pre .0 .probs-long (c .before .before .before .before .before .before .before .before .before .before .before .args .t) (c .before .before .before .before .before .before .before .before .before .before .before .pre .2)
+part-flows-reach-end-4 c = c .before .before .before .before .before .before .before .before .before .before .before .before .pre .0 .probs-long (c .before .before .before .before .before .before .before .before .before .before .before .before .args .t) (c .before .before .before .before .before .before .before .before .before .before .before .before .pre .2)
 
 flows-reach-requires : tie.Need-flows-reach-requires
 flows-reach-requires c κs = search needs
 
 returns : tie.Need-returns
 returns c =
-    let d = c .before .before .before .before .before .before .before .before .before .before .before .before .before in
-    λ R e. c .flows-reach .ensures ∙ reached-both (d .pre .0) (d .args .need) (d .args .relation .now) R e (d .args .s) (d .args .t) (d .pre .1) (d .pre .2)
+    let d = c .before .before .before .before .before .before .before .before .before .before .before .before .before .before in
+    λ R e. c .flows-reach .ensures ∙ reached-plenty (d .pre .0) (d .args .need) (d .args .plenty) (d .pre .3) _ (d .args .relation .now) R e (d .pre .4) (d .args .s) (d .args .t) (c .before .before .before .before .before .plenty-between .ensures) (d .pre .1) (d .pre .2)
 
 pub passes-both-spec : {M : Type 1} → statement M
 passes-both-spec =
@@ -123,6 +126,7 @@ passes-both-spec =
     mul-d
     shared-slice-read-d
     cast-d
+    plenty-between-requires
     mul-flows-reach
     sub-flows-reach
     part-flows-reach-start

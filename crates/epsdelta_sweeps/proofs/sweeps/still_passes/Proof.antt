@@ -14,7 +14,7 @@ returns : tie.Need-returns
 returns c = λ R e. let p = c .before .before .before .before .before .before .before .pre .4 R e (c .before .unchanged .ensures (c .if1 .taken)) in and-second _ _ true (p .0) (sym (p .1))
 
 passes-both-requires : tie.Need-passes-both-requires
-passes-both-requires c κs = (c .before .before .before .before .before .before .before .pre .0, c .before .before .before .before .before .before .before .pre .2, c .before .before .before .before .before .before .before .pre .3)
+passes-both-requires c κs = (c .before .before .before .before .before .before .before .pre .0, c .before .before .before .before .before .before .before .pre .2, c .before .before .before .before .before .before .before .pre .3, c .before .before .before .before .before .before .before .pre .5, c .before .before .before .before .before .before .before .pre .6)
 
 returns-2 : tie.Need-returns-2
 returns-2 c = c .passes-both .ensures

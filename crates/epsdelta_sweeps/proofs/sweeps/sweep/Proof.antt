@@ -5,16 +5,16 @@ use mathlib.Core.Bool.{false}
 use native.Mathlib.Omega.{arith}
 use lib.ListN.{length}
 use Rattle.epsdelta_theory.specs.Sweeps.{sweepRow}
-use Rattle.epsdelta_theory.proofs.Unchanged.{Noted}
+use Rattle.flow_duality.proofs.Plenty.{Kept}
 use Rattle.epsdelta_sweeps.proofs.Sweeping.{Coming, coming-start, coming-next, coming-done, rowsFrom, rows-more, rows-stop, rows-whole}
 use Rattle.epsdelta_sweeps.proofs.sweeps.sweep.Statement.{statement}
 use Rattle.epsdelta_sweeps.proofs.sweeps.sweep.Tie as tie
 
 abbrev Inv-loop : tie.InvT-loop
-Inv-loop exits starts targets probs states need relation₀ changed₀ struck₀ s₀ relation changed struck s = (length relation ≡ length relation₀) × (length changed ≡ length changed₀) × (s ≤ states) × Coming states exits starts targets probs need (rowsFrom states) 0 relation₀ false s relation struck × Noted states exits starts targets probs need relation changed s (s + 1)
+Inv-loop exits starts targets probs states need plenty relation₀ changed₀ struck₀ s₀ relation changed struck s = (length relation ≡ length relation₀) × (length changed ≡ length changed₀) × (s ≤ states) × Coming states exits starts targets probs need (rowsFrom states) 0 relation₀ false s relation struck × Kept states exits starts targets probs need plenty relation changed s (s + 1)
 
 abbrev μ-loop : tie.MeasureT-loop
-μ-loop exits starts targets probs states need relation₀ changed₀ struck₀ s₀ relation changed struck s = states - s
+μ-loop exits starts targets probs states need plenty relation₀ changed₀ struck₀ s₀ relation changed struck s = states - s
 
 loop-holds : tie.Need-loop-holds Inv-loop μ-loop
 loop-holds c =
@@ -34,10 +34,10 @@ loop-again : tie.Need-loop-again Inv-loop μ-loop
 loop-again c =
     let a = c .before .before .before .before .before .before .before .before .before .before .before .before .before .before .before .args in
     let l = c .before .before .before .before .before .before .before .before .loop in (
-      c .before .before .before .before .sweep-row .kept .1 .1 .1 .1 .1 .1 .0 ∙ l .inv .0,
-      c .before .before .before .before .sweep-row .kept .1 .1 .1 .1 .1 .1 .1 .0 ∙ l .inv .1,
+      c .before .before .before .before .sweep-row .kept .1 .1 .1 .1 .1 .1 .1 .0 ∙ l .inv .0,
+      c .before .before .before .before .sweep-row .kept .1 .1 .1 .1 .1 .1 .1 .1 .0 ∙ l .inv .1,
       (let h = c .before .before .before .before .before .before .before .loop-test .taken in omega arith),
-      coming-next (a .states) (a .exits .now) (a .starts .now) (a .targets .now) (a .probs .now) (a .need) (rowsFrom (a .states)) (λ Q s. sweepRow Q (a .states - (s + 1)) s (s + 1)) (rows-more (a .states)) 0 (a .relation .now) false (l .s) (l .relation) (l .struck) (c .before .before .before .before .sweep-row .last .1 .1 .1 .1 .1 .1 .0) (c .before .before .before .before .sweep-row .result) (c .before .before .before .before .before .before .before .loop-test .taken) (l .inv .3) (c .before .before .before .before .sweep-row .ensures .0),
+      coming-next (a .states) (a .exits .now) (a .starts .now) (a .targets .now) (a .probs .now) (a .need) (rowsFrom (a .states)) (λ Q s. sweepRow Q (a .states - (s + 1)) s (s + 1)) (rows-more (a .states)) 0 (a .relation .now) false (l .s) (l .relation) (l .struck) (c .before .before .before .before .sweep-row .last .1 .1 .1 .1 .1 .1 .1 .0) (c .before .before .before .before .sweep-row .result) (c .before .before .before .before .before .before .before .loop-test .taken) (l .inv .3) (c .before .before .before .before .sweep-row .ensures .0),
       c .before .before .before .before .sweep-row .ensures .1,
     )
 
@@ -53,7 +53,7 @@ returns c =
     let l = c .before .loop in
     let e : l .s ≡ a .states = let h = c .loop-test .left in let k = l .inv .2 in omega arith in (
       rows-whole (a .states) (coming-done (a .states) (a .exits .now) (a .starts .now) (a .targets .now) (a .probs .now) (a .need) (rowsFrom (a .states)) (rows-stop (a .states)) 0 (a .relation .now) false (l .s) (l .relation) (l .struck) (c .loop-test .left) (l .inv .3)),
-      subst (λ (s : ℕ). Noted (a .states) (a .exits .now) (a .starts .now) (a .targets .now) (a .probs .now) (a .need) (l .relation) (l .changed) s (s + 1)) e (l .inv .4),
+      subst (λ (s : ℕ). Kept (a .states) (a .exits .now) (a .starts .now) (a .targets .now) (a .probs .now) (a .need) (a .plenty) (l .relation) (l .changed) s (s + 1)) e (l .inv .4),
     )
 
 pub sweep-spec : {M : Type 1} → statement M

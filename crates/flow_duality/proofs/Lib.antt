@@ -1,0 +1,10 @@
+pub mod Wholes
+pub mod Cuts
+pub mod Routes
+pub mod Least
+pub mod Pushed
+pub mod Trails
+pub mod Starts
+pub mod Networks
+pub mod Duality
+pub mod Plenty
