@@ -53,6 +53,20 @@ unfoldable pub goesTo : List ℕ → ℕ → ℕ
 unfolding halves
 goesTo l x = halves (length l) l x 0 (length l)
 
+-- 1 where code c is below those of key k, else 0
+unfoldable pub below : ℕ → ℕ → ℕ
+below c k = elim (ltb (c / 4096) k) [ true ↦ 1 | false ↦ 0 ]
+
+-- where the codes of key k go in a list that rises, among n places from lo on: the larger half is passed by or not, at most f times
+unfoldable pub narrow : ℕ → List ℕ → ℕ → ℕ → ℕ → ℕ
+unfolding below
+narrow zero l k lo n = lo
+narrow (suc f) l k lo n = elim (ltb 0 n) [ true ↦ narrow f l k (lo + (n - n / 2) * below (getD l (lo + (n - n / 2) - 1) 0) k) (n / 2) | false ↦ lo ]
+
+unfoldable pub keyed : List ℕ → ℕ → ℕ
+unfolding narrow
+keyed l k = narrow (length l) l k 0 (length l)
+
 -- code c is that of pair p
 abbrev pub isOf : Pair → ℕ → Bool
 isOf p c = eqb (c / 4096) (key p)
@@ -63,8 +77,8 @@ numberIf false c n = n
 
 -- the number of a pair: how many codes there are if none is its own
 unfoldable pub lookUp : List ℕ → Pair → ℕ
-unfolding goesTo
-lookUp l p = let at = goesTo l (code p 0) in numberIf (ltb (p .right) 2048 && (ltb at (length l) && isOf p (getD l at 0))) (getD l at 0) (length l)
+unfolding keyed
+lookUp l p = let at = keyed l (key p) in numberIf (ltb (p .right) 2048 && (ltb at (length l) && isOf p (getD l at 0))) (getD l at 0) (length l)
 
 -- ---- the search goes on, or ends
 
@@ -82,15 +96,41 @@ module _ (l : List ℕ) (x : ℕ) where
   halves-end zero lo hi h = refl
   halves-end (suc k) lo hi h = rw (le-ltb lo hi h, halves)
 
+pub below-lt : (c k : ℕ) → c / 4096 < k → below c k ≡ 1
+unfolding below
+below-lt c k h = rw (lt-ltb (c / 4096) k h, below)
+
+pub below-ge : (c k : ℕ) → k ≤ c / 4096 → below c k ≡ 0
+unfolding below
+below-ge c k h = rw (le-ltb (c / 4096) k h, below)
+
+-- the sign of a difference
+pub below-sign : (c k : ℕ) → c < 18446744073709551616 → k < 8800387989504 → (k + 9223372036854775807 - c / 4096) / 9223372036854775808 ≡ below c k
+below-sign c k g h = pick (lt-or-ge (c / 4096) k)
+  where
+    pick : (c / 4096 < k) ⊎ (k ≤ c / 4096) → (k + 9223372036854775807 - c / 4096) / 9223372036854775808 ≡ below c k
+    pick (inl t) = let e : (k + 9223372036854775807 - c / 4096) / 9223372036854775808 ≡ 1 = omega arith in e ∙ sym (below-lt c k t)
+    pick (inr t) = let e : (k + 9223372036854775807 - c / 4096) / 9223372036854775808 ≡ 0 = omega arith in e ∙ sym (below-ge c k t)
+
+module _ (l : List ℕ) (k : ℕ) where
+  narrow-on : (f lo n : ℕ) → 0 < n → narrow (suc f) l k lo n ≡ narrow f l k (lo + (n - n / 2) * below (getD l (lo + (n - n / 2) - 1) 0) k) (n / 2)
+  unfolding narrow
+  narrow-on f lo n h = rw (lt-ltb 0 n h, narrow)
+
+  narrow-end : (f lo n : ℕ) → n ≤ 0 → narrow f l k lo n ≡ lo
+  unfolding narrow
+  narrow-end zero lo n h = refl
+  narrow-end (suc f) lo n h = rw (le-ltb 0 n h, narrow)
+
 -- ---- what a look-up answers
 
-module _ (l : List ℕ) (p : Pair) (k at : ℕ) (ek : k ≡ key p) (ea : at ≡ goesTo l (k * 4096)) where
+module _ (l : List ℕ) (p : Pair) (k at : ℕ) (ek : k ≡ key p) (ea : at ≡ keyed l k) where
   abbrev answer : ℕ → ℕ
   answer j = numberIf (ltb (p .right) 2048 && (ltb j (length l) && isOf p (getD l j 0))) (getD l j 0) (length l)
 
   answered : answer at ≡ lookUp l p
   unfolding lookUp
-  answered = ap answer (ea ∙ ap (goesTo l) (let e : k * 4096 ≡ code p 0 = omega arith in e))
+  answered = ap answer (ea ∙ ap (keyed l) ek)
 
   pub look-hit : p .right < 2048 → at < length l → getD l at 0 / 4096 ≡ k → getD l at 0 % 4096 ≡ lookUp l p
   look-hit h i e = rw (lt-ltb (p .right) 2048 h, lt-ltb at (length l) i, eq-eqb (getD l at 0 / 4096) (key p) (e ∙ ek)) at answered
@@ -108,9 +148,9 @@ look-high l p h = rw (le-ltb (p .right) 2048 h)
 -- an answer is small
 pub look-few : (l : List ℕ) (p : Pair) (n : ℕ) → length l ≤ n → 4096 ≤ n → lookUp l p ≤ n
 unfolding lookUp
-look-few l p n h k = pick (ltb (p .right) 2048 && (ltb (goesTo l (code p 0)) (length l) && isOf p (getD l (goesTo l (code p 0)) 0)))
+look-few l p n h k = pick (ltb (p .right) 2048 && (ltb (keyed l (key p)) (length l) && isOf p (getD l (keyed l (key p)) 0)))
   where
-    pick : (b : Bool) → numberIf b (getD l (goesTo l (code p 0)) 0) (length l) ≤ n
+    pick : (b : Bool) → numberIf b (getD l (keyed l (key p)) 0) (length l) ≤ n
     pick true = omega arith
     pick false = h
 
@@ -139,6 +179,22 @@ module _ (l : List ℕ) (x r : ℕ) where
 
   pub halving-end : (lo hi : ℕ) → hi ≤ lo → Halving l x r lo hi → lo ≡ r
   halving-end lo hi h (k, f, g) = sym (halves-end l x k lo hi h) ∙ g
+
+-- the search is among n places from lo on, and will come to r
+abbrev pub Narrowing : List ℕ → ℕ → ℕ → ℕ → ℕ → Type 0
+Narrowing l k r lo n = (f : ℕ) × (n ≤ f) × (narrow f l k lo n ≡ r)
+
+module _ (l : List ℕ) (k r : ℕ) where
+  pub narrowing-start : keyed l k ≡ r → Narrowing l k r 0 (length l)
+  unfolding keyed
+  narrowing-start e = (length l, omega arith, e)
+
+  pub narrowing-on : (lo n b : ℕ) → 0 < n → b ≡ below (getD l (lo + (n - n / 2) - 1) 0) k → Narrowing l k r lo n → Narrowing l k r (lo + (n - n / 2) * b) (n / 2)
+  narrowing-on lo n b h e (zero, a, g) = absurd (omega arith)
+  narrowing-on lo n b h e (suc f, a, g) = (f, omega arith, ap (λ (z : ℕ). narrow f l k (lo + (n - n / 2) * z) (n / 2)) e ∙ sym (narrow-on l k f lo n h) ∙ g)
+
+  pub narrowing-end : (lo n : ℕ) → n ≤ 0 → Narrowing l k r lo n → lo ≡ r
+  narrowing-end lo n h (f, a, g) = sym (narrow-end l k f lo n h) ∙ g
 
 -- ---- in a list that rises
 
@@ -170,6 +226,33 @@ module _ (l : List ℕ) (x : ℕ) (s : Sorted l) where
   pub goes-splits : Splits l x (goesTo l x)
   unfolding goesTo
   goes-splits = halves-splits (length l) 0 (length l) (omega arith) (omega arith) (omega arith) (λ i h. absurd (not-suc-le-zero h)) (λ i h j. absurd (omega arith))
+
+module _ (l : List ℕ) (k : ℕ) (s : Sorted l) where
+  narrow-splits : (f lo n : ℕ) → lo + n ≤ length l → n ≤ f → ((i : ℕ) → i < lo → getD l i 0 < k * 4096) → ((i : ℕ) → lo + n ≤ i → i < length l → k * 4096 ≤ getD l i 0) → Splits l (k * 4096) (narrow f l k lo n)
+  narrow-splits zero lo n b a p q = subst⁻¹ (Splits l (k * 4096)) (narrow-end l k zero lo n (omega arith)) (record { within = omega arith; before = p; behind = λ i h j. q i (omega arith) j })
+  narrow-splits (suc f) lo n b a p q = pick (λ c d u v. narrow-splits f c d u v) (lt-or-ge 0 n) (lt-or-ge (getD l (lo + (n - n / 2) - 1) 0 / 4096) k)
+    where
+      pick : ((c d : ℕ) → c + d ≤ length l → d ≤ f → ((i : ℕ) → i < c → getD l i 0 < k * 4096) → ((i : ℕ) → c + d ≤ i → i < length l → k * 4096 ≤ getD l i 0) → Splits l (k * 4096) (narrow f l k c d))
+          → (0 < n) ⊎ (n ≤ 0) → (getD l (lo + (n - n / 2) - 1) 0 / 4096 < k) ⊎ (k ≤ getD l (lo + (n - n / 2) - 1) 0 / 4096) → Splits l (k * 4096) (narrow (suc f) l k lo n)
+      pick r (inr h) t = subst⁻¹ (Splits l (k * 4096)) (narrow-end l k (suc f) lo n h) (record { within = omega arith; before = p; behind = λ i j m. q i (omega arith) m })
+      pick r (inl h) (inl t) =
+          subst⁻¹ (Splits l (k * 4096)) (narrow-on l k f lo n h ∙ ap (λ (z : ℕ). narrow f l k (lo + (n - n / 2) * z) (n / 2)) (below-lt (getD l (lo + (n - n / 2) - 1) 0) k t))
+          (r (lo + (n - n / 2) * 1) (n / 2) (omega arith) (omega arith) (λ i j. low i j (eq-or-ne i (lo + (n - n / 2) - 1))) (λ i j m. q i (omega arith) m))
+        where
+          low : (i : ℕ) → i < lo + (n - n / 2) * 1 → (i ≡ lo + (n - n / 2) - 1) ⊎ (i ≢ lo + (n - n / 2) - 1) → getD l i 0 < k * 4096
+          low i j (inl e) = let z = ap (λ (m : ℕ). getD l m 0) e in omega arith
+          low i j (inr d) = let g : i < lo + (n - n / 2) - 1 = omega arith in let u = sorted-at l s i (lo + (n - n / 2) - 1) g (omega arith) in omega arith
+      pick r (inl h) (inr t) =
+          subst⁻¹ (Splits l (k * 4096)) (narrow-on l k f lo n h ∙ ap (λ (z : ℕ). narrow f l k (lo + (n - n / 2) * z) (n / 2)) (below-ge (getD l (lo + (n - n / 2) - 1) 0) k t))
+          (r (lo + (n - n / 2) * 0) (n / 2) (omega arith) (omega arith) (λ i j. p i (omega arith)) (λ i j m. high i j m (eq-or-ne i (lo + (n - n / 2) - 1))))
+        where
+          high : (i : ℕ) → lo + (n - n / 2) * 0 + n / 2 ≤ i → i < length l → (i ≡ lo + (n - n / 2) - 1) ⊎ (i ≢ lo + (n - n / 2) - 1) → k * 4096 ≤ getD l i 0
+          high i j m (inl e) = let z = ap (λ (x : ℕ). getD l x 0) e in omega arith
+          high i j m (inr d) = let g : lo + (n - n / 2) - 1 < i = omega arith in let u = sorted-at l s (lo + (n - n / 2) - 1) i g m in omega arith
+
+  keyed-splits : Splits l (k * 4096) (keyed l k)
+  unfolding keyed
+  keyed-splits = narrow-splits (length l) 0 (length l) (omega arith) (omega arith) (λ i h. absurd (not-suc-le-zero h)) (λ i h j. absurd (omega arith))
 
 -- ---- the index of some pairs
 
@@ -252,16 +335,16 @@ index-in ps j h = in-sort (code (pairAt ps j) j) (codes 0 ps) (subst (λ (n : �
 key-same : (p q : Pair) → p .right < 2048 → q .right < 2048 → key p ≡ key q → p ≡ q
 key-same p q a b e = ap₂ pair (omega arith) (omega arith)
 
--- where the code of p goes, if p is not there
+-- where the codes of the key of p go
 abbrev spot : List Pair → Pair → ℕ
-spot found p = goesTo (index found) (code p 0)
+spot found p = keyed (index found) (key p)
 
 module _ (m : ℕ) (found : List Pair) (a : Apart found) (w : AllOf m 2048 found) (f : length found ≤ most) (p : Pair) where
   n-is : length (index found) ≡ length found
   n-is = index-length found
 
   splits : Splits (index found) (code p 0) (spot found p)
-  splits = goes-splits (index found) (code p 0) (index-sorted found)
+  splits = subst (λ (x : ℕ). Splits (index found) x (spot found p)) (let e : key p * 4096 ≡ code p 0 = omega arith in e) (keyed-splits (index found) (key p) (index-sorted found))
 
   -- a code with the key of p is that of p
   own : (c : ℕ) → p .right < 2048 → Coded found 0 c → c / 4096 ≡ key p → (In p found) × (c % 4096 ≡ place p found)
