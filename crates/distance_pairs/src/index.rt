@@ -5,7 +5,7 @@ ghost use Prim.Native.Nat.{_+_, _-_, _≤_, _<_};
 ghost use lib.ListN.{length};
 ghost use Rattle.epsdelta_theory.proofs.RowsIn;
 ghost use Rattle.distance_theory.specs.Pairs.{pair};
-ghost use Rattle.distance_theory.proofs.Index.{goesTo, keyed, lookUp};
+ghost use Rattle.distance_theory.proofs.Index.{keyed, lookUp};
 ghost use Rattle.distance_theory.proofs.Index;
 
 // A value below 2^32, as a wider number.
@@ -16,7 +16,7 @@ fn wider(x: u32) -> u64
 }
 
 // A pair as one number.
-fn key(x: u32, y: u32) -> u64
+pub(crate) fn key(x: u32, y: u32) -> u64
     ensures { λ r. ⌜ (r ≡ Index.key (pair x y)) × (r < 8800387989504) ⌝ }
 {
     wider(x) * 2048 + wider(y)
@@ -28,23 +28,6 @@ pub(crate) fn code(x: u32, y: u32, n: usize) -> u64
     ensures { λ r. ⌜ r ≡ Index.code (pair x y) n ⌝ }
 {
     key(x, y) * 4096 + n as u64
-}
-
-// Where x goes in a list that rises.
-pub(crate) fn goes_to(list: &[u64], x: u64) -> usize
-    ensures { λ r. ⌜ (r ≡ goesTo (now (list .entry)) x) × (r ≤ length (now (list .entry))) ⌝ }
-{
-    let mut lo = 0;
-    let mut hi = list.len();
-    while lo < hi {
-        let middle = lo + (hi - lo) / 2;
-        if list[middle] < x {
-            lo = middle + 1;
-        } else {
-            hi = middle;
-        }
-    }
-    lo
 }
 
 // A code put in at a place; those from there up to m move on by one.
@@ -65,15 +48,15 @@ pub(crate) fn insert(codes: &mut [u64], at: usize, m: usize, code: u64)
 
 // 1 where a code is below those of a key, else 0. The sign of a difference, and no branch, which half of the time would be foretold wrongly.
 fn below(code: u64, key: u64) -> usize
-    requires { ⌜ key < 8800387989504 ⌝ }
+    requires { ⌜ key ≤ 8800387989504 ⌝ }
     ensures { λ r. ⌜ (r ≡ Index.below code key) × (r ≤ 1) ⌝ }
 {
     ((key + 9223372036854775807 - code / 4096) / 9223372036854775808) as usize
 }
 
-// Where the codes of a key go in a list that rises.
-fn goes_by(list: &[u64], key: u64) -> usize
-    requires { ⌜ key < 8800387989504 ⌝ }
+// Where the codes of a key go in a list that rises: the larger half is passed by or not.
+pub(crate) fn goes_by(list: &[u64], key: u64) -> usize
+    requires { ⌜ key ≤ 8800387989504 ⌝ }
     ensures { λ r. ⌜ (r ≡ keyed (now (list .entry)) key) × (r ≤ length (now (list .entry))) ⌝ }
 {
     let mut lo = 0;

@@ -40,19 +40,6 @@ index found = sort (codes 0 found)
 
 -- ---- the search
 
-abbrev pub middle : ℕ → ℕ → ℕ
-middle lo hi = lo + (hi - lo) / 2
-
--- where x goes in a list that rises, between lo and hi: the half that it goes to, at most k times
-unfoldable pub halves : ℕ → List ℕ → ℕ → ℕ → ℕ → ℕ
-halves zero l x lo hi = lo
-halves (suc k) l x lo hi =
-    elim (ltb lo hi) [ true ↦ elim (ltb (getD l (middle lo hi) 0) x) [ true ↦ halves k l x (suc (middle lo hi)) hi | false ↦ halves k l x lo (middle lo hi) ] | false ↦ lo ]
-
-unfoldable pub goesTo : List ℕ → ℕ → ℕ
-unfolding halves
-goesTo l x = halves (length l) l x 0 (length l)
-
 -- 1 where code c is below those of key k, else 0
 unfoldable pub below : ℕ → ℕ → ℕ
 below c k = elim (ltb (c / 4096) k) [ true ↦ 1 | false ↦ 0 ]
@@ -82,20 +69,6 @@ lookUp l p = let at = keyed l (key p) in numberIf (ltb (p .right) 2048 && (ltb a
 
 -- ---- the search goes on, or ends
 
-module _ (l : List ℕ) (x : ℕ) where
-  halves-low : (k lo hi : ℕ) → lo < hi → getD l (middle lo hi) 0 < x → halves (suc k) l x lo hi ≡ halves k l x (suc (middle lo hi)) hi
-  unfolding halves
-  halves-low k lo hi h i = rw (lt-ltb lo hi h, lt-ltb (getD l (middle lo hi) 0) x i, halves)
-
-  halves-high : (k lo hi : ℕ) → lo < hi → x ≤ getD l (middle lo hi) 0 → halves (suc k) l x lo hi ≡ halves k l x lo (middle lo hi)
-  unfolding halves
-  halves-high k lo hi h i = rw (lt-ltb lo hi h, le-ltb (getD l (middle lo hi) 0) x i, halves)
-
-  halves-end : (k lo hi : ℕ) → hi ≤ lo → halves k l x lo hi ≡ lo
-  unfolding halves
-  halves-end zero lo hi h = refl
-  halves-end (suc k) lo hi h = rw (le-ltb lo hi h, halves)
-
 pub below-lt : (c k : ℕ) → c / 4096 < k → below c k ≡ 1
 unfolding below
 below-lt c k h = rw (lt-ltb (c / 4096) k h, below)
@@ -105,7 +78,7 @@ unfolding below
 below-ge c k h = rw (le-ltb (c / 4096) k h, below)
 
 -- the sign of a difference
-pub below-sign : (c k : ℕ) → c < 18446744073709551616 → k < 8800387989504 → (k + 9223372036854775807 - c / 4096) / 9223372036854775808 ≡ below c k
+pub below-sign : (c k : ℕ) → c < 18446744073709551616 → k ≤ 8800387989504 → (k + 9223372036854775807 - c / 4096) / 9223372036854775808 ≡ below c k
 below-sign c k g h = pick (lt-or-ge (c / 4096) k)
   where
     pick : (c / 4096 < k) ⊎ (k ≤ c / 4096) → (k + 9223372036854775807 - c / 4096) / 9223372036854775808 ≡ below c k
@@ -156,30 +129,6 @@ look-few l p n h k = pick (ltb (p .right) 2048 && (ltb (keyed l (key p)) (length
 
 -- ---- the search, turn by turn
 
--- the search is between lo and hi, and will come to r
-abbrev pub Halving : List ℕ → ℕ → ℕ → ℕ → ℕ → Type 0
-Halving l x r lo hi = (k : ℕ) × (hi ≤ lo + k) × (halves k l x lo hi ≡ r)
-
-module _ (l : List ℕ) (x r : ℕ) where
-  pub halving-start : goesTo l x ≡ r → Halving l x r 0 (length l)
-  unfolding goesTo
-  halving-start e = (length l, omega arith, e)
-
-  pub halving-low : (lo hi m : ℕ) → lo < hi → m ≡ middle lo hi → getD l m 0 < x → Halving l x r lo hi → Halving l x r (m + 1) hi
-  halving-low lo hi m h e i (zero, f, g) = absurd (omega arith)
-  halving-low lo hi m h e i (suc k, f, g) =
-      let j : getD l (middle lo hi) 0 < x = subst (λ (n : ℕ). getD l n 0 < x) e i in
-      (k, omega arith, ap (λ (n : ℕ). halves k l x n hi) (let q : m + 1 ≡ suc (middle lo hi) = omega arith in q) ∙ sym (halves-low l x k lo hi h j) ∙ g)
-
-  pub halving-high : (lo hi m : ℕ) → lo < hi → m ≡ middle lo hi → x ≤ getD l m 0 → Halving l x r lo hi → Halving l x r lo m
-  halving-high lo hi m h e i (zero, f, g) = absurd (omega arith)
-  halving-high lo hi m h e i (suc k, f, g) =
-      let j : x ≤ getD l (middle lo hi) 0 = subst (λ (n : ℕ). x ≤ getD l n 0) e i in
-      (k, omega arith, ap (λ (n : ℕ). halves k l x lo n) e ∙ sym (halves-high l x k lo hi h j) ∙ g)
-
-  pub halving-end : (lo hi : ℕ) → hi ≤ lo → Halving l x r lo hi → lo ≡ r
-  halving-end lo hi h (k, f, g) = sym (halves-end l x k lo hi h) ∙ g
-
 -- the search is among n places from lo on, and will come to r
 abbrev pub Narrowing : List ℕ → ℕ → ℕ → ℕ → ℕ → Type 0
 Narrowing l k r lo n = (f : ℕ) × (n ≤ f) × (narrow f l k lo n ≡ r)
@@ -203,29 +152,6 @@ pub record Splits (l : List ℕ) (x r : ℕ) : Type 0 where
   pub within : r ≤ length l
   pub before : (i : ℕ) → i < r → getD l i 0 < x
   pub behind : (i : ℕ) → r ≤ i → i < length l → x ≤ getD l i 0
-
-module _ (l : List ℕ) (x : ℕ) (s : Sorted l) where
-  halves-splits : (k lo hi : ℕ) → lo ≤ hi → hi ≤ length l → hi ≤ lo + k → ((i : ℕ) → i < lo → getD l i 0 < x) → ((i : ℕ) → hi ≤ i → i < length l → x ≤ getD l i 0) → Splits l x (halves k l x lo hi)
-  halves-splits zero lo hi a b f p q = subst⁻¹ (Splits l x) (halves-end l x zero lo hi (omega arith)) (record { within = omega arith; before = p; behind = λ i h j. q i (omega arith) j })
-  halves-splits (suc k) lo hi a b f p q = pick (λ c d u v. halves-splits k c d u v) (lt-or-ge lo hi) (lt-or-ge (getD l (middle lo hi) 0) x)
-    where
-      pick : ((c d : ℕ) → c ≤ d → d ≤ length l → d ≤ c + k → ((i : ℕ) → i < c → getD l i 0 < x) → ((i : ℕ) → d ≤ i → i < length l → x ≤ getD l i 0) → Splits l x (halves k l x c d))
-          → (lo < hi) ⊎ (hi ≤ lo) → (getD l (middle lo hi) 0 < x) ⊎ (x ≤ getD l (middle lo hi) 0) → Splits l x (halves (suc k) l x lo hi)
-      pick r (inr h) t = subst⁻¹ (Splits l x) (halves-end l x (suc k) lo hi h) (record { within = omega arith; before = p; behind = λ i j n. q i (omega arith) n })
-      pick r (inl h) (inl t) = subst⁻¹ (Splits l x) (halves-low l x k lo hi h t) (r (suc (middle lo hi)) hi (omega arith) b (omega arith) (λ i j. below i j (eq-or-ne i (middle lo hi))) q)
-        where
-          below : (i : ℕ) → i < suc (middle lo hi) → (i ≡ middle lo hi) ⊎ (i ≢ middle lo hi) → getD l i 0 < x
-          below i j (inl e) = subst⁻¹ (λ (n : ℕ). getD l n 0 < x) e t
-          below i j (inr d) = let g : i < middle lo hi = omega arith in let u = sorted-at l s i (middle lo hi) g (omega arith) in omega arith
-      pick r (inl h) (inr t) = subst⁻¹ (Splits l x) (halves-high l x k lo hi h t) (r lo (middle lo hi) (omega arith) (omega arith) (omega arith) p (λ i j n. above i j n (eq-or-ne i (middle lo hi))))
-        where
-          above : (i : ℕ) → middle lo hi ≤ i → i < length l → (i ≡ middle lo hi) ⊎ (i ≢ middle lo hi) → x ≤ getD l i 0
-          above i j n (inl e) = subst⁻¹ (λ (m : ℕ). x ≤ getD l m 0) e t
-          above i j n (inr d) = let g : middle lo hi < i = omega arith in let u = sorted-at l s (middle lo hi) i g n in omega arith
-
-  pub goes-splits : Splits l x (goesTo l x)
-  unfolding goesTo
-  goes-splits = halves-splits (length l) 0 (length l) (omega arith) (omega arith) (omega arith) (λ i h. absurd (not-suc-le-zero h)) (λ i h j. absurd (omega arith))
 
 module _ (l : List ℕ) (k : ℕ) (s : Sorted l) where
   narrow-splits : (f lo n : ℕ) → lo + n ≤ length l → n ≤ f → ((i : ℕ) → i < lo → getD l i 0 < k * 4096) → ((i : ℕ) → lo + n ≤ i → i < length l → k * 4096 ≤ getD l i 0) → Splits l (k * 4096) (narrow f l k lo n)
@@ -329,6 +255,18 @@ index-coded ps i h = all-at (Coded ps 0) (sort (codes 0 ps)) (all-sort (Coded ps
 index-in : (ps : List Pair) (j : ℕ) → j < length ps → In (code (pairAt ps j) j) (index ps)
 unfolding index
 index-in ps j h = in-sort (code (pairAt ps j) j) (codes 0 ps) (subst (λ (n : ℕ). In (code (pairAt ps j) n) (codes 0 ps)) (let e : 0 + j ≡ j = omega arith in e) (codes-in 0 ps j h))
+
+-- where the code of one pair more goes: before those of the next key
+pub goes-in : (found : List Pair) (p : Pair) (n : ℕ) → n ≡ length found → n < most → Splits (index found) (code p n) (keyed (index found) (key p + 1))
+goes-in found p n e h =
+    let s = keyed-splits (index found) (key p + 1) (index-sorted found) in
+    let l = index-length found in
+    let w = s .within in
+    record {
+      within = w;
+      before = λ i a. let b = s .before i a in let (j, q, c) = index-coded found i (omega arith) in omega arith;
+      behind = λ i a g. let b = s .behind i a g in omega arith;
+    }
 
 -- ---- a look-up
 
