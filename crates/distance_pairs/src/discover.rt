@@ -1,7 +1,8 @@
 // Discovery: the pairs that follow a pair are met one after the other, from a first pair on.
 use crate::index::code;
-use crate::index::goes_to;
+use crate::index::goes_by;
 use crate::index::insert;
+use crate::index::key;
 use crate::index::place_of;
 use bisim_core::ids::StateId;
 use chain_check::shape::misshapen;
@@ -35,7 +36,7 @@ fn meet(x: u32, y: u32, lefts: &mut [u32], rights: &mut [u32], codes: &mut [u64]
         return n + 1;
     }
     let c = code(x, y, n);
-    let at = goes_to(&codes[..n], c);
+    let at = goes_by(&codes[..n], key(x, y) + 1);
     insert(codes, at, n, c);
     lefts[n] = x;
     rights[n] = y;

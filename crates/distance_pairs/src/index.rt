@@ -5,7 +5,7 @@ ghost use Prim.Native.Nat.{_+_, _-_, _≤_, _<_};
 ghost use lib.ListN.{length};
 ghost use Rattle.epsdelta_theory.proofs.RowsIn;
 ghost use Rattle.distance_theory.specs.Pairs.{pair};
-ghost use Rattle.distance_theory.proofs.Index.{goesTo, lookUp};
+ghost use Rattle.distance_theory.proofs.Index.{keyed, lookUp};
 ghost use Rattle.distance_theory.proofs.Index;
 
 // A value below 2^32, as a wider number.
@@ -16,7 +16,7 @@ fn wider(x: u32) -> u64
 }
 
 // A pair as one number.
-fn key(x: u32, y: u32) -> u64
+pub(crate) fn key(x: u32, y: u32) -> u64
     ensures { λ r. ⌜ (r ≡ Index.key (pair x y)) × (r < 8800387989504) ⌝ }
 {
     wider(x) * 2048 + wider(y)
@@ -28,23 +28,6 @@ pub(crate) fn code(x: u32, y: u32, n: usize) -> u64
     ensures { λ r. ⌜ r ≡ Index.code (pair x y) n ⌝ }
 {
     key(x, y) * 4096 + n as u64
-}
-
-// Where x goes in a list that rises.
-pub(crate) fn goes_to(list: &[u64], x: u64) -> usize
-    ensures { λ r. ⌜ (r ≡ goesTo (now (list .entry)) x) × (r ≤ length (now (list .entry))) ⌝ }
-{
-    let mut lo = 0;
-    let mut hi = list.len();
-    while lo < hi {
-        let middle = lo + (hi - lo) / 2;
-        if list[middle] < x {
-            lo = middle + 1;
-        } else {
-            hi = middle;
-        }
-    }
-    lo
 }
 
 // A code put in at a place; those from there up to m move on by one.
@@ -63,6 +46,29 @@ pub(crate) fn insert(codes: &mut [u64], at: usize, m: usize, code: u64)
     codes[m] = moved;
 }
 
+// 1 where a code is below those of a key, else 0. The sign of a difference, and no branch, which half of the time would be foretold wrongly.
+fn below(code: u64, key: u64) -> usize
+    requires { ⌜ key ≤ 8800387989504 ⌝ }
+    ensures { λ r. ⌜ (r ≡ Index.below code key) × (r ≤ 1) ⌝ }
+{
+    ((key + 9223372036854775807 - code / 4096) / 9223372036854775808) as usize
+}
+
+// Where the codes of a key go in a list that rises: the larger half is passed by or not.
+pub(crate) fn goes_by(list: &[u64], key: u64) -> usize
+    requires { ⌜ key ≤ 8800387989504 ⌝ }
+    ensures { λ r. ⌜ (r ≡ keyed (now (list .entry)) key) × (r ≤ length (now (list .entry))) ⌝ }
+{
+    let mut lo = 0;
+    let mut n = list.len();
+    while n > 0 {
+        let half = n - n / 2;
+        lo = lo + half * below(list[lo + half - 1], key);
+        n = n / 2;
+    }
+    lo
+}
+
 // The number of a pair of states, by the codes of all pairs; how many these are if it is none of them.
 pub fn place_of(codes: &[u64], left: StateId, right: StateId) -> usize
     ensures { λ r. ⌜ r ≡ lookUp (now (codes .entry)) (pair (left .0) (right .0)) ⌝ }
@@ -70,7 +76,7 @@ pub fn place_of(codes: &[u64], left: StateId, right: StateId) -> usize
     let n = codes.len();
     if right.0 < 2048 {
         let pair = key(left.0, right.0);
-        let at = goes_to(codes, pair * 4096);
+        let at = goes_by(codes, pair);
         if at < n {
             let code = codes[at];
             if code / 4096 == pair {

@@ -28,7 +28,7 @@ use Rattle.distance_theory.specs.Pairs.{Pair, pair, pairAt, place, most,
 use Rattle.distance_theory.proofs.Crossings.{map-at}
 use Rattle.distance_theory.proofs.Explore.{place-in, Sane, meet-known, meet-new, meetAll-full, follow, explore-on, explore-end, explore-full}
 use Rattle.distance_theory.proofs.Inside.{Sound, Of, AllOf, successors-of, row-at, chain-sound}
-use Rattle.distance_theory.proofs.Index.{code, index, lookUp, look-up-is, Splits, goesTo, goes-splits, index-length, index-sorted, index-more}
+use Rattle.distance_theory.proofs.Index.{key, code, index, keyed, lookUp, look-up-is, Splits, goes-in, index-length, index-more}
 
 -- ---- the lists
 
@@ -245,7 +245,7 @@ module _ (x y n : ℕ) (l r c : List ℕ) (L : Lists n l r c) where
         })
 
     -- it is noted
-    pub takes-new : n < most → (at : ℕ) (c' : List ℕ) → at ≡ goesTo (take n c) (code (pair x y) n) → c' ≡ put at (n - at) c (code (pair x y) n) → Takes (pair x y ∷ []) n l r c (n + 1) (set l n x) (set r n y) c'
+    pub takes-new : n < most → (at : ℕ) (c' : List ℕ) → at ≡ keyed (take n c) (key (pair x y) + 1) → c' ≡ put at (n - at) c (code (pair x y) n) → Takes (pair x y ∷ []) n l r c (n + 1) (set l n x) (set r n y) c'
     takes-new m at c' ea ec a b found l₀ r₀ c₀ h w N =
         let k = N .count-is in
         let z = length-append found (pair x y ∷ []) in
@@ -265,7 +265,7 @@ module _ (x y n : ℕ) (l r c : List ℕ) (L : Lists n l r c) where
       where
         coded : (found : List Pair) (c₀ : List ℕ) → n ≡ length found → c ≡ over (index found) c₀ → take n c ≡ index found → c' ≡ over (index (found ++ (pair x y ∷ []))) c₀
         coded found c₀ k e i =
-            let s : Splits (take n c) (code (pair x y) n) at = subst⁻¹ (λ (z : List ℕ). Splits z (code (pair x y) n) at) i (subst⁻¹ (Splits (index found) (code (pair x y) n)) (ea ∙ ap (λ (z : List ℕ). goesTo z (code (pair x y) n)) i) (goes-splits (index found) (code (pair x y) n) (index-sorted found))) in
+            let s : Splits (take n c) (code (pair x y) n) at = subst⁻¹ (λ (z : List ℕ). Splits z (code (pair x y) n) at) i (subst⁻¹ (Splits (index found) (code (pair x y) n)) (ea ∙ ap (λ (z : List ℕ). keyed z (key (pair x y) + 1)) i) (goes-in found (pair x y) n k m)) in
             let u = s .within in
             let v = length-take n c in
             let g = L .codes-long in

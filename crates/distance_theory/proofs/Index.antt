@@ -40,18 +40,19 @@ index found = sort (codes 0 found)
 
 -- ---- the search
 
-abbrev pub middle : ℕ → ℕ → ℕ
-middle lo hi = lo + (hi - lo) / 2
+-- 1 where code c is below those of key k, else 0
+unfoldable pub below : ℕ → ℕ → ℕ
+below c k = elim (ltb (c / 4096) k) [ true ↦ 1 | false ↦ 0 ]
 
--- where x goes in a list that rises, between lo and hi: the half that it goes to, at most k times
-unfoldable pub halves : ℕ → List ℕ → ℕ → ℕ → ℕ → ℕ
-halves zero l x lo hi = lo
-halves (suc k) l x lo hi =
-    elim (ltb lo hi) [ true ↦ elim (ltb (getD l (middle lo hi) 0) x) [ true ↦ halves k l x (suc (middle lo hi)) hi | false ↦ halves k l x lo (middle lo hi) ] | false ↦ lo ]
+-- where the codes of key k go in a list that rises, among n places from lo on: the larger half is passed by or not, at most f times
+unfoldable pub narrow : ℕ → List ℕ → ℕ → ℕ → ℕ → ℕ
+unfolding below
+narrow zero l k lo n = lo
+narrow (suc f) l k lo n = elim (ltb 0 n) [ true ↦ narrow f l k (lo + (n - n / 2) * below (getD l (lo + (n - n / 2) - 1) 0) k) (n / 2) | false ↦ lo ]
 
-unfoldable pub goesTo : List ℕ → ℕ → ℕ
-unfolding halves
-goesTo l x = halves (length l) l x 0 (length l)
+unfoldable pub keyed : List ℕ → ℕ → ℕ
+unfolding narrow
+keyed l k = narrow (length l) l k 0 (length l)
 
 -- code c is that of pair p
 abbrev pub isOf : Pair → ℕ → Bool
@@ -63,34 +64,46 @@ numberIf false c n = n
 
 -- the number of a pair: how many codes there are if none is its own
 unfoldable pub lookUp : List ℕ → Pair → ℕ
-unfolding goesTo
-lookUp l p = let at = goesTo l (code p 0) in numberIf (ltb (p .right) 2048 && (ltb at (length l) && isOf p (getD l at 0))) (getD l at 0) (length l)
+unfolding keyed
+lookUp l p = let at = keyed l (key p) in numberIf (ltb (p .right) 2048 && (ltb at (length l) && isOf p (getD l at 0))) (getD l at 0) (length l)
 
 -- ---- the search goes on, or ends
 
-module _ (l : List ℕ) (x : ℕ) where
-  halves-low : (k lo hi : ℕ) → lo < hi → getD l (middle lo hi) 0 < x → halves (suc k) l x lo hi ≡ halves k l x (suc (middle lo hi)) hi
-  unfolding halves
-  halves-low k lo hi h i = rw (lt-ltb lo hi h, lt-ltb (getD l (middle lo hi) 0) x i, halves)
+pub below-lt : (c k : ℕ) → c / 4096 < k → below c k ≡ 1
+unfolding below
+below-lt c k h = rw (lt-ltb (c / 4096) k h, below)
 
-  halves-high : (k lo hi : ℕ) → lo < hi → x ≤ getD l (middle lo hi) 0 → halves (suc k) l x lo hi ≡ halves k l x lo (middle lo hi)
-  unfolding halves
-  halves-high k lo hi h i = rw (lt-ltb lo hi h, le-ltb (getD l (middle lo hi) 0) x i, halves)
+pub below-ge : (c k : ℕ) → k ≤ c / 4096 → below c k ≡ 0
+unfolding below
+below-ge c k h = rw (le-ltb (c / 4096) k h, below)
 
-  halves-end : (k lo hi : ℕ) → hi ≤ lo → halves k l x lo hi ≡ lo
-  unfolding halves
-  halves-end zero lo hi h = refl
-  halves-end (suc k) lo hi h = rw (le-ltb lo hi h, halves)
+-- the sign of a difference
+pub below-sign : (c k : ℕ) → c < 18446744073709551616 → k ≤ 8800387989504 → (k + 9223372036854775807 - c / 4096) / 9223372036854775808 ≡ below c k
+below-sign c k g h = pick (lt-or-ge (c / 4096) k)
+  where
+    pick : (c / 4096 < k) ⊎ (k ≤ c / 4096) → (k + 9223372036854775807 - c / 4096) / 9223372036854775808 ≡ below c k
+    pick (inl t) = let e : (k + 9223372036854775807 - c / 4096) / 9223372036854775808 ≡ 1 = omega arith in e ∙ sym (below-lt c k t)
+    pick (inr t) = let e : (k + 9223372036854775807 - c / 4096) / 9223372036854775808 ≡ 0 = omega arith in e ∙ sym (below-ge c k t)
+
+module _ (l : List ℕ) (k : ℕ) where
+  narrow-on : (f lo n : ℕ) → 0 < n → narrow (suc f) l k lo n ≡ narrow f l k (lo + (n - n / 2) * below (getD l (lo + (n - n / 2) - 1) 0) k) (n / 2)
+  unfolding narrow
+  narrow-on f lo n h = rw (lt-ltb 0 n h, narrow)
+
+  narrow-end : (f lo n : ℕ) → n ≤ 0 → narrow f l k lo n ≡ lo
+  unfolding narrow
+  narrow-end zero lo n h = refl
+  narrow-end (suc f) lo n h = rw (le-ltb 0 n h, narrow)
 
 -- ---- what a look-up answers
 
-module _ (l : List ℕ) (p : Pair) (k at : ℕ) (ek : k ≡ key p) (ea : at ≡ goesTo l (k * 4096)) where
+module _ (l : List ℕ) (p : Pair) (k at : ℕ) (ek : k ≡ key p) (ea : at ≡ keyed l k) where
   abbrev answer : ℕ → ℕ
   answer j = numberIf (ltb (p .right) 2048 && (ltb j (length l) && isOf p (getD l j 0))) (getD l j 0) (length l)
 
   answered : answer at ≡ lookUp l p
   unfolding lookUp
-  answered = ap answer (ea ∙ ap (goesTo l) (let e : k * 4096 ≡ code p 0 = omega arith in e))
+  answered = ap answer (ea ∙ ap (keyed l) ek)
 
   pub look-hit : p .right < 2048 → at < length l → getD l at 0 / 4096 ≡ k → getD l at 0 % 4096 ≡ lookUp l p
   look-hit h i e = rw (lt-ltb (p .right) 2048 h, lt-ltb at (length l) i, eq-eqb (getD l at 0 / 4096) (key p) (e ∙ ek)) at answered
@@ -108,37 +121,29 @@ look-high l p h = rw (le-ltb (p .right) 2048 h)
 -- an answer is small
 pub look-few : (l : List ℕ) (p : Pair) (n : ℕ) → length l ≤ n → 4096 ≤ n → lookUp l p ≤ n
 unfolding lookUp
-look-few l p n h k = pick (ltb (p .right) 2048 && (ltb (goesTo l (code p 0)) (length l) && isOf p (getD l (goesTo l (code p 0)) 0)))
+look-few l p n h k = pick (ltb (p .right) 2048 && (ltb (keyed l (key p)) (length l) && isOf p (getD l (keyed l (key p)) 0)))
   where
-    pick : (b : Bool) → numberIf b (getD l (goesTo l (code p 0)) 0) (length l) ≤ n
+    pick : (b : Bool) → numberIf b (getD l (keyed l (key p)) 0) (length l) ≤ n
     pick true = omega arith
     pick false = h
 
 -- ---- the search, turn by turn
 
--- the search is between lo and hi, and will come to r
-abbrev pub Halving : List ℕ → ℕ → ℕ → ℕ → ℕ → Type 0
-Halving l x r lo hi = (k : ℕ) × (hi ≤ lo + k) × (halves k l x lo hi ≡ r)
+-- the search is among n places from lo on, and will come to r
+abbrev pub Narrowing : List ℕ → ℕ → ℕ → ℕ → ℕ → Type 0
+Narrowing l k r lo n = (f : ℕ) × (n ≤ f) × (narrow f l k lo n ≡ r)
 
-module _ (l : List ℕ) (x r : ℕ) where
-  pub halving-start : goesTo l x ≡ r → Halving l x r 0 (length l)
-  unfolding goesTo
-  halving-start e = (length l, omega arith, e)
+module _ (l : List ℕ) (k r : ℕ) where
+  pub narrowing-start : keyed l k ≡ r → Narrowing l k r 0 (length l)
+  unfolding keyed
+  narrowing-start e = (length l, omega arith, e)
 
-  pub halving-low : (lo hi m : ℕ) → lo < hi → m ≡ middle lo hi → getD l m 0 < x → Halving l x r lo hi → Halving l x r (m + 1) hi
-  halving-low lo hi m h e i (zero, f, g) = absurd (omega arith)
-  halving-low lo hi m h e i (suc k, f, g) =
-      let j : getD l (middle lo hi) 0 < x = subst (λ (n : ℕ). getD l n 0 < x) e i in
-      (k, omega arith, ap (λ (n : ℕ). halves k l x n hi) (let q : m + 1 ≡ suc (middle lo hi) = omega arith in q) ∙ sym (halves-low l x k lo hi h j) ∙ g)
+  pub narrowing-on : (lo n b : ℕ) → 0 < n → b ≡ below (getD l (lo + (n - n / 2) - 1) 0) k → Narrowing l k r lo n → Narrowing l k r (lo + (n - n / 2) * b) (n / 2)
+  narrowing-on lo n b h e (zero, a, g) = absurd (omega arith)
+  narrowing-on lo n b h e (suc f, a, g) = (f, omega arith, ap (λ (z : ℕ). narrow f l k (lo + (n - n / 2) * z) (n / 2)) e ∙ sym (narrow-on l k f lo n h) ∙ g)
 
-  pub halving-high : (lo hi m : ℕ) → lo < hi → m ≡ middle lo hi → x ≤ getD l m 0 → Halving l x r lo hi → Halving l x r lo m
-  halving-high lo hi m h e i (zero, f, g) = absurd (omega arith)
-  halving-high lo hi m h e i (suc k, f, g) =
-      let j : x ≤ getD l (middle lo hi) 0 = subst (λ (n : ℕ). x ≤ getD l n 0) e i in
-      (k, omega arith, ap (λ (n : ℕ). halves k l x lo n) e ∙ sym (halves-high l x k lo hi h j) ∙ g)
-
-  pub halving-end : (lo hi : ℕ) → hi ≤ lo → Halving l x r lo hi → lo ≡ r
-  halving-end lo hi h (k, f, g) = sym (halves-end l x k lo hi h) ∙ g
+  pub narrowing-end : (lo n : ℕ) → n ≤ 0 → Narrowing l k r lo n → lo ≡ r
+  narrowing-end lo n h (f, a, g) = sym (narrow-end l k f lo n h) ∙ g
 
 -- ---- in a list that rises
 
@@ -148,28 +153,32 @@ pub record Splits (l : List ℕ) (x r : ℕ) : Type 0 where
   pub before : (i : ℕ) → i < r → getD l i 0 < x
   pub behind : (i : ℕ) → r ≤ i → i < length l → x ≤ getD l i 0
 
-module _ (l : List ℕ) (x : ℕ) (s : Sorted l) where
-  halves-splits : (k lo hi : ℕ) → lo ≤ hi → hi ≤ length l → hi ≤ lo + k → ((i : ℕ) → i < lo → getD l i 0 < x) → ((i : ℕ) → hi ≤ i → i < length l → x ≤ getD l i 0) → Splits l x (halves k l x lo hi)
-  halves-splits zero lo hi a b f p q = subst⁻¹ (Splits l x) (halves-end l x zero lo hi (omega arith)) (record { within = omega arith; before = p; behind = λ i h j. q i (omega arith) j })
-  halves-splits (suc k) lo hi a b f p q = pick (λ c d u v. halves-splits k c d u v) (lt-or-ge lo hi) (lt-or-ge (getD l (middle lo hi) 0) x)
+module _ (l : List ℕ) (k : ℕ) (s : Sorted l) where
+  narrow-splits : (f lo n : ℕ) → lo + n ≤ length l → n ≤ f → ((i : ℕ) → i < lo → getD l i 0 < k * 4096) → ((i : ℕ) → lo + n ≤ i → i < length l → k * 4096 ≤ getD l i 0) → Splits l (k * 4096) (narrow f l k lo n)
+  narrow-splits zero lo n b a p q = subst⁻¹ (Splits l (k * 4096)) (narrow-end l k zero lo n (omega arith)) (record { within = omega arith; before = p; behind = λ i h j. q i (omega arith) j })
+  narrow-splits (suc f) lo n b a p q = pick (λ c d u v. narrow-splits f c d u v) (lt-or-ge 0 n) (lt-or-ge (getD l (lo + (n - n / 2) - 1) 0 / 4096) k)
     where
-      pick : ((c d : ℕ) → c ≤ d → d ≤ length l → d ≤ c + k → ((i : ℕ) → i < c → getD l i 0 < x) → ((i : ℕ) → d ≤ i → i < length l → x ≤ getD l i 0) → Splits l x (halves k l x c d))
-          → (lo < hi) ⊎ (hi ≤ lo) → (getD l (middle lo hi) 0 < x) ⊎ (x ≤ getD l (middle lo hi) 0) → Splits l x (halves (suc k) l x lo hi)
-      pick r (inr h) t = subst⁻¹ (Splits l x) (halves-end l x (suc k) lo hi h) (record { within = omega arith; before = p; behind = λ i j n. q i (omega arith) n })
-      pick r (inl h) (inl t) = subst⁻¹ (Splits l x) (halves-low l x k lo hi h t) (r (suc (middle lo hi)) hi (omega arith) b (omega arith) (λ i j. below i j (eq-or-ne i (middle lo hi))) q)
+      pick : ((c d : ℕ) → c + d ≤ length l → d ≤ f → ((i : ℕ) → i < c → getD l i 0 < k * 4096) → ((i : ℕ) → c + d ≤ i → i < length l → k * 4096 ≤ getD l i 0) → Splits l (k * 4096) (narrow f l k c d))
+          → (0 < n) ⊎ (n ≤ 0) → (getD l (lo + (n - n / 2) - 1) 0 / 4096 < k) ⊎ (k ≤ getD l (lo + (n - n / 2) - 1) 0 / 4096) → Splits l (k * 4096) (narrow (suc f) l k lo n)
+      pick r (inr h) t = subst⁻¹ (Splits l (k * 4096)) (narrow-end l k (suc f) lo n h) (record { within = omega arith; before = p; behind = λ i j m. q i (omega arith) m })
+      pick r (inl h) (inl t) =
+          subst⁻¹ (Splits l (k * 4096)) (narrow-on l k f lo n h ∙ ap (λ (z : ℕ). narrow f l k (lo + (n - n / 2) * z) (n / 2)) (below-lt (getD l (lo + (n - n / 2) - 1) 0) k t))
+          (r (lo + (n - n / 2) * 1) (n / 2) (omega arith) (omega arith) (λ i j. low i j (eq-or-ne i (lo + (n - n / 2) - 1))) (λ i j m. q i (omega arith) m))
         where
-          below : (i : ℕ) → i < suc (middle lo hi) → (i ≡ middle lo hi) ⊎ (i ≢ middle lo hi) → getD l i 0 < x
-          below i j (inl e) = subst⁻¹ (λ (n : ℕ). getD l n 0 < x) e t
-          below i j (inr d) = let g : i < middle lo hi = omega arith in let u = sorted-at l s i (middle lo hi) g (omega arith) in omega arith
-      pick r (inl h) (inr t) = subst⁻¹ (Splits l x) (halves-high l x k lo hi h t) (r lo (middle lo hi) (omega arith) (omega arith) (omega arith) p (λ i j n. above i j n (eq-or-ne i (middle lo hi))))
+          low : (i : ℕ) → i < lo + (n - n / 2) * 1 → (i ≡ lo + (n - n / 2) - 1) ⊎ (i ≢ lo + (n - n / 2) - 1) → getD l i 0 < k * 4096
+          low i j (inl e) = let z = ap (λ (m : ℕ). getD l m 0) e in omega arith
+          low i j (inr d) = let g : i < lo + (n - n / 2) - 1 = omega arith in let u = sorted-at l s i (lo + (n - n / 2) - 1) g (omega arith) in omega arith
+      pick r (inl h) (inr t) =
+          subst⁻¹ (Splits l (k * 4096)) (narrow-on l k f lo n h ∙ ap (λ (z : ℕ). narrow f l k (lo + (n - n / 2) * z) (n / 2)) (below-ge (getD l (lo + (n - n / 2) - 1) 0) k t))
+          (r (lo + (n - n / 2) * 0) (n / 2) (omega arith) (omega arith) (λ i j. p i (omega arith)) (λ i j m. high i j m (eq-or-ne i (lo + (n - n / 2) - 1))))
         where
-          above : (i : ℕ) → middle lo hi ≤ i → i < length l → (i ≡ middle lo hi) ⊎ (i ≢ middle lo hi) → x ≤ getD l i 0
-          above i j n (inl e) = subst⁻¹ (λ (m : ℕ). x ≤ getD l m 0) e t
-          above i j n (inr d) = let g : middle lo hi < i = omega arith in let u = sorted-at l s (middle lo hi) i g n in omega arith
+          high : (i : ℕ) → lo + (n - n / 2) * 0 + n / 2 ≤ i → i < length l → (i ≡ lo + (n - n / 2) - 1) ⊎ (i ≢ lo + (n - n / 2) - 1) → k * 4096 ≤ getD l i 0
+          high i j m (inl e) = let z = ap (λ (x : ℕ). getD l x 0) e in omega arith
+          high i j m (inr d) = let g : lo + (n - n / 2) - 1 < i = omega arith in let u = sorted-at l s (lo + (n - n / 2) - 1) i g m in omega arith
 
-  pub goes-splits : Splits l x (goesTo l x)
-  unfolding goesTo
-  goes-splits = halves-splits (length l) 0 (length l) (omega arith) (omega arith) (omega arith) (λ i h. absurd (not-suc-le-zero h)) (λ i h j. absurd (omega arith))
+  keyed-splits : Splits l (k * 4096) (keyed l k)
+  unfolding keyed
+  keyed-splits = narrow-splits (length l) 0 (length l) (omega arith) (omega arith) (λ i h. absurd (not-suc-le-zero h)) (λ i h j. absurd (omega arith))
 
 -- ---- the index of some pairs
 
@@ -247,21 +256,33 @@ index-in : (ps : List Pair) (j : ℕ) → j < length ps → In (code (pairAt ps 
 unfolding index
 index-in ps j h = in-sort (code (pairAt ps j) j) (codes 0 ps) (subst (λ (n : ℕ). In (code (pairAt ps j) n) (codes 0 ps)) (let e : 0 + j ≡ j = omega arith in e) (codes-in 0 ps j h))
 
+-- where the code of one pair more goes: before those of the next key
+pub goes-in : (found : List Pair) (p : Pair) (n : ℕ) → n ≡ length found → n < most → Splits (index found) (code p n) (keyed (index found) (key p + 1))
+goes-in found p n e h =
+    let s = keyed-splits (index found) (key p + 1) (index-sorted found) in
+    let l = index-length found in
+    let w = s .within in
+    record {
+      within = w;
+      before = λ i a. let b = s .before i a in let (j, q, c) = index-coded found i (omega arith) in omega arith;
+      behind = λ i a g. let b = s .behind i a g in omega arith;
+    }
+
 -- ---- a look-up
 
 key-same : (p q : Pair) → p .right < 2048 → q .right < 2048 → key p ≡ key q → p ≡ q
 key-same p q a b e = ap₂ pair (omega arith) (omega arith)
 
--- where the code of p goes, if p is not there
+-- where the codes of the key of p go
 abbrev spot : List Pair → Pair → ℕ
-spot found p = goesTo (index found) (code p 0)
+spot found p = keyed (index found) (key p)
 
 module _ (m : ℕ) (found : List Pair) (a : Apart found) (w : AllOf m 2048 found) (f : length found ≤ most) (p : Pair) where
   n-is : length (index found) ≡ length found
   n-is = index-length found
 
   splits : Splits (index found) (code p 0) (spot found p)
-  splits = goes-splits (index found) (code p 0) (index-sorted found)
+  splits = subst (λ (x : ℕ). Splits (index found) x (spot found p)) (let e : key p * 4096 ≡ code p 0 = omega arith in e) (keyed-splits (index found) (key p) (index-sorted found))
 
   -- a code with the key of p is that of p
   own : (c : ℕ) → p .right < 2048 → Coded found 0 c → c / 4096 ≡ key p → (In p found) × (c % 4096 ≡ place p found)

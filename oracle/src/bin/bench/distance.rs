@@ -1,11 +1,11 @@
-//! `distance` of two chains of 60 states with 3 and with 5 entries in each row, and `bisim_distance` of two models of 60 states with
-//! three targets each, at γ 0.9 and the usual options. Ours checks the chains or models and works in memory that is lent once; the
-//! Rust checks γ and the observations, and makes its lists anew.
+//! `distance` of two chains of 60 states with 3 to 5 entries in each row: targets in a ring or any, several γ, the usual options or
+//! hardly any rounds. `bisim_distance` of two models of 60 states with three targets each, at γ 0.9 and the usual options. Ours checks
+//! the chains or models and works in memory that is lent once; the Rust checks γ and the observations, and makes its lists anew.
 
 use std::hint::black_box;
 
 use oracle::answers::{Oracle, from_columns, handed_in};
-use oracle::args::{BisimArgs, DistanceArgs};
+use oracle::args::{BisimArgs, DistanceArgs, Options};
 use oracle::bisim_core::StateId;
 use oracle::bisim_metric::kantorovich::{Chain, bisim_distance, distance};
 use oracle::distance::Given;
@@ -38,13 +38,58 @@ fn chain(rng: &mut Rng, entries: usize) -> Chain {
     }
 }
 
+/// So many targets, any of the states.
+fn any_targets(rng: &mut Rng, entries: usize) -> Vec<usize> {
+    let mut list: Vec<usize> = (0..STATES).collect();
+    while list.len() > entries {
+        list.remove(rng.below(list.len()));
+    }
+    list
+}
+
+/// The same with any targets and observations.
+fn any_chain(rng: &mut Rng, entries: usize) -> Chain {
+    let row = |rng: &mut Rng| {
+        let list = any_targets(rng, entries);
+        list.into_iter().zip(masses(rng, entries)).collect()
+    };
+    Chain {
+        rows: (0..STATES).map(|_| row(rng)).collect(),
+        observation: (0..STATES).map(|_| rng.unit()).collect(),
+        initial: 0,
+    }
+}
+
 fn pair(entries: usize) -> DistanceArgs {
     let rng = &mut Rng::new(entries as u64);
     lent(&chain(rng, entries), &chain(rng, entries), usual(0.9))
 }
 
-pub fn pairs() -> Vec<(&'static str, DistanceArgs)> {
-    vec![("distance_60x3", pair(3)), ("distance_60x5", pair(5))]
+fn any_pair(entries: usize, options: Options) -> DistanceArgs {
+    let rng = &mut Rng::new(entries as u64);
+    lent(&any_chain(rng, entries), &any_chain(rng, entries), options)
+}
+
+/// Of 3, 4 and 5 entries in each row: the ring, any targets at γ 0.3, 0.5 and 0.9, and at γ 0.5 with no round and with one.
+pub fn pairs() -> Vec<(String, DistanceArgs)> {
+    let mut list = Vec::new();
+    for entries in 3..=5 {
+        let name = format!("distance_60x{entries}");
+        list.push((name.clone(), pair(entries)));
+        for gamma in [0.3, 0.5, 0.9] {
+            let any = any_pair(entries, usual(gamma));
+            list.push((format!("{name}_any_{gamma}"), any));
+        }
+        for max_rounds in [0, 1] {
+            let few = Options {
+                max_rounds,
+                ..usual(0.5)
+            };
+            let name = format!("{name}_rounds_{max_rounds}");
+            list.push((name, any_pair(entries, few)));
+        }
+    }
+    list
 }
 
 /// A model of 60 states with so many targets each, itself included.

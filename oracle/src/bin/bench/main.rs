@@ -147,7 +147,7 @@ fn run(chosen: &dyn Fn(&str) -> bool) {
     for (name, case) in chain::pairs().iter().filter(|case| chosen(case.0)) {
         chain::measure_normalise(name, case);
     }
-    for (name, case) in distance::pairs().iter().filter(|case| chosen(case.0)) {
+    for (name, case) in distance::pairs().iter().filter(|case| chosen(&case.0)) {
         distance::measure_distance(name, case);
     }
     let models = distance::model_pairs();

@@ -1,12 +1,12 @@
 -- By the cases of the tests: the pair is known, or it is pair 4,097, or it is noted.
 use mathlib.Core.Path.{sym, ap, _∙_}
-use Prim.Native.Nat.{_-_}
+use Prim.Native.Nat.{ℕ, _+_, _-_}
 use native.Mathlib.Omega.{arith}
 use lib.ListN.{take}
 use lib.Seq.{length-take-le}
 use borrow.Author.Needs.{needs}
 use Rattle.epsdelta_theory.proofs.RowsIn.{put}
-use Rattle.distance_theory.proofs.Index.{goesTo}
+use Rattle.distance_theory.proofs.Index.{keyed}
 use Rattle.distance_theory.proofs.Discovery.{takes-known, takes-last, takes-new}
 use Rattle.distance_pairs.proofs.discover.meet.Statement.{statement}
 use Rattle.distance_pairs.proofs.discover.meet.Tie as tie
@@ -38,17 +38,23 @@ returns-2 c = ((let f = c .before .before .before .before .before .before .befor
 code-requires : tie.Need-code-requires
 code-requires c κs = search needs
 
-slice-reshare-prefix-goes-to : tie.Need-slice-reshare-prefix-goes-to
-slice-reshare-prefix-goes-to c = search needs
+slice-reshare-prefix-goes-by : tie.Need-slice-reshare-prefix-goes-by
+slice-reshare-prefix-goes-by c = search needs
 
-slice-aggregate-goes-to : tie.Need-slice-aggregate-goes-to
-slice-aggregate-goes-to c = sym (length-take-le _ _ (let f = c .before .before .before .before .before .before .before .before .before .pre .few in let g = c .before .before .before .before .before .before .before .before .before .pre .codes-long in omega arith))
+slice-aggregate-goes-by : tie.Need-slice-aggregate-goes-by
+slice-aggregate-goes-by c = sym (length-take-le _ _ (let f = c .before .before .before .before .before .before .before .before .before .pre .few in let g = c .before .before .before .before .before .before .before .before .before .pre .codes-long in omega arith))
 
-goes-to-requires : tie.Need-goes-to-requires
-goes-to-requires c κs = search needs
+key-requires : tie.Need-key-requires
+key-requires c κs = search needs
+
+add-goes-by : tie.Need-add-goes-by
+add-goes-by c = search needs
+
+goes-by-requires : tie.Need-goes-by-requires
+goes-by-requires c κs = search needs
 
 insert-requires : tie.Need-insert-requires
-insert-requires c κs = let g = c .before .before .before .before .before .before .before .before .before .before .before .pre .codes-long in let h = c .before .goes-to .ensures .1 in let k = length-take-le (c .before .before .before .before .before .before .before .before .before .before .before .args .n) (c .before .before .before .before .before .before .before .before .before .before .before .args .codes .now) (omega arith) in (omega arith, omega arith)
+insert-requires c κs = let g = c .before .before .before .before .before .before .before .before .before .before .before .before .pre .codes-long in let h = c .before .goes-by .ensures .1 in let k = length-take-le (c .before .before .before .before .before .before .before .before .before .before .before .before .args .n) (c .before .before .before .before .before .before .before .before .before .before .before .before .args .codes .now) (omega arith) in (omega arith, omega arith)
 
 mul-lefts : tie.Need-mul-lefts
 mul-lefts c = search needs
@@ -75,7 +81,7 @@ same-length-5 : tie.Need-same-length-5
 same-length-5 c = search needs
 
 returns-3 : tie.Need-returns-3
-returns-3 c = ((let f = c .before .before .before .before .before .before .before .before .before .before .before .before .before .before .pre .few in omega arith), takes-new (c .before .before .before .before .before .before .before .before .before .before .before .before .before .before .args .x) (c .before .before .before .before .before .before .before .before .before .before .before .before .before .before .args .y) (c .before .before .before .before .before .before .before .before .before .before .before .before .before .before .args .n) (c .before .before .before .before .before .before .before .before .before .before .before .before .before .before .args .lefts .now) (c .before .before .before .before .before .before .before .before .before .before .before .before .before .before .args .rights .now) (c .before .before .before .before .before .before .before .before .before .before .before .before .before .before .args .codes .now) (c .before .before .before .before .before .before .before .before .before .before .before .before .before .before .pre) (let e = c .before .before .before .before .before .before .before .before .before .place-of .ensures in let h = c .before .before .before .before .before .before .before .before .if1 .left in omega arith) (c .before .before .before .before .before .before .before .if2 .left) (c .before .before .before .before .goes-to .result) _ (c .before .before .before .before .goes-to .ensures .0 ∙ ap (goesTo (take (c .before .before .before .before .before .before .before .before .before .before .before .before .before .before .args .n) (c .before .before .before .before .before .before .before .before .before .before .before .before .before .before .args .codes .now))) (c .before .before .before .before .before .before .code .ensures)) (c .before .before .insert .ensures ∙ ap (put (c .before .before .before .before .goes-to .result) (c .before .before .before .before .before .before .before .before .before .before .before .before .before .before .args .n - c .before .before .before .before .goes-to .result) (c .before .before .before .before .before .before .before .before .before .before .before .before .before .before .args .codes .now)) (c .before .before .before .before .before .before .code .ensures)))
+returns-3 c = ((let f = c .before .before .before .before .before .before .before .before .before .before .before .before .before .before .before .pre .few in omega arith), takes-new (c .before .before .before .before .before .before .before .before .before .before .before .before .before .before .before .args .x) (c .before .before .before .before .before .before .before .before .before .before .before .before .before .before .before .args .y) (c .before .before .before .before .before .before .before .before .before .before .before .before .before .before .before .args .n) (c .before .before .before .before .before .before .before .before .before .before .before .before .before .before .before .args .lefts .now) (c .before .before .before .before .before .before .before .before .before .before .before .before .before .before .before .args .rights .now) (c .before .before .before .before .before .before .before .before .before .before .before .before .before .before .before .args .codes .now) (c .before .before .before .before .before .before .before .before .before .before .before .before .before .before .before .pre) (let e = c .before .before .before .before .before .before .before .before .before .before .place-of .ensures in let h = c .before .before .before .before .before .before .before .before .before .if1 .left in omega arith) (c .before .before .before .before .before .before .before .before .if2 .left) (c .before .before .before .before .goes-by .result) _ (c .before .before .before .before .goes-by .ensures .0 ∙ ap (λ (z : ℕ). keyed (take (c .before .before .before .before .before .before .before .before .before .before .before .before .before .before .before .args .n) (c .before .before .before .before .before .before .before .before .before .before .before .before .before .before .before .args .codes .now)) (z + 1)) (c .before .before .before .before .before .key .ensures .0)) (c .before .before .insert .ensures ∙ ap (put (c .before .before .before .before .goes-by .result) (c .before .before .before .before .before .before .before .before .before .before .before .before .before .before .before .args .n - c .before .before .before .before .goes-by .result) (c .before .before .before .before .before .before .before .before .before .before .before .before .before .before .before .args .codes .now)) (c .before .before .before .before .before .before .before .code .ensures)))
 
 pub meet-spec : {M : Type 1} → statement M
 meet-spec =
@@ -90,9 +96,11 @@ meet-spec =
     same-length-2
     returns-2
     code-requires
-    slice-reshare-prefix-goes-to
-    slice-aggregate-goes-to
-    goes-to-requires
+    slice-reshare-prefix-goes-by
+    slice-aggregate-goes-by
+    key-requires
+    add-goes-by
+    goes-by-requires
     insert-requires
     mul-lefts
     slice-write-lefts

@@ -8,11 +8,8 @@ use Rattle.distance_pairs.proofs.index.place_of.Tie as tie
 key-requires : tie.Need-key-requires
 key-requires c κs = search needs
 
-mul-goes-to : tie.Need-mul-goes-to
-mul-goes-to c = search needs
-
-goes-to-requires : tie.Need-goes-to-requires
-goes-to-requires c κs = search needs
+goes-by-requires : tie.Need-goes-by-requires
+goes-by-requires c κs = search needs
 
 mul-code : tie.Need-mul-code
 mul-code c = search needs
@@ -21,13 +18,13 @@ shared-slice-read-code : tie.Need-shared-slice-read-code
 shared-slice-read-code c = search needs
 
 returns : tie.Need-returns
-returns c = look-hit (c .before .before .before .before .before .before .before .before .args .codes .now) (pair (c .before .before .before .before .before .before .before .before .args .left .0) (c .before .before .before .before .before .before .before .before .args .right .0)) _ _ (c .before .before .before .before .key .ensures .0) (c .before .before .before .goes-to .ensures .0) (c .before .before .before .before .before .if1 .taken) (c .before .before .if2 .taken) (c .if3 .taken)
+returns c = look-hit (c .before .before .before .before .before .before .before .before .args .codes .now) (pair (c .before .before .before .before .before .before .before .before .args .left .0) (c .before .before .before .before .before .before .before .before .args .right .0)) _ _ (c .before .before .before .before .key .ensures .0) (c .before .before .before .goes-by .ensures .0) (c .before .before .before .before .before .if1 .taken) (c .before .before .if2 .taken) (c .if3 .taken)
 
 returns-2 : tie.Need-returns-2
-returns-2 c = look-other (c .before .before .before .before .before .before .before .before .args .codes .now) (pair (c .before .before .before .before .before .before .before .before .args .left .0) (c .before .before .before .before .before .before .before .before .args .right .0)) _ _ (c .before .before .before .before .key .ensures .0) (c .before .before .before .goes-to .ensures .0) (c .before .before .before .before .before .if1 .taken) (c .before .before .if2 .taken) (c .if3 .left)
+returns-2 c = look-other (c .before .before .before .before .before .before .before .before .args .codes .now) (pair (c .before .before .before .before .before .before .before .before .args .left .0) (c .before .before .before .before .before .before .before .before .args .right .0)) _ _ (c .before .before .before .before .key .ensures .0) (c .before .before .before .goes-by .ensures .0) (c .before .before .before .before .before .if1 .taken) (c .before .before .if2 .taken) (c .if3 .left)
 
 returns-3 : tie.Need-returns-3
-returns-3 c = look-end (c .before .before .before .before .before .before .args .codes .now) (pair (c .before .before .before .before .before .before .args .left .0) (c .before .before .before .before .before .before .args .right .0)) _ _ (c .before .before .key .ensures .0) (c .before .goes-to .ensures .0) (c .before .before .before .if1 .taken) (c .if2 .left)
+returns-3 c = look-end (c .before .before .before .before .before .before .args .codes .now) (pair (c .before .before .before .before .before .before .args .left .0) (c .before .before .before .before .before .before .args .right .0)) _ _ (c .before .before .key .ensures .0) (c .before .goes-by .ensures .0) (c .before .before .before .if1 .taken) (c .if2 .left)
 
 returns-4 : tie.Need-returns-4
 returns-4 c = look-high (c .before .before .before .args .codes .now) (pair (c .before .before .before .args .left .0) (c .before .before .before .args .right .0)) (c .if1 .left)
@@ -37,8 +34,7 @@ place-of-spec =
     tie.close
     (tie.spec
     key-requires
-    mul-goes-to
-    goes-to-requires
+    goes-by-requires
     mul-code
     shared-slice-read-code
     returns
