@@ -172,6 +172,9 @@ path-out N S x W (e ∷ es) u v c size out (t, C) A R H =
     keep : (y : ℕ) → In y es → (y < links N) × (rev y < links N) × Ready N S c x y → (y < links N) × (rev y < links N) × Ready N S (pushLink x e c) x y
     keep y i (l, m, Q) =
         let n : y ≢ e = apart-ne e y es A i in
-        let o : y ≢ rev e = R y (inr i) e (inl refl) in
-        (l, m, ready-on N S x c (pushLink x e c) y (pushLink-other x e c y n o)
-        (pushLink-other x e c (rev y) (λ q. o (sym (rev-rev y) ∙ ap rev q)) (λ q. n (sym (rev-rev y) ∙ ap rev q ∙ rev-rev e))) Q)
+        let o : y ≢ rev e = R y (inr i) e (inl refl) in (
+          l,
+          m,
+          ready-on N S x c (pushLink x e c) y (pushLink-other x e c y n o)
+              (pushLink-other x e c (rev y) (λ q. o (sym (rev-rev y) ∙ ap rev q)) (λ q. n (sym (rev-rev y) ∙ ap rev q ∙ rev-rev e))) Q,
+        )

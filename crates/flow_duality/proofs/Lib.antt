@@ -7,4 +7,5 @@ pub mod Trails
 pub mod Starts
 pub mod Networks
 pub mod Duality
+pub mod Testing
 pub mod Plenty

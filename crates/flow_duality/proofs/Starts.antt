@@ -153,9 +153,10 @@ pub finite-sealed : (S : ℕ → Bool) (ls : List Link)
     → ((e : ℕ) → e < length (heads ls) → (S (getD (heads ls) (rev e) 0) && not (S (getD (heads ls) e 0))) ≡ true → getD (caps ls) e nan ≢ inf false) → Sealed S ls
 unfolding heads caps rev
 finite-sealed S [] h = tt
-finite-sealed S (x ∷ ls) h =
-    (λ q. pick (S (x .from) && not (S (x .to))) refl q,
-    finite-sealed S ls (λ e l i. h (suc (suc e)) (omega arith) (subst⁻¹ (λ (r : ℕ). (S (getD (x .to ∷ x .from ∷ heads ls) r 0) && not (S (getD (heads ls) e 0))) ≡ true) (rev-up e) i)))
+finite-sealed S (x ∷ ls) h = (
+  λ q. pick (S (x .from) && not (S (x .to))) refl q,
+  finite-sealed S ls (λ e l i. h (suc (suc e)) (omega arith) (subst⁻¹ (λ (r : ℕ). (S (getD (x .to ∷ x .from ∷ heads ls) r 0) && not (S (getD (heads ls) e 0))) ≡ true) (rev-up e) i)),
+)
   where
     pick : (b : Bool) → (S (x .from) && not (S (x .to))) ≡ b → x .cap ≡ inf false → b ≡ false
     pick true e q = absurd (h 0 (omega arith) e q)
