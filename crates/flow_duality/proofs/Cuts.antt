@@ -1,7 +1,7 @@
 -- What the links out of a set of nodes have left, as one whole number: a push over a link changes it by what is pushed, and one rounding, where the link leads out of the set or into it.
 use mathlib.Core.Path.{_≡_, refl, sym, subst, subst⁻¹, ap, _∙_}
 use mathlib.Core.Logic.{_≢_, _⊎_, inl, inr}
-use mathlib.Core.Bool.{Bool, true, false, not, _&&_, false≢true}
+use mathlib.Core.Bool.{Bool, true, false, not, _&&_}
 use Prim.Native.Nat.{ℕ, zero, suc, _≤_, _<_, _+_, _*_, _-_, _^_}
 use mathlib.Core.List.{List, [], _∷_}
 use native.Mathlib.Omega.{arith}
@@ -16,7 +16,7 @@ use Rattle.flow_theory.specs.Network.{rev, Net, links, head, tail, left}
 use Rattle.flow_theory.specs.Augment.{pushLink, pushPath}
 use Rattle.flow_theory.proofs.Links.{rev-rev, rev-ne}
 use Rattle.flow_theory.proofs.Pushes.{pushLink-length, pushLink-same, pushLink-other}
-use Rattle.flow_duality.proofs.Wholes.{ulp, val, Whole, Near, add-near, sub-near}
+use Rattle.flow_duality.proofs.Wholes.{ulp, val, Whole, add-near, sub-near}
 
 -- ---- sums
 

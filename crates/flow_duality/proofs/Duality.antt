@@ -1,15 +1,15 @@
 -- A flow that passes with 3e-10 to spare passes turned round: for rows of at most 8 jumps, rates of at most 1 and a symmetric relation.
 -- The network from t to s is the one from s to t turned round, so each cut of the one, its nodes mirrored and the other side taken, is a cut of the other with the same capacity.
 use mathlib.Core.Path.{_≡_, refl, sym, subst, subst⁻¹, ap, _∙_}
-use mathlib.Core.Logic.{_≢_, _⊎_, inl, inr}
+use mathlib.Core.Logic.{_⊎_, inl, inr}
 use mathlib.Core.Bool.{Bool, true, false, not, _&&_, _||_, cond, true≢false, false≢true}
-use Prim.Native.Nat.{ℕ, zero, suc, _≤_, _<_, _+_, _*_, _-_, _^_}
+use Prim.Native.Nat.{ℕ, suc, _≤_, _<_, _+_, _*_, _-_, _^_}
 use mathlib.Core.List.{List}
 use native.Mathlib.Omega.{arith}
 use native.Mathlib.Nat.{mul-le-mul-right, mul-pos, le-of-mul-le-mul-right}
 use borrow.Author.Tests.{lt-ltb, le-ltb, eq-eqb, ne-eqb}
-use lib.Dec.{T, ltb, eqb, lit<, lit≤}
-use lib.IntN.{ℤ, pos}
+use lib.Dec.{T, ltb, eqb, lit<}
+use lib.IntN.{ℤ}
 use lib.ListN.{length, getD}
 use lib.Pow.{pow-pos}
 use lib.Ieee.{Float, nan, inf, fin, binary64, ofBits, ofFields, lt, le, eq, add, round, up, down, fits}
@@ -17,12 +17,11 @@ use lib.Ieee.Bits.{is-true}
 use lib.Ieee.Order.{round-mono}
 use lib.Ieee.Positive.{num, den, den-pos, above-of-le}
 use Rattle.numbers.specs.Lists.{In}
-use Rattle.numbers.proofs.Bools.{lt-or-ge, t-of}
+use Rattle.numbers.proofs.Bools.{lt-or-ge}
 use Rattle.numbers.proofs.Floats.{power, plain-signed, add-is}
 use Rattle.numbers.proofs.Comparisons.{Above, above-t, le-not-lt, lt-over}
 use Rattle.numbers.proofs.Members.{in-at}
-use Rattle.flow_theory.specs.Network.{Net, links, nodes}
-use Rattle.flow_theory.specs.Run.{FlowRun}
+use Rattle.flow_theory.specs.Network.{Net, nodes}
 use Rattle.flow_theory.specs.Claim.{inCut, FlowClaim}
 use Rattle.flow_theory.proofs.Accepted.{Accepted}
 use Rattle.flow_theory.proofs.Links.{WellFormed}
@@ -33,7 +32,7 @@ use Rattle.epsdelta_theory.specs.FlowTest.{linksOf, heads, caps, networkBetween
 use Rattle.epsdelta_theory.proofs.FlowTests.{heads-length, between-accepted, between-claimed}
 use Rattle.epsdelta_theory.proofs.RowReads.{noJump}
 use Rattle.flow_duality.specs.Spare.{spare}
-use Rattle.flow_duality.proofs.Wholes.{ulp, ulp-pos, val, Whole, Near, add-near, val-is, val-ge, val-le, le-val, plain-above, spare-whole, spare-val}
+use Rattle.flow_duality.proofs.Wholes.{ulp, ulp-pos, val, Whole, add-near, val-is, val-ge, val-le, le-val, plain-above, spare-whole, spare-val}
 use Rattle.flow_duality.proofs.Cuts.{outOf}
 use Rattle.flow_duality.proofs.Pushed.{Allowed, alone, Begins}
 use Rattle.flow_duality.proofs.Starts.{rowOf, rowOf-same, Unparted}

@@ -1,15 +1,14 @@
 -- The network of a flow test as a run begins on it: capacities of 1 at most, and for a set of nodes what its links have and whether no infinite one leads out.
-use mathlib.Core.Path.{_≡_, refl, sym, subst, subst⁻¹, ap, _∙_}
+use mathlib.Core.Path.{_≡_, refl, ap, _∙_}
 use mathlib.Core.Logic.{_≢_, _⊎_, inl, inr}
-use mathlib.Core.Bool.{Bool, true, false, not, _&&_, true≢false}
+use mathlib.Core.Bool.{Bool, true, false, not, _&&_}
 use Prim.Native.Nat.{ℕ, zero, suc, _≤_, _<_, _+_, _*_, _^_}
 use mathlib.Core.List.{List, [], _∷_, _++_}
 use native.Mathlib.Omega.{arith}
 use native.Mathlib.Nat.{not-suc-le-zero, mul-le-mul-right}
 use borrow.Author.Tests.{eq-eqb, ne-eqb, eqb-true}
-use lib.Dec.{T}
 use lib.ListN.{length, getD, length-append}
-use lib.Ieee.{Float, nan, inf, fin, ofBits, ofFields, le}
+use lib.Ieee.{Float, nan, inf, fin, le}
 use Rattle.numbers.specs.Real.{nought, one}
 use Rattle.numbers.proofs.Bools.{and-t, t-of}
 use Rattle.numbers.proofs.Floats.{power}
@@ -18,11 +17,11 @@ use Rattle.flow_theory.specs.Network.{Net, links, head, tail, left}
 use Rattle.epsdelta_theory.specs.Jumps.{Jump}
 use Rattle.epsdelta_theory.specs.Relation.{holds}
 use Rattle.epsdelta_theory.specs.FlowTest.{Link, sourceLinks, sinkLinks, linkIf, crossLinks, allCrossLinks, linksOf, heads, caps, networkBetween}
-use Rattle.epsdelta_theory.proofs.FlowTests.{AllInRange, heads-length, caps-length, between-accepted}
+use Rattle.epsdelta_theory.proofs.FlowTests.{AllInRange, caps-length, between-accepted}
 use Rattle.flow_duality.proofs.Wholes.{ulp, ulp-pos, val, Whole, val-le, le-val, power-whole, power-val, nought-whole, nought-val, one-whole, one-val}
-use Rattle.flow_duality.proofs.Cuts.{leads, part, outOf}
+use Rattle.flow_duality.proofs.Cuts.{part, outOf}
 use Rattle.flow_duality.proofs.Pushed.{Allowed, alone, Begins}
-use Rattle.flow_duality.proofs.Starts.{inf-nought, through, through-is, through-append, rowOf, rowOf-same, through-source, through-sink, through-all, Sealed, sealed-append, sealed-right, sealed-finite, finite-sealed, Unparted, all-sealed, sealed-all}
+use Rattle.flow_duality.proofs.Starts.{inf-nought, through-is, through-append, rowOf, rowOf-same, through-source, through-sink, through-all, Sealed, sealed-append, sealed-right, sealed-finite, finite-sealed, Unparted, all-sealed, sealed-all}
 
 -- ---- divided rates
 

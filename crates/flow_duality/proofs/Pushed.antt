@@ -1,9 +1,9 @@
 -- One push of a run: for every set of nodes with the source and without the sink, out of which no infinite link leads, the flow so far and what the links out of the set have left stay
 -- together what the links had at the start, up to 2^-49 for each link of the path and for the total. So all numbers stay below 32.
-use mathlib.Core.Path.{_≡_, refl, sym, subst, subst⁻¹, ap, _∙_}
+use mathlib.Core.Path.{_≡_, refl, subst, ap, _∙_}
 use mathlib.Core.Logic.{_≢_, _⊎_, inl, inr}
 use mathlib.Core.Bool.{Bool, true, false}
-use Prim.Native.Nat.{ℕ, zero, suc, _≤_, _<_, _+_, _*_, _-_, _^_}
+use Prim.Native.Nat.{ℕ, suc, _≤_, _<_, _+_, _*_, _-_, _^_}
 use mathlib.Core.List.{List, [], _∷_}
 use native.Mathlib.Omega.{arith}
 use native.Mathlib.Nat.{mul-le-mul-right, suc-mul}
@@ -15,7 +15,7 @@ use Rattle.numbers.specs.Lists.{In}
 use Rattle.numbers.proofs.Bools.{eq-or-ne}
 use Rattle.numbers.proofs.Comparisons.{fin-inf}
 use Rattle.numbers.proofs.Members.{Apart}
-use Rattle.flow_theory.specs.Network.{rev, Net, links, nodes, head, tail, left, residual}
+use Rattle.flow_theory.specs.Network.{rev, Net, links, tail, left, residual}
 use Rattle.flow_theory.specs.Augment.{least, pushPath}
 use Rattle.flow_theory.proofs.Links.{rev-rev, rev-in, WellFormed}
 use Rattle.flow_theory.proofs.Pushes.{residual-lt, pushPath-length, pushPath-hit, pushPath-other}

@@ -1,6 +1,6 @@
 -- The path that `augment` finds: links one after the other from the source to the sink, each with more than 1e-12 left and to the next level.
 use mathlib.Core.Path.{_≡_, refl, sym, subst, ap, _∙_}
-use mathlib.Core.Logic.{_≢_, _⊎_, inl, inr}
+use mathlib.Core.Logic.{_≢_, inl, inr}
 use mathlib.Core.Bool.{Bool, true, false}
 use Prim.Native.Nat.{ℕ, zero, suc, _≤_, _<_, _+_}
 use mathlib.Core.List.{List, [], _∷_, _++_, reverse, reverse-cons}

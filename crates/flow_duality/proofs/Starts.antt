@@ -1,23 +1,21 @@
 -- The network of a flow test at its start: what the links out of a set have is a sum over the two rows, and no infinite link leads out of it if it parts no related targets.
 use mathlib.Core.Path.{_≡_, refl, sym, subst, subst⁻¹, ap, _∙_}
-use mathlib.Core.Logic.{_≢_, _⊎_, inl, inr}
+use mathlib.Core.Logic.{_≢_}
 use mathlib.Core.Bool.{Bool, true, false, not, _&&_, true≢false}
-use Prim.Native.Nat.{ℕ, zero, suc, _≤_, _<_, _+_, _*_, _-_, _^_}
+use Prim.Native.Nat.{ℕ, zero, suc, _<_, _+_}
 use mathlib.Core.List.{List, [], _∷_, _++_}
 use native.Mathlib.Omega.{arith}
-use native.Mathlib.Nat.{not-suc-le-zero, mul-le-mul-right}
-use lib.ListN.{length, getD, length-append}
-use lib.Ieee.{Float, nan, inf, fin, ofBits, ofFields}
+use native.Mathlib.Nat.{not-suc-le-zero}
+use lib.ListN.{length, getD}
+use lib.Ieee.{Float, nan, inf, ofBits, ofFields}
 use Rattle.numbers.specs.Real.{nought}
-use Rattle.numbers.proofs.Bools.{and-t}
-use Rattle.flow_theory.specs.Network.{rev, Net, links, head, tail, left}
+use Rattle.flow_theory.specs.Network.{rev}
 use Rattle.epsdelta_theory.specs.Jumps.{Jump}
 use Rattle.epsdelta_theory.specs.Relation.{holds}
-use Rattle.epsdelta_theory.specs.FlowTest.{Link, sourceLinks, sinkLinks, linkIf, crossLinks, allCrossLinks, linksOf, heads, caps, networkBetween}
-use Rattle.epsdelta_theory.proofs.FlowTests.{heads-length, caps-length}
+use Rattle.epsdelta_theory.specs.FlowTest.{Link, sourceLinks, sinkLinks, linkIf, crossLinks, allCrossLinks, heads, caps}
 use Rattle.epsdelta_theory.proofs.RowReads.{noJump}
-use Rattle.flow_duality.proofs.Wholes.{ulp, val, Whole}
-use Rattle.flow_duality.proofs.Cuts.{upto, upto-same, leads, part, outOf}
+use Rattle.flow_duality.proofs.Wholes.{val}
+use Rattle.flow_duality.proofs.Cuts.{upto, upto-same, part}
 
 -- ---- the sum over the added links
 

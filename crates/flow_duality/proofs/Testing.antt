@@ -1,13 +1,13 @@
 -- The law for the flow tests of a pair: where the test forth passes with 3e-10 to spare, both pass. Divided rates are quotients, and so numbers of the format.
-use mathlib.Core.Path.{_≡_, refl, sym, subst, subst⁻¹, ap, _∙_}
+use mathlib.Core.Path.{_≡_, subst⁻¹, ap, _∙_}
 use mathlib.Core.Logic.{_⊎_, inl, inr}
-use mathlib.Core.Bool.{Bool, true, false, _&&_, false≢true}
-use Prim.Native.Nat.{ℕ, suc, _≤_, _<_, _+_, _-_}
+use mathlib.Core.Bool.{Bool, true, false, false≢true}
+use Prim.Native.Nat.{ℕ, _≤_, _<_, _+_, _-_}
 use mathlib.Core.List.{List, [], _∷_, map}
 use native.Mathlib.Omega.{arith}
 use lib.Dec.{T}
 use lib.ListN.{length, getD}
-use lib.Ieee.{Float, nan, inf, fin, binary64, ofBits, ofFields, lt, le, eq, add, sub, div, fits}
+use lib.Ieee.{Float, nan, inf, fin, binary64, ofBits, ofFields, lt, le, eq, add, sub, fits}
 use lib.Ieee.Fits.{div-fits, sub-fits}
 use Rattle.numbers.specs.Lists.{In, all}
 use Rattle.numbers.specs.Real.{nought, one, slack, sum}
@@ -15,8 +15,7 @@ use Rattle.numbers.proofs.Bools.{and-t, lt-or-ge}
 use Rattle.numbers.proofs.Floats.{Plain}
 use Rattle.bisim_core.specs.Data.{Edge}
 use Rattle.epsdelta_theory.specs.Jumps.{Jump, addEdges, targets, rates, divided, Row, row, Jumps, union, noRow, prob}
-use Rattle.epsdelta_theory.specs.Relation.{holds}
-use Rattle.epsdelta_theory.specs.FlowTest.{runBetween, testRun, needed, flowOk}
+use Rattle.epsdelta_theory.specs.FlowTest.{testRun, needed, flowOk}
 use Rattle.epsdelta_theory.specs.Claim.{Symmetric}
 use Rattle.epsdelta_theory.proofs.Rows.{union-left, union-right}
 use Rattle.flow_duality.specs.Spare.{spare, isShare}

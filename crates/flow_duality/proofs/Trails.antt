@@ -7,9 +7,8 @@ use Prim.Native.Nat.{ℕ, zero, suc, _≤_, _<_, _+_, _*_, _^_}
 use mathlib.Core.List.{List, [], _∷_, reverse}
 use native.Mathlib.Omega.{arith}
 use native.Mathlib.Nat.{mul-le-mul-right, add-zero, add-suc}
-use lib.Dec.{T, lit≤}
 use lib.ListN.{length, length-reverse}
-use lib.Ieee.{Float, nan, inf, fin, binary64, ofBits, ofFields, lt, le, add, fits}
+use lib.Ieee.{Float, inf, binary64, ofBits, ofFields, lt, le, add}
 use Rattle.numbers.specs.Real.{nought, eps}
 use Rattle.numbers.proofs.Bools.{t-of, and-t}
 use Rattle.numbers.proofs.Floats.{power, Low}
@@ -18,13 +17,13 @@ use Rattle.numbers.proofs.Members.{in-reverse, apart-reverse}
 use Rattle.flow_theory.specs.Network.{Net, links, nodes, head, tail, left}
 use Rattle.flow_theory.specs.Levels.{levelOf, levels}
 use Rattle.flow_theory.specs.Augment.{Walked, reached, blocked, Pushed, push, walk, walkFuel, augment}
-use Rattle.flow_theory.specs.Run.{PhaseState, pushCounted, noPush, Phase, FlowRun, opening, phase, afterPhase, atEnd, start, allPushes}
+use Rattle.flow_theory.specs.Run.{PhaseState, pushCounted, noPush, Phase, FlowRun, opening, phase, afterPhase, atEnd, allPushes}
 use Rattle.flow_theory.specs.Claim.{Phases, pushAt, PushTrail, PhasePushes, PhaseTrail, inCut, FlowClaim}
 use Rattle.flow_theory.proofs.Links.{WellFormed, Caps}
 use Rattle.flow_theory.proofs.Levels.{Levels, levels-ok}
 use Rattle.flow_duality.proofs.Wholes.{ulp, ulp-pos, val, Whole, val-ge, val-le, power-whole, power-val, nought-whole, nought-val, eps-whole, eps-val}
-use Rattle.flow_duality.proofs.Cuts.{upto, upto-under, leads, part, outOf}
-use Rattle.flow_duality.proofs.Routes.{Route, Came, walked, route-links, route-apart, route-one-way, route-length, route-chain}
+use Rattle.flow_duality.proofs.Cuts.{upto-under, leads, part, outOf}
+use Rattle.flow_duality.proofs.Routes.{Came, walked, route-links, route-apart, route-one-way, route-length, route-chain}
 use Rattle.flow_duality.proofs.Pushed.{Allowed, Fine, Flowing, Begins, bound, total-low, finite, pushed}
 
 -- ---- tests

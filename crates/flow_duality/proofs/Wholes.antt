@@ -1,12 +1,12 @@
 -- Finite numbers of binary64 as whole numbers of 2^-1074, and the one law of rounding: a sum or a difference below 32 is rounded by at most 2^-49.
 use mathlib.Core.Path.{_≡_, refl, sym, subst, subst⁻¹, ap, _∙_}
-use mathlib.Core.Logic.{_≢_, _⊎_, inl, inr}
-use mathlib.Core.Bool.{Bool, true, false, not, _&&_, _||_, cond, false≢true, true≢false}
+use mathlib.Core.Logic.{_⊎_, inl, inr}
+use mathlib.Core.Bool.{Bool, true, false, not, _&&_, _||_, cond, true≢false}
 use Prim.Native.Nat.{ℕ, zero, suc, _≤_, _<_, _+_, _*_, _-_, _/_, _%_, _^_, compare, Ordering, Ordering·lt, Ordering·eq, Ordering·gt}
 use native.Mathlib.Omega.{arith}
-use native.Mathlib.Nat.{mul-le-mul-right, mul-pos, mul-assoc, mul-comm, mul-right-comm, add-mul, mul-one, zero-mul, mul-div-cancel, le-of-mul-le-mul-right, div-add-mod', mod-lt, lt-of-le-of-lt, lt-of-lt-of-le, le-trans, suc-mul, div-one}
+use native.Mathlib.Nat.{mul-le-mul-right, mul-pos, mul-assoc, mul-one, zero-mul, mul-div-cancel, le-of-mul-le-mul-right, div-add-mod', mod-lt, lt-of-le-of-lt, lt-of-lt-of-le, le-trans, suc-mul, div-one}
 use borrow.Author.Tests.{lt-ltb, le-ltb, ltb-false, eq-eqb}
-use lib.Dec.{T, isLe, isEq, ltb, leb, eqb, leb→le, nleb→lt, eqb→eq, lit<, lit≤}
+use lib.Dec.{T, isLe, isEq, ltb, leb, eqb, leb→le, nleb→lt, eqb→eq, lit≤}
 use lib.IntN.{ℤ, pos, negsuc}
 use lib.Pow.{pow-add, pow-pos, pow-mono, pow-lt}
 use lib.Ieee.{Float, nan, inf, fin, binary64, ofBits, ofFields, lt, le, eq, add, sub, round, size, nearest, up, down, fits}
