@@ -1,23 +1,15 @@
 // How much flow is plenty: so much that the flow test back passes too.
+use flow_duality::ROW_MOST;
 use flow_duality::SPARE;
-use numbers::ONE;
+use flow_duality::is_share;
 ghost use mathlib.Core.Path.{_≡_};
-ghost use mathlib.Core.Bool.{true, _&&_};
+ghost use mathlib.Core.Bool.{true};
 ghost use Prim.Native.Nat.{ℕ, _≤_, _<_};
 ghost use lib.ListN.{length};
-ghost use lib.Ieee.{lt, le};
-ghost use Rattle.numbers.specs.Real.{nought, one};
 ghost use Rattle.epsdelta_theory.proofs.TasksIn.{RowsFit};
 ghost use Rattle.flow_duality.proofs.Plenty.{Formed, Light, LightRow, Plenty, Between};
 
-// A rate above 0 and at most 1.
-fn light_rate(w: f64) -> bool
-    ensures { λ r. ⌜ r ≡ (lt nought w && le w one) ⌝ }
-{
-    0.0 < w && w <= ONE
-}
-
-// True only if the jumps from place a up to b are to states, with such rates.
+// True only if the jumps from place a up to b are to states, with rates above 0 and at most 1.
 fn light(targets: &[u32], probs: &[f64], states: usize, a: usize, b: usize) -> bool
     requires { ⌜ (b ≤ length (now targets)) × (b ≤ length (now probs)) ⌝ }
     ensures { λ r. ⌜ (r ≡ true → (i : ℕ) → a ≤ i → i < b → Light states (now (targets .entry)) (now (probs .entry)) i) ⌝ }
@@ -28,7 +20,7 @@ fn light(targets: &[u32], probs: &[f64], states: usize, a: usize, b: usize) -> b
         if states <= u {
             return false;
         }
-        if !light_rate(probs[i]) {
+        if !is_share(probs[i]) {
             return false;
         }
         i += 1;
@@ -46,7 +38,7 @@ fn light_row(starts: &[u32], targets: &[u32], probs: &[f64], states: usize, s: u
     light(targets, probs, states, a, b)
 }
 
-// 3e-10 more than what is needed, where all rows are such; else no flow is plenty.
+// SPARE more than what is needed, where all rows are such; else no flow is plenty.
 pub(crate) fn plenty_of(
     starts: &[u32],
     targets: &[u32],
@@ -67,13 +59,13 @@ pub(crate) fn plenty_of(
     need + SPARE
 }
 
-// Plenty, where rows a..b and c..d have at most 8 jumps each; else no flow is.
+// Plenty, where rows a..b and c..d have at most ROW_MOST jumps each; else no flow is.
 pub(crate) fn plenty_between(a: usize, b: usize, c: usize, d: usize, plenty: f64) -> f64
     requires { ⌜ (a ≤ b) × (c ≤ d) ⌝ }
     ensures { λ r. ⌜ Between a b c d plenty r ⌝ }
 {
-    if b - a <= 8 {
-        if d - c <= 8 {
+    if b - a <= ROW_MOST {
+        if d - c <= ROW_MOST {
             return plenty;
         }
     }

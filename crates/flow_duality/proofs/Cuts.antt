@@ -10,7 +10,7 @@ use lib.ListN.{length, set, length-set}
 use lib.Seq.{getD-set-same, getD-set-other}
 use lib.Ieee.{Float, nan, binary64, add, sub}
 use Rattle.numbers.specs.Lists.{In}
-use Rattle.numbers.proofs.Bools.{eq-or-ne}
+use Rattle.numbers.proofs.Bools.{eq-or-ne, and-t}
 use Rattle.numbers.proofs.Members.{Apart, apart-ne}
 use Rattle.flow_theory.specs.Network.{rev, Net, links, head, tail, left}
 use Rattle.flow_theory.specs.Augment.{pushLink, pushPath}
@@ -44,10 +44,14 @@ upto-one f g (suc n) k l h = pick (λ m. upto-one f g n k m (λ e i. h e (omega 
         omega arith
     pick r (inr d) = let s = r (omega arith) in let t = h n (omega arith) (λ p. d (sym p)) in omega arith
 
-pub upto-under : (f : ℕ → ℕ) (n b : ℕ) → ((e : ℕ) → e < n → f e ≤ b) → upto f n ≤ n * b
+-- a bound of each two
+pub upto-pairs : (f : ℕ → ℕ) (n b : ℕ) → ((e : ℕ) → e < n → f (e + e) + f (suc (e + e)) ≤ b) → upto f (n + n) ≤ n * b
 unfolding upto
-upto-under f zero b h = omega arith
-upto-under f (suc n) b h = let r = upto-under f n b (λ e l. h e (omega arith)) in let s = h n (omega arith) in omega arith
+upto-pairs f zero b h = omega arith
+upto-pairs f (suc n) b h =
+    let r = upto-pairs f n b (λ e l. h e (omega arith)) in
+    let s = h n (omega arith) in
+    subst⁻¹ (λ (m : ℕ). upto f m ≤ suc n * b) (let z : suc n + suc n ≡ suc (suc (n + n)) = omega arith in z) (omega arith)
 
 -- ---- out of a set
 
@@ -58,6 +62,17 @@ leads N S e = S (tail N e) && not (S (head N e))
 abbrev pub part : Bool → Float → ℕ
 part true x = val x
 part false x = 0
+
+back-leads : (N : Net) (S : ℕ → Bool) (e : ℕ) (a b : Bool) → S (tail N e) ≡ a → S (head N e) ≡ b → leads N S (rev e) ≡ (b && not a)
+back-leads N S e a b p q = ap (λ (y : ℕ). S (head N y) && not (S (tail N e))) (rev-rev e) ∙ ap (λ (y : Bool). y && not (S (tail N e))) q ∙ ap (λ (y : Bool). b && not y) p
+
+-- a link out has its reverse in
+pub one-way : (N : Net) (S : ℕ → Bool) (e : ℕ) → leads N S e ≡ true → leads N S (rev e) ≡ false
+one-way N S e h = let (i, o) = and-t (S (tail N e)) (not (S (head N e))) h in back-leads N S e true (S (head N e)) i refl ∙ and-not (S (head N e))
+  where
+    and-not : (b : Bool) → (b && false) ≡ false
+    and-not true = refl
+    and-not false = refl
 
 -- what the links out of S have left
 unfoldable pub outOf : Net → (ℕ → Bool) → List Float → ℕ
@@ -88,9 +103,6 @@ Ends false o o' X w = (o' ≤ o + w) × (o ≤ o' + w)
 module _ (N : Net) (S : ℕ → Bool) (x : Float) (W : Whole x) where
   abbrev at : List Float → ℕ → ℕ
   at c e = part (leads N S e) (left c e)
-
-  back-leads : (e : ℕ) (a b : Bool) → S (tail N e) ≡ a → S (head N e) ≡ b → leads N S (rev e) ≡ (b && not a)
-  back-leads e a b p q = ap (λ (y : ℕ). S (head N y) && not (S (tail N e))) (rev-rev e) ∙ ap (λ (y : Bool). y && not (S (tail N e))) q ∙ ap (λ (y : Bool). b && not y) p
 
   module _ (c : List Float) (e : ℕ) (in-c : e < length c) (back-c : rev e < length c) (size : length c ≡ links N) (R : Ready N S c x e) where
     abbrev d : List Float
@@ -142,10 +154,10 @@ module _ (N : Net) (S : ℕ → Bool) (x : Float) (W : Whole x) where
 
     -- one link of a path, and the rest of it
     step : (w o : ℕ) (a b : Bool) → S (tail N e) ≡ a → S (head N e) ≡ b → Ends b (outOf N S d) o (val x) w → Ends a (outOf N S c) o (val x) (ulp + w)
-    step w o true true p q h = let r = neither (ap (λ (y : Bool). y && not (S (head N e))) p ∙ ap not q) (back-leads e true true p q) in (omega arith, omega arith)
-    step w o false false p q h = let r = neither (ap (λ (y : Bool). y && not (S (head N e))) p) (back-leads e false false p q) in (omega arith, omega arith)
-    step w o true false p q h = let r = outward (ap (λ (y : Bool). y && not (S (head N e))) p ∙ ap not q) (back-leads e true false p q) in (omega arith, omega arith)
-    step w o false true p q h = let r = inward (ap (λ (y : Bool). y && not (S (head N e))) p) (back-leads e false true p q) in (omega arith, omega arith)
+    step w o true true p q h = let r = neither (ap (λ (y : Bool). y && not (S (head N e))) p ∙ ap not q) (back-leads N S e true true p q) in (omega arith, omega arith)
+    step w o false false p q h = let r = neither (ap (λ (y : Bool). y && not (S (head N e))) p) (back-leads N S e false false p q) in (omega arith, omega arith)
+    step w o true false p q h = let r = outward (ap (λ (y : Bool). y && not (S (head N e))) p ∙ ap not q) (back-leads N S e true false p q) in (omega arith, omega arith)
+    step w o false true p q h = let r = inward (ap (λ (y : Bool). y && not (S (head N e))) p) (back-leads N S e false true p q) in (omega arith, omega arith)
 
 -- ---- along a path
 

@@ -1,4 +1,4 @@
--- A flow that passes with 3e-10 to spare passes turned round: for rows of at most 8 jumps, rates of at most 1 and a symmetric relation.
+-- A flow that passes with `spare` to spare passes turned round: for rows of at most `rowMost` jumps, rates of at most 1 and a symmetric relation.
 -- The network from t to s is the one from s to t turned round, so each cut of the one, its nodes mirrored and the other side taken, is a cut of the other with the same capacity.
 use mathlib.Core.Path.{_≡_, refl, sym, subst, subst⁻¹, ap, _∙_}
 use mathlib.Core.Logic.{_⊎_, inl, inr}
@@ -31,13 +31,13 @@ use Rattle.epsdelta_theory.specs.Relation.{holds}
 use Rattle.epsdelta_theory.specs.FlowTest.{linksOf, heads, caps, networkBetween, runBetween}
 use Rattle.epsdelta_theory.proofs.FlowTests.{heads-length, between-accepted, between-claimed}
 use Rattle.epsdelta_theory.proofs.RowReads.{noJump}
-use Rattle.flow_duality.specs.Spare.{spare}
+use Rattle.flow_duality.specs.Spare.{rowMost, spare}
 use Rattle.flow_duality.proofs.Wholes.{ulp, ulp-pos, val, Whole, add-near, val-is, val-ge, val-le, le-val, plain-above, spare-whole, spare-val}
 use Rattle.flow_duality.proofs.Cuts.{outOf}
-use Rattle.flow_duality.proofs.Pushed.{Allowed, alone, Begins}
+use Rattle.flow_duality.proofs.Pushed.{nodesMost, Allowed, alone, Begins}
 use Rattle.flow_duality.proofs.Starts.{rowOf, rowOf-same, Unparted}
 use Rattle.flow_duality.proofs.Networks.{Shares, in-range, out-is, unparted-of, allowed-of, links-few, begins}
-use Rattle.flow_duality.proofs.Trails.{ran, below-cut, own-cut, at-own-cut}
+use Rattle.flow_duality.proofs.Trails.{slip, leftover, ran, below-cut, own-cut, at-own-cut}
 
 -- ---- the network turned round
 
@@ -80,7 +80,7 @@ other-side p s false r a b c = rw (a, b, c)
 abbrev pub Mutual : ℕ → List Bool → List Jump → List Jump → Type 0
 Mutual n R ps pt = (j k : Jump) → In j ps → In k pt → holds n R (j .target) (k .target) ≡ holds n R (k .target) (j .target)
 
-module _ (n : ℕ) (R : List Bool) (ps pt : List Jump) (hs : Shares ps) (ht : Shares pt) (few : length ps ≤ 8) (few' : length pt ≤ 8) (both : Mutual n R ps pt) where
+module _ (n : ℕ) (R : List Bool) (ps pt : List Jump) (hs : Shares ps) (ht : Shares pt) (few : length ps ≤ rowMost) (few' : length pt ≤ rowMost) (both : Mutual n R ps pt) where
   -- ---- a cut of the network back as one of the network forth
 
   module _ (S : ℕ → Bool) (A : Allowed (networkBetween n R pt ps) (caps (linksOf n R pt ps)) S) where
@@ -131,7 +131,7 @@ module _ (n : ℕ) (R : List Bool) (ps pt : List Jump) (hs : Shares ps) (ht : Sh
 
 -- ---- one test as a run of the theory
 
-module _ (n : ℕ) (R : List Bool) (ps pt : List Jump) (hs : Shares ps) (ht : Shares pt) (few : length ps ≤ 8) (few' : length pt ≤ 8) where
+module _ (n : ℕ) (R : List Bool) (ps pt : List Jump) (hs : Shares ps) (ht : Shares pt) (few : length ps ≤ rowMost) (few' : length pt ≤ rowMost) where
   abbrev net : Net
   net = networkBetween n R ps pt
 
@@ -144,7 +144,7 @@ module _ (n : ℕ) (R : List Bool) (ps pt : List Jump) (hs : Shares ps) (ht : Sh
   claim : FlowClaim net (caps (linksOf n R ps pt)) (length (linksOf n R ps pt)) (runBetween n R ps pt)
   claim = between-claimed n R ps pt (in-range ps hs) (in-range pt ht) (omega arith) (omega arith)
 
-  nodes-few : nodes net ≤ 18
+  nodes-few : nodes net ≤ nodesMost
   nodes-few = let h = nodeLists-length (heads (linksOf n R ps pt)) (length ps + length pt + 2) (length (heads (linksOf n R ps pt))) in omega arith
 
   start : Begins net (caps (linksOf n R ps pt))
@@ -153,7 +153,7 @@ module _ (n : ℕ) (R : List Bool) (ps pt : List Jump) (hs : Shares ps) (ht : Sh
   total-whole : Whole ((runBetween n R ps pt) .total)
   total-whole = ran net good nodes-few (caps (linksOf n R ps pt)) start (length (linksOf n R ps pt)) (links-few n R ps pt hs ht few few') (runBetween n R ps pt) claim .total
 
-  below : (S : ℕ → Bool) → Allowed net (caps (linksOf n R ps pt)) S → val ((runBetween n R ps pt) .total) ≤ outOf net S (caps (linksOf n R ps pt)) + 24480 * ulp
+  below : (S : ℕ → Bool) → Allowed net (caps (linksOf n R ps pt)) S → val ((runBetween n R ps pt) .total) ≤ outOf net S (caps (linksOf n R ps pt)) + slip * ulp
   below = below-cut net good nodes-few (caps (linksOf n R ps pt)) start (length (linksOf n R ps pt)) (links-few n R ps pt hs ht few few') (runBetween n R ps pt) claim
 
   total-few : val ((runBetween n R ps pt) .total) < 2 ^ 53 * ulp
@@ -162,7 +162,7 @@ module _ (n : ℕ) (R : List Bool) (ps pt : List Jump) (hs : Shares ps) (ht : Sh
   own : Allowed net (caps (linksOf n R ps pt)) (inCut (runBetween n R ps pt))
   own = own-cut net good nodes-few (caps (linksOf n R ps pt)) start (length (linksOf n R ps pt)) (links-few n R ps pt hs ht few few') (runBetween n R ps pt) claim
 
-  over : outOf net (inCut (runBetween n R ps pt)) (caps (linksOf n R ps pt)) ≤ val ((runBetween n R ps pt) .total) + 114560 * ulp
+  over : outOf net (inCut (runBetween n R ps pt)) (caps (linksOf n R ps pt)) ≤ val ((runBetween n R ps pt) .total) + (slip + leftover) * ulp
   over =
       at-own-cut net good nodes-few (caps (linksOf n R ps pt)) start (length (linksOf n R ps pt)) (links-few n R ps pt hs ht few few') (runBetween n R ps pt) claim
       (let h = heads-length (linksOf n R ps pt) in let l = links-few n R ps pt hs ht few few' in omega arith)
@@ -245,8 +245,12 @@ no-nan : (x : Float) → le (add binary64 nan spare) x ≡ true → ⊥
 unfolding le lt eq add
 no-nan x h = false≢true h
 
--- from a flow that is spare above, to one that is at most 139040 units less
-spared : (need x y : Float) → T (fits binary64 need) → Whole x → Whole y → val x < 2 ^ 53 * ulp → val x ≤ val y + 139040 * ulp → le (add binary64 need spare) x ≡ true → le need y ≡ true
+-- how much less the flow back can be, in 2^-49
+abbrev gapMost : ℕ
+gapMost = slip + slip + leftover
+
+-- from a flow that is spare above, to one that is at most so much less
+spared : (need x y : Float) → T (fits binary64 need) → Whole x → Whole y → val x < 2 ^ 53 * ulp → val x ≤ val y + gapMost * ulp → le (add binary64 need spare) x ≡ true → le need y ≡ true
 spared nan x y f w v l g h = absurd (no-nan x h)
 spared (inf true) x y f w v l g h = low-inf y v
 spared (inf false) x y f w v l g h = absurd (high-inf x w h)
@@ -264,9 +268,9 @@ spared (fin false m e) x y f w v l g h = pick (lt-or-ge (val (fin false m e)) (2
 
 -- ---- the law
 
-module _ (n : ℕ) (R : List Bool) (ps pt : List Jump) (hs : Shares ps) (ht : Shares pt) (few : length ps ≤ 8) (few' : length pt ≤ 8) (both : Mutual n R ps pt) where
-  -- the flow forth is at most 139040 units above the flow back
-  gap : val ((runBetween n R ps pt) .total) ≤ val ((runBetween n R pt ps) .total) + 139040 * ulp
+module _ (n : ℕ) (R : List Bool) (ps pt : List Jump) (hs : Shares ps) (ht : Shares pt) (few : length ps ≤ rowMost) (few' : length pt ≤ rowMost) (both : Mutual n R ps pt) where
+  -- the flow forth is at most so much above the flow back
+  gap : val ((runBetween n R ps pt) .total) ≤ val ((runBetween n R pt ps) .total) + gapMost * ulp
   gap =
       let A = own n R pt ps ht hs few' few in
       let S = inCut (runBetween n R pt ps) in
@@ -275,13 +279,12 @@ module _ (n : ℕ) (R : List Bool) (ps pt : List Jump) (hs : Shares ps) (ht : Sh
       let r = over n R pt ps ht hs few' few in
       omega arith
 
-  -- what passes with 3e-10 to spare passes
-  pub passes-forth : (need : Float) → T (fits binary64 need) → le (add binary64 need spare) ((runBetween n R ps pt) .total) ≡ true → le need ((runBetween n R ps pt) .total) ≡ true
-  passes-forth need f h =
+  -- what passes with that to spare passes, and passes back
+  pub passes-both : (need : Float) → T (fits binary64 need) → le (add binary64 need spare) ((runBetween n R ps pt) .total) ≡ true
+      → (le need ((runBetween n R ps pt) .total) ≡ true) × (le need ((runBetween n R pt ps) .total) ≡ true)
+  passes-both need f h =
+      let x = (runBetween n R ps pt) .total in
+      let y = (runBetween n R pt ps) .total in
       let w = total-whole n R ps pt hs ht few few' in
-      spared need ((runBetween n R ps pt) .total) ((runBetween n R ps pt) .total) f w w (total-few n R ps pt hs ht few few') (omega arith) h
-
-  -- and it passes back
-  pub passes-back : (need : Float) → T (fits binary64 need) → le (add binary64 need spare) ((runBetween n R ps pt) .total) ≡ true → le need ((runBetween n R pt ps) .total) ≡ true
-  passes-back need f h =
-      spared need ((runBetween n R ps pt) .total) ((runBetween n R pt ps) .total) f (total-whole n R ps pt hs ht few few') (total-whole n R pt ps ht hs few' few) (total-few n R ps pt hs ht few few') gap h
+      let l = total-few n R ps pt hs ht few few' in
+      (spared need x x f w w l (omega arith) h, spared need x y f w (total-whole n R pt ps ht hs few' few) l gap h)

@@ -7,5 +7,4 @@ pub mod Trails
 pub mod Starts
 pub mod Networks
 pub mod Duality
-pub mod Testing
 pub mod Plenty

@@ -1,29 +1,31 @@
 -- The network of a flow test as a run begins on it: capacities of 1 at most, and for a set of nodes what its links have and whether no infinite one leads out.
 use mathlib.Core.Path.{_≡_, refl, ap, _∙_}
 use mathlib.Core.Logic.{_≢_, _⊎_, inl, inr}
-use mathlib.Core.Bool.{Bool, true, false, not, _&&_}
+use mathlib.Core.Bool.{Bool, true, false, not, _&&_, false≢true}
 use Prim.Native.Nat.{ℕ, zero, suc, _≤_, _<_, _+_, _*_, _^_}
 use mathlib.Core.List.{List, [], _∷_, _++_}
 use native.Mathlib.Omega.{arith}
 use native.Mathlib.Nat.{not-suc-le-zero, mul-le-mul-right}
 use borrow.Author.Tests.{eq-eqb, ne-eqb, eqb-true}
+use lib.Dec.{T}
 use lib.ListN.{length, getD, length-append}
-use lib.Ieee.{Float, nan, inf, fin, le}
+use lib.Ieee.{Float, nan, inf, fin, binary64, ofBits, ofFields, lt, le, eq, fits}
 use Rattle.numbers.specs.Real.{nought, one}
 use Rattle.numbers.proofs.Bools.{and-t, t-of}
-use Rattle.numbers.proofs.Floats.{power}
+use Rattle.numbers.proofs.Floats.{power, Plain}
 use Rattle.numbers.proofs.Comparisons.{fin-inf}
 use Rattle.flow_theory.specs.Network.{Net, links, head, tail, left}
 use Rattle.epsdelta_theory.specs.Jumps.{Jump}
 use Rattle.epsdelta_theory.specs.Relation.{holds}
 use Rattle.epsdelta_theory.specs.FlowTest.{Link, sourceLinks, sinkLinks, linkIf, crossLinks, allCrossLinks, linksOf, heads, caps, networkBetween}
 use Rattle.epsdelta_theory.proofs.FlowTests.{AllInRange, caps-length, between-accepted}
+use Rattle.flow_duality.specs.Spare.{rowMost, isShare}
 use Rattle.flow_duality.proofs.Wholes.{ulp, ulp-pos, val, Whole, val-le, le-val, power-whole, power-val, nought-whole, nought-val, one-whole, one-val}
 use Rattle.flow_duality.proofs.Cuts.{part, outOf}
-use Rattle.flow_duality.proofs.Pushed.{Allowed, alone, Begins}
+use Rattle.flow_duality.proofs.Pushed.{addedMost, Allowed, alone, Begins}
 use Rattle.flow_duality.proofs.Starts.{inf-nought, through-is, through-append, rowOf, rowOf-same, through-source, through-sink, through-all, Sealed, sealed-append, sealed-right, sealed-finite, finite-sealed, Unparted, all-sealed, sealed-all}
 
--- ---- divided rates
+-- ---- rates
 
 -- a number of the format from 0 to 1
 abbrev pub Share : Float → Type 0
@@ -32,6 +34,17 @@ Share x = Whole x × (le x one ≡ true)
 abbrev pub Shares : List Jump → Type 0
 Shares [] = Unit {0}
 Shares (j ∷ js) = Share (j .rate) × Shares js
+
+above-plain : (x : Float) → lt nought x ≡ true → le x one ≡ true → Plain x
+unfolding lt le eq ofBits ofFields
+above-plain nan h k = false≢true h
+above-plain (inf true) h k = false≢true h
+above-plain (inf false) h k = false≢true k
+above-plain (fin true m e) h k = false≢true h
+above-plain (fin false m e) h k = tt
+
+pub share-of : (x : Float) → T (fits binary64 x) → isShare x ≡ true → Share x
+share-of x f h = let (a, b) = and-t (lt nought x) (le x one) h in ((above-plain x a b, f), b)
 
 share-low : (x : Float) → Share x → val x ≤ 2 ^ 49 * ulp
 share-low x (w, h) = let l = le-val x one w one-whole h in let o = one-val in omega arith
@@ -118,7 +131,7 @@ cross-length n R u i k (t ∷ ts) =
     let a = if-length (holds n R u (t .target)) i k (crossLinks n R u i (suc k) ts) in
     omega arith
 
-all-cross-length : (n : ℕ) (R : List Bool) (i k : ℕ) (js ts : List Jump) → length ts ≤ 8 → length (allCrossLinks n R i k js ts) ≤ 8 * length js
+all-cross-length : (n : ℕ) (R : List Bool) (i k : ℕ) (js ts : List Jump) → length ts ≤ rowMost → length (allCrossLinks n R i k js ts) ≤ rowMost * length js
 unfolding allCrossLinks
 all-cross-length n R i k [] ts h = omega arith
 all-cross-length n R i k (j ∷ js) ts h =
@@ -199,8 +212,8 @@ module _ (n : ℕ) (R : List Bool) (ps pt : List Jump) where
           (sealed-append S (sinkLinks (suc src) a pt) (allCrossLinks n R 0 a ps pt) (sealed-sink a pt ht) (all-sealed S n R 0 a ps pt h)));
     }
 
-  module _ (hs : Shares ps) (ht : Shares pt) (few : length ps ≤ 8) (few' : length pt ≤ 8) where
-    pub links-few : length (linksOf n R ps pt) ≤ 80
+  module _ (hs : Shares ps) (ht : Shares pt) (few : length ps ≤ rowMost) (few' : length pt ≤ rowMost) where
+    pub links-few : length (linksOf n R ps pt) ≤ addedMost
     unfolding linksOf
     links-few =
         let s = all-cross-length n R 0 a ps pt few' in
@@ -221,11 +234,11 @@ module _ (n : ℕ) (R : List Bool) (ps pt : List Jump) where
       finite = λ e l h. first e l (eqb-true (tail N e) src (and-t (alone N (tail N e)) (not (alone N (head N e))) h .0));
     }
 
-    most : outOf N (alone N) c₀ ≤ 8 * (2 ^ 49 * ulp)
+    most : outOf N (alone N) c₀ ≤ rowMost * (2 ^ 49 * ulp)
     most =
         let o = out-is (alone N) in
         let u = row-under (λ (v : ℕ). alone N src && not (alone N v)) 0 ps hs in
-        let m : length ps * (2 ^ 49 * ulp) ≤ 8 * (2 ^ 49 * ulp) = mul-le-mul-right (2 ^ 49 * ulp) few in
+        let m : length ps * (2 ^ 49 * ulp) ≤ rowMost * (2 ^ 49 * ulp) = mul-le-mul-right (2 ^ 49 * ulp) few in
         let z : rowOf (λ (v : ℕ). alone N v && not (alone N (suc src))) a pt ≡ 0 = rowOf-same (λ (v : ℕ). alone N v && not (alone N (suc src))) (λ (v : ℕ). false) a a pt (λ k l. none k l) ∙ row-none a pt in
         omega arith
       where

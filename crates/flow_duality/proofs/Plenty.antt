@@ -1,35 +1,32 @@
 -- Words of private contracts: how much is plenty, so that the flow test back passes too, and a relation that stays symmetric from the marks on.
-use mathlib.Core.Path.{_≡_, refl, sym, ap, subst, subst⁻¹, _∙_}
+use mathlib.Core.Path.{_≡_, sym, ap, subst, subst⁻¹, _∙_}
 use Prim.Native.Nat.{ℕ, suc, _≤_, _<_, _+_, _*_}
 use mathlib.Core.Bool.{Bool, true, false, false≢true}
 use mathlib.Core.Logic.{_⊎_, inl, inr}
 use mathlib.Core.List.{List, [], _∷_}
 use native.Mathlib.Omega.{arith}
 use lib.Dec.{T}
-use lib.Ieee.{Float, nan, inf, fin, binary64, ofBits, ofFields, lt, le, eq, add, fits}
+use lib.Ieee.{Float, nan, binary64, lt, le, eq, add, fits}
 use lib.ListN.{length, getD, take}
 use lib.Seq.{slice, length-slice, getD-take, getD-drop}
-use Rattle.numbers.specs.Real.{nought, one}
 use Rattle.numbers.specs.Lists.{In}
 use Rattle.numbers.specs.Bits.{packed, bitAt, cleared}
-use Rattle.numbers.proofs.Floats.{Plain}
 use Rattle.epsdelta_theory.specs.Jumps.{Jump, jumpsOf}
 use Rattle.epsdelta_theory.specs.Relation.{holds, clear}
 use Rattle.epsdelta_theory.specs.Claim.{Symmetric}
 use Rattle.epsdelta_theory.proofs.Pairs.{packed-holds, packed-cleared, clear-there, clear-back, clear-other, pair-cases}
 use Rattle.epsdelta_theory.proofs.RowReads.{jumps-length}
 use Rattle.epsdelta_theory.proofs.TasksIn.{rowIn, RowsFit, testIn}
-use Rattle.epsdelta_theory.proofs.Unchanged.{Noted, noted-strike, noted-row, noted-again, noted-start}
-use Rattle.flow_duality.specs.Spare.{spare}
-use Rattle.flow_duality.proofs.Wholes.{Whole}
-use Rattle.flow_duality.proofs.Networks.{Share, Shares}
-use Rattle.flow_duality.proofs.Duality.{Mutual, passes-back, passes-forth}
+use Rattle.epsdelta_theory.proofs.Unchanged.{Noted, noted-row, noted-again}
+use Rattle.flow_duality.specs.Spare.{rowMost, isShare, spare}
+use Rattle.flow_duality.proofs.Networks.{Share, Shares, share-of}
+use Rattle.flow_duality.proofs.Duality.{Mutual, passes-both}
 
 -- ---- plenty
 
--- a flow that is plenty, between rows of at most 8 jumps against a symmetric relation, is enough, and so is the one back
+-- a flow that is plenty, between rows of at most `rowMost` jumps against a symmetric relation, is enough, and so is the one back
 abbrev pub Plenty : ℕ → List ℕ → List ℕ → List Float → Float → Float → Type 0
-Plenty n S T P need plenty = (R : List Bool) → Symmetric n R → (s t : ℕ) → s < n → t < n → getD S (s + 1) 0 ≤ getD S s 0 + 8 → getD S (t + 1) 0 ≤ getD S t 0 + 8 → testIn n S T P plenty R s t ≡ true → (testIn n S T P need R s t ≡ true) × (testIn n S T P need R t s ≡ true)
+Plenty n S T P need plenty = (R : List Bool) → Symmetric n R → (s t : ℕ) → s < n → t < n → getD S (s + 1) 0 ≤ getD S s 0 + rowMost → getD S (t + 1) 0 ≤ getD S t 0 + rowMost → testIn n S T P plenty R s t ≡ true → (testIn n S T P need R s t ≡ true) × (testIn n S T P need R t s ≡ true)
 
 -- a number of the format
 abbrev pub Formed : Float → Type 0
@@ -37,19 +34,11 @@ Formed x = T (fits binary64 x)
 
 -- a jump to a state, with a rate above 0 and at most 1
 abbrev pub Light : ℕ → List ℕ → List Float → ℕ → Type 0
-Light n T P i = (getD T i 0 < n) × Formed (getD P i nan) × (lt nought (getD P i nan) ≡ true) × (le (getD P i nan) one ≡ true)
+Light n T P i = (getD T i 0 < n) × Formed (getD P i nan) × (isShare (getD P i nan) ≡ true)
 
 -- all jumps of s are such
 abbrev pub LightRow : ℕ → List ℕ → List ℕ → List Float → ℕ → Type 0
 LightRow n S T P s = (i : ℕ) → getD S s 0 ≤ i → i < getD S (s + 1) 0 → Light n T P i
-
-above-plain : (x : Float) → lt nought x ≡ true → le x one ≡ true → Plain x
-unfolding lt le eq ofBits ofFields
-above-plain nan h k = false≢true h
-above-plain (inf false) h k = false≢true k
-above-plain (inf true) h k = false≢true h
-above-plain (fin false m e) h k = tt
-above-plain (fin true m e) h k = false≢true h
 
 shares-of : (us : List ℕ) (vs : List Float) → ((i : ℕ) → i < length vs → Share (getD vs i nan)) → Shares (jumpsOf us vs)
 unfolding jumpsOf
@@ -79,10 +68,10 @@ module _ {n : ℕ} {S T : List ℕ} {P : List Float} (F : RowsFit n S T P) where
       where
         share : (i : ℕ) → getD S s 0 + i < getD S (s + 1) 0 → Share (getD (slice (getD S s 0) (getD S (s + 1) 0) P) i nan)
         share i l =
-            let (_, f, p, q) = L (getD S s 0 + i) (omega arith) l in
-            subst⁻¹ Share (part-at (getD S s 0) (getD S (s + 1) 0) P nan i l) ((above-plain (getD P (getD S s 0 + i) nan) p q, f), q)
+            let (_, f, p) = L (getD S s 0 + i) (omega arith) l in
+            subst⁻¹ Share (part-at (getD S s 0) (getD S (s + 1) 0) P nan i l) (share-of (getD P (getD S s 0 + i) nan) f p)
 
-    row-few : getD S (s + 1) 0 ≤ getD S s 0 + 8 → length (rowIn S T P s) ≤ 8
+    row-few : getD S (s + 1) 0 ≤ getD S s 0 + rowMost → length (rowIn S T P s) ≤ rowMost
     row-few f =
         let a = getD S s 0 in
         let b = getD S (s + 1) 0 in
@@ -102,13 +91,11 @@ module _ {n : ℕ} {S T : List ℕ} {P : List Float} (F : RowsFit n S T P) where
         target : (i : ℕ) → getD S s 0 + i < getD S (s + 1) 0 → getD (slice (getD S s 0) (getD S (s + 1) 0) T) i 0 < n
         target i l = subst⁻¹ (λ (u : ℕ). u < n) (part-at (getD S s 0) (getD S (s + 1) 0) T 0 i l) (L (getD S s 0 + i) (omega arith) l .0)
 
-  -- 3e-10 more than what is needed is plenty
+  -- `spare` more than what is needed is plenty
   pub plenty-of : (need : Float) → Formed need → ((s : ℕ) → s < n → LightRow n S T P s) → Plenty n S T P need (add binary64 need spare)
   plenty-of need f L R sym-R s t hs ht fs ft p =
-      let m : Mutual n R (rowIn S T P s) (rowIn S T P t) = λ j k x y. sym-R (j .target) (k .target) (row-targets s hs (L s hs) j x) (row-targets t ht (L t ht) k y) in (
-        passes-forth n R (rowIn S T P s) (rowIn S T P t) (row-shares s hs (L s hs)) (row-shares t ht (L t ht)) (row-few s hs (L s hs) fs) (row-few t ht (L t ht) ft) m need f p,
-        passes-back n R (rowIn S T P s) (rowIn S T P t) (row-shares s hs (L s hs)) (row-shares t ht (L t ht)) (row-few s hs (L s hs) fs) (row-few t ht (L t ht) ft) m need f p,
-      )
+      let m : Mutual n R (rowIn S T P s) (rowIn S T P t) = λ j k x y. sym-R (j .target) (k .target) (row-targets s hs (L s hs) j x) (row-targets t ht (L t ht) k y) in
+      passes-both n R (rowIn S T P s) (rowIn S T P t) (row-shares s hs (L s hs)) (row-shares t ht (L t ht)) (row-few s hs (L s hs) fs) (row-few t ht (L t ht) ft) m need f p
 
 -- no flow is a number that is none
 pub none-above : (x : Float) → le nan x ≡ true → ⊥
@@ -120,9 +107,9 @@ pub plenty-none : (n : ℕ) (S T : List ℕ) (P : List Float) (need : Float) →
 unfolding le lt eq
 plenty-none n S T P need R m s t hs ht fs ft p = absurd (false≢true p)
 
--- what is plenty between rows a..b and c..d: where both have at most 8 jumps
+-- what is plenty between rows a..b and c..d: where both have at most `rowMost` jumps
 abbrev pub Between : ℕ → ℕ → ℕ → ℕ → Float → Float → Type 0
-Between a b c d plenty here = (x : Float) → le here x ≡ true → (b ≤ a + 8) × (d ≤ c + 8) × (le plenty x ≡ true)
+Between a b c d plenty here = (x : Float) → le here x ≡ true → (b ≤ a + rowMost) × (d ≤ c + rowMost) × (le plenty x ≡ true)
 
 -- ---- a relation that stays symmetric
 

@@ -19,9 +19,22 @@ use Rattle.flow_theory.specs.Network.{rev, Net, links, tail, left, residual}
 use Rattle.flow_theory.specs.Augment.{least, pushPath}
 use Rattle.flow_theory.proofs.Links.{rev-rev, rev-in, WellFormed}
 use Rattle.flow_theory.proofs.Pushes.{residual-lt, pushPath-length, pushPath-hit, pushPath-other}
+use Rattle.flow_duality.specs.Spare.{rowMost}
 use Rattle.flow_duality.proofs.Wholes.{ulp, ulp-pos, val, Whole, Near, add-near, sub-near}
 use Rattle.flow_duality.proofs.Cuts.{leads, outOf, Ready, Ends, Chain, path-out}
 use Rattle.flow_duality.proofs.Least.{Capacity, Within, least-of, pushPath-back, sub-inf, add-inf}
+
+-- ---- how much there can be
+
+abbrev pub nodesMost : ℕ
+nodesMost = 2 * rowMost + 2
+
+abbrev pub addedMost : ℕ
+addedMost = rowMost * rowMost + 2 * rowMost
+
+-- as many phases as nodes but one, and as many pushes in each as links were added
+abbrev pub pushesMost : ℕ
+pushesMost = (2 * rowMost + 1) * addedMost
 
 -- ---- what a push leaves of a link
 
@@ -67,19 +80,19 @@ pub record Flowing (N : Net) (c₀ : List Float) (n : ℕ) (t : Float) (c : List
   pub size : length c ≡ links N
   pub total : Whole t
   pub fine : (e : ℕ) → e < links N → Fine c₀ n t c e
-  pub balance : (S : ℕ → Bool) → Allowed N c₀ S → (val t + outOf N S c ≤ outOf N S c₀ + 18 * (n * ulp)) × (outOf N S c₀ ≤ val t + outOf N S c + 18 * (n * ulp))
+  pub balance : (S : ℕ → Bool) → Allowed N c₀ S → (val t + outOf N S c ≤ outOf N S c₀ + nodesMost * (n * ulp)) × (outOf N S c₀ ≤ val t + outOf N S c + nodesMost * (n * ulp))
 
 -- the source alone
 abbrev pub alone : Net → ℕ → Bool
 alone N v = eqb v (N .source)
 
--- what a run starts from: each link is infinite or has 1 at most; the source's links are finite, and have 8 at most
+-- what a run starts from: each link is infinite or has 1 at most; the source's links are finite, and have one for each jump of a row at most
 pub record Begins (N : Net) (c₀ : List Float) : Type 0 where
   pub size : length c₀ ≡ links N
   pub each : (e : ℕ) → e < links N → (left c₀ e ≡ inf false) ⊎ ((left c₀ e ≢ inf false) × Whole (left c₀ e) × (val (left c₀ e) ≤ 2 ^ 49 * ulp))
   pub first : (e : ℕ) → e < links N → tail N e ≡ N .source → left c₀ e ≢ inf false
   pub source : Allowed N c₀ (alone N)
-  pub most : outOf N (alone N) c₀ ≤ 8 * (2 ^ 49 * ulp)
+  pub most : outOf N (alone N) c₀ ≤ rowMost * (2 ^ 49 * ulp)
 
 within-whole : (x y : Float) → Within x y → Whole y → val x ≤ val y
 within-whole x nan h (p, f) = absurd p
@@ -88,11 +101,11 @@ within-whole x (fin true m e) h (p, f) = absurd p
 within-whole x (fin false m e) (inr (w, l)) v = l
 within-whole x (fin false m e) (inl q) v = absurd (fin-inf false m e q)
 
-module _ (N : Net) (G : WellFormed N) (c₀ : List Float) (B : Begins N c₀) (n : ℕ) (few : n < 1361) (t : Float) (c : List Float) (F : Flowing N c₀ n t c) where
-  pub bound : n * ulp ≤ 1361 * ulp
-  bound = mul-le-mul-right ulp (let h : n ≤ 1361 = omega arith in h)
+module _ (N : Net) (G : WellFormed N) (c₀ : List Float) (B : Begins N c₀) (n : ℕ) (few : n ≤ pushesMost) (t : Float) (c : List Float) (F : Flowing N c₀ n t c) where
+  pub bound : n * ulp ≤ pushesMost * ulp
+  bound = mul-le-mul-right ulp few
 
-  pub total-low : val t ≤ 8 * (2 ^ 49 * ulp) + 18 * (n * ulp)
+  pub total-low : val t ≤ rowMost * (2 ^ 49 * ulp) + nodesMost * (n * ulp)
   total-low = let h = F .balance (alone N) (B .source) .0 in let m = B .most in omega arith
 
   capacity : (e : ℕ) → e < links N → Capacity (left c e)
@@ -114,7 +127,7 @@ module _ (N : Net) (G : WellFormed N) (c₀ : List Float) (B : Begins N c₀) (n
   back-in e l = rw (G .pairs) (rev-in e (G .added) (rw (← G .pairs) l))
 
   module _ (ps : List ℕ) (x : Float) (W : Whole x) (low : val x ≤ 2 ^ 49 * ulp + val t + 2 * (n * ulp)) (within : (y : ℕ) → In y ps → Within x (left c y))
-      (chain : Chain N (N .source) ps (N .sink)) (A : Apart ps) (R : (a : ℕ) → In a ps → (e : ℕ) → In e ps → a ≢ rev e) (known : (y : ℕ) → In y ps → y < links N) (short : length ps ≤ 17) where
+      (chain : Chain N (N .source) ps (N .sink)) (A : Apart ps) (R : (a : ℕ) → In a ps → (e : ℕ) → In e ps → a ≢ rev e) (known : (y : ℕ) → In y ps → y < links N) (short : length ps < nodesMost) where
     abbrev t' : Float
     t' = add binary64 t x
 
@@ -130,14 +143,14 @@ module _ (N : Net) (G : WellFormed N) (c₀ : List Float) (B : Begins N c₀) (n
     }
 
     balanced : (S : ℕ → Bool) → Allowed N c₀ S
-        → (val t' + outOf N S (pushPath x ps c) ≤ outOf N S c₀ + 18 * (suc n * ulp)) × (outOf N S c₀ ≤ val t' + outOf N S (pushPath x ps c) + 18 * (suc n * ulp))
+        → (val t' + outOf N S (pushPath x ps c) ≤ outOf N S c₀ + nodesMost * (suc n * ulp)) × (outOf N S c₀ ≤ val t' + outOf N S (pushPath x ps c) + nodesMost * (suc n * ulp))
     balanced S a =
         let p : Ends (S (N .source)) (outOf N S c) (outOf N S (pushPath x ps c)) (val x) (length ps * ulp)
         = path-out N S x W ps (N .source) (N .sink) c (F .size) (a .sink-out) chain A R (λ y i. (known y i, back-in y (known y i), ready S a y i)) in
         let (d, e) = subst (λ (b : Bool). Ends b (outOf N S c) (outOf N S (pushPath x ps c)) (val x) (length ps * ulp)) (a .source-in) p in
         let (f, g) = F .balance S a in
         let (w, u, v) = more in
-        let l : length ps * ulp ≤ 17 * ulp = mul-le-mul-right ulp short in
+        let l : suc (length ps) * ulp ≤ nodesMost * ulp = mul-le-mul-right ulp short in
         let s : suc n * ulp ≡ n * ulp + ulp = suc-mul n ulp in
         (omega arith, omega arith)
 
@@ -175,7 +188,7 @@ module _ (N : Net) (G : WellFormed N) (c₀ : List Float) (B : Begins N c₀) (n
 
   -- one push along a path from the source to the sink
   pub pushed : (ps : List ℕ) → Chain N (N .source) ps (N .sink) → Apart ps → ((a : ℕ) → In a ps → (e : ℕ) → In e ps → a ≢ rev e)
-      → ((y : ℕ) → In y ps → (y < links N) × (residual c y ≡ true)) → length ps ≤ 17
+      → ((y : ℕ) → In y ps → (y < links N) × (residual c y ≡ true)) → length ps < nodesMost
       → Flowing N c₀ (suc n) (add binary64 t (least c (inf false) ps)) (pushPath (least c (inf false) ps) ps c) × (lt eps (least c (inf false) ps) ≡ true)
   pushed [] chain A R known short = absurd (G .ends chain)
   pushed (e ∷ es) chain A R known short =

@@ -279,6 +279,6 @@ pub spare-whole : Whole spare
 unfolding fits ofBits ofFields
 spare-whole = (tt, tt)
 
-pub spare-val : (168884 * ulp ≤ val spare) × (val spare ≤ 168885 * ulp)
+pub spare-val : (517913 * ulp ≤ val spare) × (val spare ≤ 517914 * ulp)
 unfolding val ulp ofBits ofFields
 spare-val = (lit≤ tt, lit≤ tt)

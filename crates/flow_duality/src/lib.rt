@@ -1,13 +1,15 @@
-// Whether a flow passes with enough to spare that the flow of the network turned round passes too: theory (proofs/) of the flow test.
+// When the flow of a pair's test forth says that the one back passes too: theory (proofs/), and its limits.
+use numbers::ONE;
 ghost use mathlib.Core.Path.{_≡_};
-ghost use lib.Ieee.{binary64, le, add};
-ghost use Rattle.flow_duality.specs.Spare.{spare};
+ghost use Rattle.flow_duality.specs.Spare.{isShare};
 
-pub const SPARE: f64 = 3e-10; // spare
+pub const ROW_MOST: usize = 14; // rowMost
 
-// Whether a flow is at least what is needed and 3e-10 more.
-pub fn to_spare(need: f64, flow: f64) -> bool
-    ensures { λ r. ⌜ r ≡ le (add binary64 need spare) flow ⌝ }
+pub const SPARE: f64 = 9.2e-10; // spare
+
+// Whether a rate is above 0 and at most 1.
+pub fn is_share(rate: f64) -> bool
+    ensures { λ r. ⌜ r ≡ isShare rate ⌝ }
 {
-    need + SPARE <= flow
+    0.0 < rate && rate <= ONE
 }

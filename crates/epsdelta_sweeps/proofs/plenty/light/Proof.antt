@@ -3,11 +3,7 @@ use mathlib.Core.Path.{sym, _∙_}
 use mathlib.Core.Bool.{false≢true}
 use Prim.Native.Nat.{ℕ, _-_, _≤_, _<_}
 use native.Mathlib.Omega.{arith}
-use lib.Ieee.{nan, lt, le}
-use lib.ListN.{getD}
 use borrow.Author.Tests.{not-false}
-use Rattle.numbers.specs.Real.{nought, one}
-use Rattle.numbers.proofs.Bools.{and-t}
 use Rattle.flow_duality.proofs.Plenty.{Light}
 use Rattle.epsdelta_sweeps.proofs.Noting.{one-more}
 use borrow.Author.Needs.{needs}
@@ -35,14 +31,14 @@ cast-u c = omega (arith, c .shared-slice-known3 .given (c .before .before .loop 
 returns : tie.Need-returns Inv-loop μ-loop
 returns c = λ e. absurd (false≢true e)
 
-mul-light-rate : tie.Need-mul-light-rate Inv-loop μ-loop
-mul-light-rate c = search needs
+mul-is-share : tie.Need-mul-is-share Inv-loop μ-loop
+mul-is-share c = search needs
 
-shared-slice-read-light-rate : tie.Need-shared-slice-read-light-rate Inv-loop μ-loop
-shared-slice-read-light-rate c = search needs
+shared-slice-read-is-share : tie.Need-shared-slice-read-is-share Inv-loop μ-loop
+shared-slice-read-is-share c = search needs
 
-light-rate-requires : tie.Need-light-rate-requires Inv-loop μ-loop
-light-rate-requires c κs = search needs
+is-share-requires : tie.Need-is-share-requires Inv-loop μ-loop
+is-share-requires c κs = search needs
 
 returns-2 : tie.Need-returns-2 Inv-loop μ-loop
 returns-2 c = λ e. absurd (false≢true e)
@@ -57,10 +53,8 @@ loop-again : tie.Need-loop-again Inv-loop μ-loop
 loop-again c =
     let a = c .before .before .before .before .before .before .before .before .before .args in
     let l = c .before .before .before .before .before .before .loop in
-    let w = getD (a .probs .now) (l .i) nan in
-    let (x, y) = and-t (lt nought w) (le w one) (sym (c .before .light-rate .ensures) ∙ not-false _ (c .if2 .left)) in
     let h = l .inv .0 in
-    (omega arith, one-more (Light (a .states) (a .targets .now) (a .probs .now)) (a .a) (l .i) (l .inv .1) (c .before .before .before .if1 .left, c .before .before .shared-slice-known4 .given (l .i), x, y))
+    (omega arith, one-more (Light (a .states) (a .targets .now) (a .probs .now)) (a .a) (l .i) (l .inv .1) (c .before .before .before .if1 .left, c .before .before .shared-slice-known4 .given (l .i), sym (c .before .is-share .ensures) ∙ not-false _ (c .if2 .left)))
 
 returns-3 : tie.Need-returns-3 Inv-loop μ-loop
 returns-3 c = λ e i h l. c .before .loop .inv .1 i h (let k = c .loop-test .left in omega arith)
@@ -76,9 +70,9 @@ light-spec =
     shared-slice-read-u
     cast-u
     returns
-    mul-light-rate
-    shared-slice-read-light-rate
-    light-rate-requires
+    mul-is-share
+    shared-slice-read-is-share
+    is-share-requires
     returns-2
     add-i
     loop-less

@@ -1,8 +1,8 @@
--- `plenty::plenty_of` meets its contract. The invariant: the rows of the states passed have at most 8 jumps, to states, with rates above 0 and at most 1.
+-- `plenty::plenty_of` meets its contract. The invariant: the jumps of the states passed are to states, with rates above 0 and at most 1.
 use mathlib.Core.Path.{_≡_, refl, subst⁻¹}
 use Prim.Native.Nat.{ℕ, _-_, _≤_, _<_}
 use native.Mathlib.Omega.{arith}
-use lib.Ieee.{Float, nan, binary64, ofBits, ofFields, div}
+use lib.Ieee.{nan, binary64, ofBits, ofFields, div}
 use borrow.Author.Tests.{not-false}
 use Rattle.numbers.specs.Real.{nought}
 use Rattle.flow_duality.proofs.Plenty.{LightRow, Plenty, plenty-of, plenty-none}
