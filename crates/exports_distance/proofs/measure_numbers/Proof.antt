@@ -3,7 +3,7 @@ use mathlib.Core.Path.{_≡_, ap, _∙_}
 use Rattle.chain_theory.specs.Columns.{chainColumns}
 use Rattle.chain_theory.specs.declared.ChainShape.{ChainShape}
 use Rattle.distance_theory.specs.declared.MetricOptions.{MetricOptions}
-use Rattle.distance_run.specs.Run.{Ran}
+use Rattle.distance_words.proofs.Run.{Ran}
 use Rattle.distance.specs.Measuring.{measuredOf}
 use borrow.Author.Needs.{needs}
 use Rattle.exports_distance.proofs.measure_numbers.Statement.{statement}
