@@ -27,9 +27,9 @@ use Rattle.distance_theory.specs.Pairs.{most}
 use Rattle.distance_theory.specs.Refusal.{bisimRefusal}
 use Rattle.distance_theory.specs.Outcome.{Run, run, bisimRun, blank, zeros, noughts}
 use Rattle.distance_theory.specs.declared.MetricOptions.{MetricOptions}
-use Rattle.distance_run.specs.Run.{fits, roomy, runnable, Ran, ranAs, ranIf, ranOf}
-use Rattle.distance_run.specs.Told.{refusedWith, toldOf}
-use Rattle.distance_run.specs.declared.told.Told.{Told}
+use Rattle.distance_words.proofs.Run.{fits, roomy, runnable, Ran, ranAs, ranIf, ranOf}
+use Rattle.distance_words.specs.Told.{refusedWith, toldOf}
+use Rattle.distance_words.specs.declared.told.Told.{Told}
 use Rattle.bisim_checks.proofs.Passed.{Side, Passed, passed}
 use Rattle.bisim_chains.specs.Made.{Made, leftOf, rightOf, madeOf, madeIf, bisimMade}
 use Rattle.bisim_measure.specs.Measure.{Measuring, measuring, measuredIf, bisimMeasure}

@@ -28,7 +28,7 @@ use Rattle.chain_theory.specs.Columns.{ChainColumns, begins, entries, chainOf, 
 use Rattle.chain_theory.specs.Check.{thin, steady, misshapen}
 use Rattle.chains.specs.Outcome.{laid}
 use Rattle.chains.proofs.RowsLaid.{starts-length, starts-at}
-use Rattle.distance_run.specs.Run.{slim, fits}
+use Rattle.distance_words.proofs.Run.{slim, fits}
 use Rattle.bisim_chains.proofs.Making.{over-long}
 use Rattle.bisim_chains.proofs.Rows.{Slender}
 

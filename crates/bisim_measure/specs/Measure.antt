@@ -10,9 +10,9 @@ use Rattle.chain_theory.specs.Columns.{ChainColumns}
 use Rattle.distance_theory.specs.Refusal.{bisimRefusal}
 use Rattle.distance_theory.specs.Outcome.{bisimRun, blank, zeros, noughts}
 use Rattle.distance_theory.specs.declared.MetricOptions.{MetricOptions}
-use Rattle.distance_run.specs.Run.{Ran, ranAs}
-use Rattle.distance_run.specs.Told.{refusedWith, toldOf}
-use Rattle.distance_run.specs.declared.told.Told.{Told}
+use Rattle.distance_words.proofs.Run.{Ran, ranAs}
+use Rattle.distance_words.specs.Told.{refusedWith, toldOf}
+use Rattle.distance_words.specs.declared.told.Told.{Told}
 
 -- what is told with the lists of pairs and the coupling store, and the lists lent for the chains
 pub record Measuring : Type 0 where

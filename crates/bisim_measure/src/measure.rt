@@ -7,14 +7,14 @@ use chain_theory::ChainShape;
 use distance_run::run::run;
 use distance_run::scratch::clear_masses;
 use distance_run::scratch::clear_states;
-use distance_run::told::Told;
-use distance_run::told::refused;
 use distance_theory::MetricOptions;
+use distance_words::told::Told;
+use distance_words::told::refused;
 ghost use mathlib.Core.Path.{_≡_};
 ghost use Rattle.bisim_core.specs.Data.{columns};
 ghost use Rattle.chain_theory.specs.Columns.{chainColumns};
 ghost use Rattle.distance_theory.specs.Outcome.{blank};
-ghost use Rattle.distance_run.specs.Run.{ranAs, ranOf};
+ghost use Rattle.distance_words.proofs.Run.{ranAs, ranOf};
 ghost use Rattle.bisim_measure.specs.Measure.{measuring, bisimMeasure};
 
 // Every entry of a chain's lists is 0.

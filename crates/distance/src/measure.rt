@@ -4,14 +4,14 @@ use crate::check::of_chain;
 use crate::check::short;
 use chain_theory::ChainShape;
 use distance_run::run::run;
-use distance_run::told::Told;
-use distance_run::told::refused;
 use distance_theory::Measured;
 use distance_theory::MetricOptions;
 use distance_theory::PairContribution;
+use distance_words::told::Told;
+use distance_words::told::refused;
 ghost use mathlib.Core.Path.{_≡_};
 ghost use Rattle.chain_theory.specs.Columns.{chainColumns};
-ghost use Rattle.distance_run.specs.Run.{ranAs};
+ghost use Rattle.distance_words.proofs.Run.{ranAs};
 ghost use Rattle.distance.specs.Measuring.{measuredOf, answerOf};
 
 // The run of two chains, once the checks of the arguments have passed: scratch is all zero then. A refusal of theirs leaves it as it was.

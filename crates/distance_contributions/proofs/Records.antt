@@ -26,9 +26,10 @@ use Rattle.distance_theory.specs.declared.MetricOptions.{MetricOptions}
 use Rattle.distance_theory.specs.declared.PairContribution.{PairContribution}
 use Rattle.distance_theory.proofs.Rank.{key}
 use Rattle.distance_theory.proofs.Choosing.{recordAt, Weighed, Read, Ranks, listed-same}
-use Rattle.distance_contributions.specs.Outcome.{observing, pairIn, pairsIn, recordOf, shareOf, below, known, listable, nothing, row, listing, listedOf}
+use Rattle.distance_words.specs.Told.{nothing, row}
+use Rattle.distance_words.proofs.Listing.{observing, pairIn, pairsIn, recordOf, shareOf, below, known, listable, listing, listedOf}
 use Rattle.distance_contributions.specs.Row.{rowRefusal, stored, storedIf, written}
-use Rattle.distance_contributions.specs.declared.listing.Listed.{Listed}
+use Rattle.distance_words.specs.declared.told.Listed.{Listed}
 
 -- the record of states x and y
 abbrev pub withGap : ℕ → ℕ → Float → Float → PairContribution

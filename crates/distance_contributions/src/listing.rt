@@ -3,6 +3,7 @@ use crate::choice;
 use bisim_core::ids::StateId;
 use distance_theory::MetricOptions;
 use distance_theory::PairContribution;
+use distance_words::told::Listed;
 use numbers::apart;
 ghost use mathlib.Core.Path.{_≡_};
 ghost use mathlib.Core.Bool.{true};
@@ -12,15 +13,9 @@ ghost use lib.ListN.{length, getD, take, replicate};
 ghost use Rattle.numbers.specs.Lists.{all, span};
 ghost use Rattle.distance_theory.specs.Contributions.{listed};
 ghost use Rattle.distance_theory.proofs.Choosing.{Read};
-ghost use Rattle.distance_contributions.specs.Outcome.{observing, pairsIn, recordOf, shareOf, below, nothing, row, listing, listedOf};
-ghost use Rattle.distance_contributions.specs.Outcome;
-
-// Whether the contributions could be listed, how many are, and 64 records, of which these are the first.
-pub struct Listed {
-    pub done: bool,
-    pub count: usize,
-    pub records: [PairContribution; 64],
-}
+ghost use Rattle.distance_words.specs.Told.{nothing, row};
+ghost use Rattle.distance_words.proofs.Listing.{observing, pairsIn, recordOf, shareOf, below, listing, listedOf};
+ghost use Rattle.distance_words.proofs.Listing;
 
 // Whether each of the first n states is below a count.
 fn all_below(states: &[u32], n: usize, count: usize) -> bool
@@ -39,7 +34,7 @@ fn all_below(states: &[u32], n: usize, count: usize) -> bool
 
 // Whether there are n states, each below a count.
 fn known(n: usize, states: &[u32], count: usize) -> bool
-    ensures { λ r. ⌜ r ≡ Outcome.known n (now (states .entry)) count ⌝ }
+    ensures { λ r. ⌜ r ≡ Listing.known n (now (states .entry)) count ⌝ }
 {
     if n <= states.len() {
         return all_below(states, n, count);
@@ -57,7 +52,7 @@ fn listable(
     spent: &[f64],
     top: usize,
 ) -> bool
-    ensures { λ r. ⌜ r ≡ Outcome.listable n (now (lefts .entry)) (now (rights .entry)) (now («left_seen» .entry)) (now («right_seen» .entry)) (now (spent .entry)) top ⌝ }
+    ensures { λ r. ⌜ r ≡ Listing.listable n (now (lefts .entry)) (now (rights .entry)) (now («left_seen» .entry)) (now («right_seen» .entry)) (now (spent .entry)) top ⌝ }
 {
     if n <= 4096 {
         if top <= 64 {
@@ -163,7 +158,7 @@ fn list(
     spent: &[f64],
     options: MetricOptions,
 ) -> Listed
-    requires { ⌜ Outcome.listable n (now lefts) (now rights) (now «left_seen») (now «right_seen») (now spent) (options .top) ≡ true ⌝ }
+    requires { ⌜ Listing.listable n (now lefts) (now rights) (now «left_seen») (now «right_seen») (now spent) (options .top) ≡ true ⌝ }
     ensures { λ r. ⌜ r ≡ listing true (listed (observing (now («left_seen» .entry)) (now («right_seen» .entry)) (pairsIn (now (lefts .entry)) (now (rights .entry)) n)) options (now (spent .entry))) ⌝ }
 {
     let top = options.top;

@@ -21,7 +21,7 @@ use Rattle.chain_theory.specs.Chain.{Chain}
 use Rattle.distance_theory.specs.Pairs.{Pair, pair, pairAt}
 use Rattle.distance_theory.specs.Couplings.{costOf}
 use Rattle.distance_theory.proofs.Crossings.{map-at}
-use Rattle.distance_costs.specs.Costs.{costAt, costs, Priced, priced, counted, pricedIf}
+use Rattle.distance_words.proofs.Costs.{costAt, costs, Priced, priced, counted, pricedIf}
 
 module _ (l r : List ℕ) (u w : List Float) (γ : Float) (n : ℕ) where
   pub costs-length : length (costs l r u w γ n) ≡ n

@@ -6,8 +6,8 @@ ghost use mathlib.Core.Path.{_≡_};
 ghost use Prim.Native.Nat.{_≤_};
 ghost use lib.ListN.{length};
 ghost use Rattle.numbers.specs.Lists.{over};
-ghost use Rattle.distance_costs.specs.Costs.{costs, priced, pricing};
-ghost use Rattle.distance_costs.specs.Costs;
+ghost use Rattle.distance_words.proofs.Costs.{costs, priced, pricing};
+ghost use Rattle.distance_words.proofs.Costs;
 
 fn wide(x: u32) -> usize
     ensures { λ r. ⌜ r ≡ x ⌝ }

@@ -24,7 +24,7 @@ use Rattle.distance_theory.proofs.Crossings.{map-at}
 use Rattle.distance_theory.proofs.PairRows.{RowRead, rowTargets, rowRates, readsRow}
 use Rattle.distance_couplings.proofs.Moves.{part-read}
 use Rattle.distance_store.proofs.Kept.{Ready, beside-rows}
-use Rattle.distance_even.specs.Even.{fittedBy, evenRows, evenWhen, evenPair, evenPairs, allEven}
+use Rattle.distance_words.proofs.Even.{fittedBy, evenRows, evenWhen, evenPair, evenPairs, allEven}
 
 -- ---- the sum
 

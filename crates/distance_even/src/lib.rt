@@ -12,8 +12,8 @@ ghost use lib.ListN.{length};
 ghost use Rattle.numbers.specs.Real.{sum};
 ghost use Rattle.chain_theory.specs.Columns.{chainColumns};
 ghost use Rattle.distance_theory.proofs.PairRows.{RowRead, rowRates};
-ghost use Rattle.distance_even.specs.Even.{fittedBy, evenRows, evenPair, evenPairs, allEven};
-ghost use Rattle.distance_even.specs.Even;
+ghost use Rattle.distance_words.proofs.Even.{fittedBy, evenRows, evenPair, evenPairs, allEven};
+ghost use Rattle.distance_words.proofs.Even;
 
 fn wide(x: u32) -> usize
     ensures { λ r. ⌜ r ≡ x ⌝ }

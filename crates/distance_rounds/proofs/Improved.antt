@@ -29,7 +29,7 @@ use Rattle.distance_theory.proofs.Stored.{shares-of}
 use Rattle.distance_theory.proofs.Bests.{Look, ats, parts, bestBy, best-by}
 use Rattle.distance_theory.proofs.PairRows.{rowTargets, rowRates, readsRow}
 use Rattle.distance_store.proofs.Kept.{Ready, look-is, rows-fit, slice-before, slice-put, Keeps, ends-before, ends-within}
-use Rattle.distance_rounds.specs.Improving.{bestWhen, bestAt, Adopted, adopted, gains, roomFor, adoptIf, adopt, Bettered, bettered, betterFrom, bestOfPair}
+use Rattle.distance_words.proofs.Improving.{bestWhen, bestAt, Adopted, adopted, gains, roomFor, adoptIf, adopt, Bettered, bettered, betterFrom, bestOfPair}
 
 -- ---- the cheapest coupling
 

@@ -8,9 +8,9 @@ use native.Mathlib.Numerals.{add-one}
 use lib.ListN.{length}
 use lib.Ieee.{Float, inf, le}
 use Rattle.distance_theory.specs.Rounds.{many}
-use Rattle.distance_values.specs.Outcome.{Valued, valued, evaluated}
-use Rattle.distance_rounds.specs.Improving.{Bettered, bettered}
-use Rattle.distance_rounds.specs.Iterating.{Task, Iterated, iterated, valuesOf, betteredOf, ended, iterateFrom}
+use Rattle.distance_words.proofs.Valuing.{Valued, valued, evaluated}
+use Rattle.distance_words.proofs.Improving.{Bettered, bettered}
+use Rattle.distance_words.proofs.Iterating.{Task, Iterated, iterated, valuesOf, betteredOf, ended, iterateFrom}
 
 pub record Iterates (T : Task) (k : ℕ) (v₀ : List Float) (l₀ p₀ : List ℕ) (m₀ : List Float) (x : Float) (n : ℕ) (v : List Float) (l p : List ℕ) (m : List Float) : Type 0 where
   pub left : n ≤ k

@@ -18,11 +18,11 @@ use Rattle.distance_theory.proofs.Turns.{couplingAt}
 use Rattle.distance_theory.proofs.Lengths.{evaluate-length}
 use Rattle.distance_theory.proofs.Held.{policyIn, policy-length, policy-at}
 use Rattle.distance_theory.proofs.Store.{space, Whole, Stored, round-stored}
-use Rattle.distance_values.specs.Outcome.{Valued, evaluated}
+use Rattle.distance_words.proofs.Valuing.{Valued, evaluated}
 use Rattle.distance_values.proofs.Uses.{InStore, evaluated-is}
 use Rattle.distance_store.proofs.Kept.{Ready, Keeps, ends-within}
-use Rattle.distance_rounds.specs.Improving.{Bettered, bettered, betterFrom, bestOfPair, betterIf, counted}
-use Rattle.distance_rounds.specs.Iterating.{Task, Iterated, iterated, valuesOf, betteredOf, ended, iterateFrom}
+use Rattle.distance_words.proofs.Improving.{Bettered, bettered, betterFrom, bestOfPair, betterIf, counted}
+use Rattle.distance_words.proofs.Iterating.{Task, Iterated, iterated, valuesOf, betteredOf, ended, iterateFrom}
 use Rattle.distance_rounds.proofs.Improved.{Same, improved-same}
 
 -- ---- the store of a run

@@ -28,9 +28,9 @@ use Rattle.distance_theory.proofs.Discovery.{lefts, rights}
 use Rattle.distance_theory.proofs.Lengths.{solve-is}
 use Rattle.distance_theory.proofs.Store.{Whole, first-stored}
 use Rattle.distance_theory.proofs.PairRows.{readsRow}
-use Rattle.distance_store.specs.Store.{Filled}
+use Rattle.distance_words.proofs.Store.{Filled}
 use Rattle.distance_store.proofs.Kept.{Ready, Keeps, Held}
-use Rattle.distance_rounds.specs.Iterating.{Task, Iterated, iterated, iterateFrom}
+use Rattle.distance_words.proofs.Iterating.{Task, Iterated, iterated, iterateFrom}
 use Rattle.distance_rounds.proofs.Rounded.{Serves, Solves, iterate-same}
 
 -- the columns that are read

@@ -28,7 +28,7 @@ use Rattle.distance_theory.proofs.Held.{sharesOf, sharesIn}
 use Rattle.distance_theory.proofs.Store.{rates-length, fitted-length, transport-length}
 use Rattle.distance_theory.proofs.Bests.{Look, ats, parts, independentBy, valuesBy, plannedBy, bestBy, rowsFit, cellsFit, fitting, Bested, bested, bestIf, beside, cells-few}
 use Rattle.distance_theory.proofs.PairRows.{rowTargets, rowRates, readsRow, bestedWhen, bestRead, bestPair}
-use Rattle.distance_rounds.specs.Improving.{bestWhen, bestAt, Adopted, adopted, gains, roomFor, adoptIf, adopt, Bettered, bettered, betterFrom, bestOfPair, counted, betterIf}
+use Rattle.distance_words.proofs.Improving.{bestWhen, bestAt, Adopted, adopted, gains, roomFor, adoptIf, adopt, Bettered, bettered, betterFrom, bestOfPair, counted, betterIf}
 
 -- ---- a coupling for a pair
 

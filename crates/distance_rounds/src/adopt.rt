@@ -5,8 +5,8 @@ ghost use mathlib.Core.Path.{_≡_};
 ghost use Prim.Native.Nat.{_≤_, _<_};
 ghost use lib.ListN.{length};
 ghost use Rattle.numbers.specs.Lists.{over};
-ghost use Rattle.distance_rounds.specs.Improving.{adopted};
-ghost use Rattle.distance_rounds.specs.Improving;
+ghost use Rattle.distance_words.proofs.Improving.{adopted};
+ghost use Rattle.distance_words.proofs.Improving;
 
 pub(crate) fn wide(x: u32) -> usize
     ensures { λ r. ⌜ (r ≡ x) × (r < 4294967296) ⌝ }

@@ -11,8 +11,8 @@ ghost use Prim.Native.Nat.{_≤_};
 ghost use lib.ListN.{length};
 ghost use Rattle.numbers.specs.Real.{nought};
 ghost use Rattle.chain_theory.specs.Columns.{chainColumns};
-ghost use Rattle.distance_rounds.specs.Improving.{bettered, betterFrom, bestOfPair};
-ghost use Rattle.distance_rounds.specs.Improving;
+ghost use Rattle.distance_words.proofs.Improving.{bettered, betterFrom, bestOfPair};
+ghost use Rattle.distance_words.proofs.Improving;
 
 fn either(a: bool, b: bool) -> bool
     ensures { λ r. ⌜ r ≡ (a || b) ⌝ }

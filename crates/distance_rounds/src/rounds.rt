@@ -9,8 +9,8 @@ ghost use lib.Ieee.{inf, le};
 ghost use mathlib.Core.Bool.{false};
 ghost use Rattle.chain_theory.specs.Columns.{chainColumns};
 ghost use Rattle.distance_theory.specs.Rounds.{many};
-ghost use Rattle.distance_values.specs.Outcome.{valued, evaluated};
-ghost use Rattle.distance_rounds.specs.Iterating.{iterated, iterateFrom, task};
+ghost use Rattle.distance_words.proofs.Valuing.{valued, evaluated};
+ghost use Rattle.distance_words.proofs.Iterating.{iterated, iterateFrom, task};
 
 // Whether a round is the last: no coupling has changed, or no value is off by more than the aim.
 fn ended(improved: bool, residual: f64, aim: f64) -> bool

@@ -9,11 +9,11 @@ use Rattle.numbers.specs.Real.{nought}
 use Rattle.distance_theory.specs.Pairs.{most}
 use Rattle.distance_theory.specs.declared.MetricOptions.{MetricOptions}
 use Rattle.distance_theory.specs.Rounds.{many}
-use Rattle.distance_values.specs.Outcome.{Occupied, occupied, visited}
-use Rattle.distance_contributions.specs.Outcome.{listedOf}
-use Rattle.distance_contributions.specs.declared.listing.Listed.{Listed}
-use Rattle.distance_run.specs.Account.{accountOf}
-use Rattle.distance_run.specs.declared.told.Accounted.{Accounted}
+use Rattle.distance_words.proofs.Valuing.{Occupied, occupied, visited}
+use Rattle.distance_words.proofs.Listing.{listedOf}
+use Rattle.distance_words.specs.declared.told.Listed.{Listed}
+use Rattle.distance_words.proofs.Found.{accountOf}
+use Rattle.distance_words.specs.declared.told.Accounted.{Accounted}
 
 abbrev pub accounted : Float → Listed → Accounted
 accounted m x = record { mass = m; listed = x }

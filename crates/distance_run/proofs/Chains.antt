@@ -28,14 +28,15 @@ use Rattle.distance_theory.proofs.Index.{index}
 use Rattle.distance_theory.proofs.Inside.{Of, pairs-of, chain-sound}
 use Rattle.distance_theory.proofs.Store.{Whole, metric-whole}
 use Rattle.distance_store.proofs.Kept.{Ready}
-use Rattle.distance_costs.specs.Costs.{costs, pricing}
+use Rattle.distance_words.proofs.Costs.{costs, pricing}
 use Rattle.distance_costs.proofs.Pricing.{costs-are}
 use Rattle.distance_rounds.proofs.Started.{bare, ready}
-use Rattle.distance_contributions.specs.Outcome.{listing, listedOf}
+use Rattle.distance_words.proofs.Listing.{listing, listedOf}
 use Rattle.distance_contributions.proofs.Records.{listed-of}
-use Rattle.distance_run.specs.Told.{refusedWith, foundFrom, foundIf, foundOf, toldOf}
-use Rattle.distance_run.specs.Solve.{solveOf}
-use Rattle.distance_run.specs.declared.told.Told.{Told}
+use Rattle.distance_words.specs.Told.{refusedWith, toldOf}
+use Rattle.distance_words.proofs.Found.{foundFrom, foundIf, foundOf}
+use Rattle.distance_words.proofs.Solve.{solveOf}
+use Rattle.distance_words.specs.declared.told.Told.{Told}
 use Rattle.distance_run.proofs.Ways.{runOf, way-17}
 use Rattle.distance_run.proofs.Whole.{told-found}
 

@@ -21,8 +21,9 @@ use Rattle.distance_theory.proofs.Discovery.{Discovery, discovered, discover, l
 use Rattle.distance_theory.proofs.Index.{index}
 use Rattle.distance_pairs.specs.Starting.{startingIn}
 use Rattle.distance_rounds.proofs.Started.{bare}
-use Rattle.distance_run.specs.Told.{foundIf, foundOf, toldOf}
-use Rattle.distance_run.specs.declared.told.Told.{Told}
+use Rattle.distance_words.specs.Told.{toldOf}
+use Rattle.distance_words.proofs.Found.{foundIf, foundOf}
+use Rattle.distance_words.specs.declared.told.Told.{Told}
 use Rattle.distance_run.proofs.Founding.{too-many}
 use Rattle.distance_run.proofs.Chains.{many-told, found-told}
 

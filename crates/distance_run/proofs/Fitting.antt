@@ -9,7 +9,7 @@ use Rattle.numbers.proofs.Bools.{and-first, and-second}
 use Rattle.chain_theory.specs.Columns.{ChainColumns}
 use Rattle.chain_theory.specs.Check.{misshapen}
 use Rattle.chain_theory.specs.declared.ChainShape.{ChainShape}
-use Rattle.distance_run.specs.Run.{slim, fits, roomy, runnable}
+use Rattle.distance_words.proofs.Run.{slim, fits, roomy, runnable}
 
 stops : (a b : Bool) → a ≡ false → false ≡ (a && b)
 stops a b e = sym e ∙ and-first a b e

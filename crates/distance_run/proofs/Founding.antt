@@ -14,15 +14,16 @@ use Rattle.chain_theory.specs.Columns.{ChainColumns}
 use Rattle.distance_theory.specs.Pairs.{most}
 use Rattle.distance_theory.specs.declared.MetricOptions.{MetricOptions}
 use Rattle.distance_theory.specs.Rounds.{many}
-use Rattle.distance_values.specs.Outcome.{occupied, visited}
-use Rattle.distance_contributions.specs.Outcome.{listedOf}
-use Rattle.distance_contributions.specs.declared.listing.Listed.{Listed}
-use Rattle.distance_costs.specs.Costs.{Priced, priced, pricing}
-use Rattle.distance_run.specs.Account.{accountOf}
-use Rattle.distance_run.specs.Solve.{Solving, solving, solveOf}
-use Rattle.distance_run.specs.Told.{refusedWith, tellIf, tellOf, goOn, foundFrom, foundIf, foundOf}
-use Rattle.distance_run.specs.declared.told.Accounted.{Accounted}
-use Rattle.distance_run.specs.declared.told.Told.{Told}
+use Rattle.distance_words.proofs.Valuing.{occupied, visited}
+use Rattle.distance_words.proofs.Listing.{listedOf}
+use Rattle.distance_words.specs.declared.told.Listed.{Listed}
+use Rattle.distance_words.proofs.Costs.{Priced, priced, pricing}
+use Rattle.distance_words.proofs.Found.{accountOf}
+use Rattle.distance_words.proofs.Solve.{Solving, solving, solveOf}
+use Rattle.distance_words.specs.Told.{refusedWith}
+use Rattle.distance_words.proofs.Found.{tellIf, tellOf, goOn, foundFrom, foundIf, foundOf}
+use Rattle.distance_words.specs.declared.told.Accounted.{Accounted}
+use Rattle.distance_words.specs.declared.told.Told.{Told}
 use Rattle.distance_run.proofs.Accounts.{accounted, accounts}
 
 -- ---- what is told

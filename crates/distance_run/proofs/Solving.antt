@@ -12,11 +12,11 @@ use Rattle.numbers.proofs.Bools.{and-first, and-second}
 use Rattle.chain_theory.specs.Columns.{ChainColumns}
 use Rattle.distance_theory.specs.Rounds.{tolerance}
 use Rattle.distance_theory.specs.declared.MetricOptions.{MetricOptions}
-use Rattle.distance_store.specs.Store.{Filled, filled, fill}
-use Rattle.distance_even.specs.Even.{allEven}
-use Rattle.distance_rounds.specs.Iterating.{Task, task, Iterated, iterated, iterateFrom}
-use Rattle.distance_run.specs.Solve.{Solving, solving, unsolved, uneven, aimOf, roundsOf, solveIf, solveFrom, solveOf}
-use Rattle.distance_run.specs.declared.solve.Solved.{Solved}
+use Rattle.distance_words.proofs.Store.{Filled, filled, fill}
+use Rattle.distance_words.proofs.Even.{allEven}
+use Rattle.distance_words.proofs.Iterating.{Task, task, Iterated, iterated, iterateFrom}
+use Rattle.distance_words.proofs.Solve.{Solving, solving, unsolved, uneven, aimOf, roundsOf, solveIf, solveFrom, solveOf}
+use Rattle.distance_words.specs.declared.told.Solved.{Solved}
 
 pub aims : (γ : Float) (o : MetricOptions) {x : Float} → x ≡ tolerance o → mul binary64 x (sub binary64 one γ) ≡ aimOf γ o
 aims γ o e = ap (λ (y : Float). mul binary64 y (sub binary64 one γ)) e

@@ -19,7 +19,7 @@ use Rattle.distance_theory.specs.Refusal.{runRefusal}
 use Rattle.distance_theory.specs.Outcome.{Run, run}
 use Rattle.distance_theory.specs.declared.MetricOptions.{MetricOptions}
 use Rattle.distance_theory.specs.declared.Distance.{Distance}
-use Rattle.distance_run.specs.Told.{refusedWith, toldIf, toldOf}
+use Rattle.distance_words.specs.Told.{refusedWith, toldIf, toldOf}
 
 -- the run of a metric
 abbrev pub timeIn : Metric → Float → MetricOptions → Visits

@@ -23,26 +23,27 @@ use Rattle.distance_theory.specs.declared.MetricOptions.{MetricOptions}
 use Rattle.distance_theory.specs.declared.PairContribution.{PairContribution}
 use Rattle.distance_theory.proofs.Lengths.{occupancy-wide}
 use Rattle.distance_theory.proofs.Store.{Whole}
-use Rattle.distance_values.specs.Outcome.{Occupied, visited}
+use Rattle.distance_words.proofs.Valuing.{Occupied, visited}
 use Rattle.distance_values.proofs.Uses.{InStore, visited-is}
-use Rattle.distance_store.specs.Store.{Filled, fillFrom, layingOf, fillIf, fill}
-use Rattle.distance_store.specs.Store
+use Rattle.distance_words.proofs.Store.{Filled, fillFrom, layingOf, fillIf, fill}
+use Rattle.distance_words.proofs.Store
 use Rattle.distance_store.proofs.Kept.{Ready, Held, filled-held, unfilled}
-use Rattle.distance_costs.specs.Costs.{costs, pricedIf, pricing}
-use Rattle.distance_costs.specs.Costs
+use Rattle.distance_words.proofs.Costs.{costs, pricedIf, pricing}
+use Rattle.distance_words.proofs.Costs
 use Rattle.distance_costs.proofs.Pricing.{costs-length}
-use Rattle.distance_even.specs.Even.{allEven}
+use Rattle.distance_words.proofs.Even.{allEven}
 use Rattle.distance_even.proofs.Evens.{all-even-is}
-use Rattle.distance_rounds.specs.Iterating.{Task, task, Iterated, iterateFrom}
+use Rattle.distance_words.proofs.Iterating.{Task, task, Iterated, iterateFrom}
 use Rattle.distance_rounds.proofs.Rounded.{Serves, Solves, in-store}
 use Rattle.distance_rounds.proofs.Started.{solved}
-use Rattle.distance_contributions.specs.Outcome.{listing, listedOf}
-use Rattle.distance_contributions.specs.declared.listing.Listed.{Listed}
-use Rattle.distance_run.specs.Account.{accountOf}
-use Rattle.distance_run.specs.Solve.{Solving, solving, uneven, aimOf, fineOf, solveIf, solveFrom}
-use Rattle.distance_run.specs.declared.told.Accounted.{Accounted}
-use Rattle.distance_run.specs.declared.told.Told.{Told}
-use Rattle.distance_run.specs.Told.{tellIf, tellOf, foundFrom, toldOf}
+use Rattle.distance_words.proofs.Listing.{listing, listedOf}
+use Rattle.distance_words.specs.declared.told.Listed.{Listed}
+use Rattle.distance_words.proofs.Found.{accountOf}
+use Rattle.distance_words.proofs.Solve.{Solving, solving, uneven, aimOf, fineOf, solveIf, solveFrom}
+use Rattle.distance_words.specs.declared.told.Accounted.{Accounted}
+use Rattle.distance_words.specs.declared.told.Told.{Told}
+use Rattle.distance_words.specs.Told.{toldOf}
+use Rattle.distance_words.proofs.Found.{tellIf, tellOf, foundFrom}
 use Rattle.distance_run.proofs.Ways.{timeIn, runOf, way-18, way-16, way-19, way-0}
 
 -- ---- contributions look only at the pairs

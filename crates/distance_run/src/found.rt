@@ -1,20 +1,20 @@
 // A run of pairs that were found.
 use crate::solve::solve;
-use crate::told::Accounted;
-use crate::told::Told;
-use crate::told::refused;
 use crate::told::tell;
 use distance_contributions::listing::contributions;
 use distance_costs::price;
 use distance_theory::MetricOptions;
 use distance_values::visits::Left;
 use distance_values::visits::visits;
+use distance_words::told::Accounted;
+use distance_words::told::Told;
+use distance_words::told::refused;
 ghost use mathlib.Core.Path.{_≡_};
 ghost use mathlib.Core.List.{[]};
 ghost use Rattle.chain_theory.specs.Columns.{chainColumns};
 ghost use Rattle.distance_theory.specs.Rounds.{many};
-ghost use Rattle.distance_values.specs.Outcome.{occupied, visited};
-ghost use Rattle.distance_run.specs.Told.{foundOf};
+ghost use Rattle.distance_words.proofs.Valuing.{occupied, visited};
+ghost use Rattle.distance_words.proofs.Found.{foundOf};
 
 // The time spent in the first n pairs, in at most 1,000,000 rounds, and the mass that is left then.
 fn occupancy(

@@ -1,12 +1,12 @@
 // The run of two chains, from the discovery of their pairs on.
 use crate::found::run_found;
 use crate::scratch::clear;
-use crate::told::Told;
-use crate::told::refused;
 use chain_check::shape::misshapen;
 use chain_theory::ChainShape;
 use distance_pairs::discover::discover_from;
 use distance_theory::MetricOptions;
+use distance_words::told::Told;
+use distance_words::told::refused;
 use numbers::lesser;
 ghost use mathlib.Core.Path.{_≡_};
 ghost use mathlib.Core.Bool.{true, _&&_};
@@ -19,9 +19,9 @@ ghost use Rattle.numbers.specs.Lists.{every};
 ghost use Rattle.chain_theory.specs.Columns.{chainColumns, chainOf};
 ghost use Rattle.distance_theory.specs.Outcome;
 ghost use Rattle.distance_theory.proofs.Discovery.{discovered, discover};
-ghost use Rattle.distance_run.specs.Told.{toldOf};
-ghost use Rattle.distance_run.specs.Run.{ranAs, ranOf};
-ghost use Rattle.distance_run.specs.Run;
+ghost use Rattle.distance_words.specs.Told.{toldOf};
+ghost use Rattle.distance_words.proofs.Run.{ranAs, ranOf};
+ghost use Rattle.distance_words.proofs.Run;
 
 fn wide(x: u32) -> usize
     ensures { λ r. ⌜ r ≡ x ⌝ }

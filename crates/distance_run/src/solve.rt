@@ -4,22 +4,16 @@ use distance_rounds::rounds::iterate;
 use distance_store::store::lay_store;
 use distance_theory::MetricOptions;
 use distance_theory::tolerance;
+use distance_words::told::Solved;
 use numbers::ONE;
 use numbers::TENTH;
 ghost use mathlib.Core.Path.{_≡_};
 ghost use mathlib.Core.Bool.{true};
 ghost use mathlib.Core.List.{[]};
 ghost use Rattle.chain_theory.specs.Columns.{chainColumns};
-ghost use Rattle.distance_store.specs.Store.{filled};
-ghost use Rattle.distance_run.specs.Solve.{solving, aimOf, roundsOf, solveIf, solveFrom, solveOf};
-ghost use Rattle.distance_run.specs.Solve;
-
-// The number of the refusal, 0 if there is none, the most that a value was off, and the rounds made.
-pub struct Solved {
-    pub refusal: u32,
-    pub residual: f64,
-    pub rounds: usize,
-}
+ghost use Rattle.distance_words.proofs.Store.{filled};
+ghost use Rattle.distance_words.proofs.Solve.{solving, aimOf, roundsOf, solveIf, solveFrom, solveOf};
+ghost use Rattle.distance_words.proofs.Solve;
 
 // How near the values are wanted: tolerance × (1 - γ).
 fn aim(gamma: f64, options: MetricOptions) -> f64

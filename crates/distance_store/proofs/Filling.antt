@@ -16,7 +16,7 @@ use Rattle.distance_theory.specs.Pairs.{most}
 use Rattle.distance_theory.proofs.Index.{lookUp}
 use Rattle.distance_theory.proofs.Bests.{Laid, laid}
 use Rattle.distance_theory.proofs.PairRows.{layPair, part-fits, part-kept}
-use Rattle.distance_store.specs.Store.{Filled, filled, Laying, fillFrom, layingOf, counted, fillIf}
+use Rattle.distance_words.proofs.Store.{Filled, filled, Laying, fillFrom, layingOf, counted, fillIf}
 
 -- ---- any laying
 

@@ -27,7 +27,7 @@ use Rattle.distance_theory.proofs.Store.{space, independent-length, room-take, 
 use Rattle.distance_theory.proofs.Stored.{shares-of}
 use Rattle.distance_theory.proofs.Bests.{Look, ats, parts, independentBy, independent-by, rowsFit, cellsFit, fitting, Laid, laid, layIf, layOn}
 use Rattle.distance_theory.proofs.PairRows.{rowTargets, rowRates, readsRow, laidWhen, layRead, layPair}
-use Rattle.distance_store.specs.Store.{Filled, filled, fillFrom, layingOf}
+use Rattle.distance_words.proofs.Store.{Filled, filled, fillFrom, layingOf}
 use Rattle.distance_store.proofs.Filling.{fill-more, fill-none, fill-zero}
 
 -- ---- lists and columns that hold the pairs and rows of a run

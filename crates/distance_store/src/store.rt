@@ -5,8 +5,8 @@ ghost use mathlib.Core.List.{[]};
 ghost use Prim.Native.Nat.{_≤_};
 ghost use lib.ListN.{length};
 ghost use Rattle.chain_theory.specs.Columns.{chainColumns};
-ghost use Rattle.distance_store.specs.Store.{filled, fillFrom, layingOf, fill};
-ghost use Rattle.distance_store.specs.Store;
+ghost use Rattle.distance_words.proofs.Store.{filled, fillFrom, layingOf, fill};
+ghost use Rattle.distance_words.proofs.Store;
 
 fn wide(x: u32) -> usize
     ensures { λ r. ⌜ r ≡ x ⌝ }

@@ -15,8 +15,8 @@ use Rattle.distance_theory.specs.Contributions.{visits, depart}
 use Rattle.distance_theory.proofs.Lengths.{sweeps-length, visits-wide, depart-wide}
 use Rattle.distance_theory.proofs.Held.{policyIn, Holds}
 use Rattle.distance_theory.proofs.ValueRows.{Rested}
-use Rattle.distance_values.specs.Store.{held}
-use Rattle.distance_values.specs.Outcome.{priced, valued, evaluated, occupied, visited}
+use Rattle.distance_words.proofs.Readable.{held}
+use Rattle.distance_words.proofs.Valuing.{priced, valued, evaluated, occupied, visited}
 use Rattle.distance_values.proofs.Reading.{held-known}
 
 module _ (limit : ℕ) (S L P : List ℕ) (M c : List Float) (γ tol : Float) (v : List Float) (n : ℕ) where

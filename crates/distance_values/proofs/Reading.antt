@@ -13,7 +13,7 @@ use Rattle.numbers.specs.Lists.{every}
 use Rattle.numbers.proofs.Bools.{and-t}
 use Rattle.numbers.proofs.Alls.{all-at, every-at, every-next, every-not}
 use Rattle.distance_theory.proofs.Held.{Lies, Holds, slice-at}
-use Rattle.distance_values.specs.Store.{below, lies, held}
+use Rattle.distance_words.proofs.Readable.{below, lies, held}
 
 module _ (S L P : List ℕ) (M : List Float) (n : ℕ) where
   lies-known : (k : ℕ) → lies S L P M n k ≡ true → Lies P M n (getD S k 0) (getD S k 0 + getD L k 0)

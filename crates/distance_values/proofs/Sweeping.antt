@@ -14,7 +14,7 @@ use Rattle.distance_theory.proofs.Turns.{couplingAt, no-item, expected-next, sw
 use Rattle.distance_theory.proofs.Lengths.{sweeps-on, sweeps-end}
 use Rattle.distance_theory.proofs.Held.{sharesIn, coupling, policyIn, Lies, Holds, policy-length, policy-at, in-length, in-at}
 use Rattle.distance_theory.proofs.ValueRows.{Swept}
-use Rattle.distance_values.specs.Outcome.{priced}
+use Rattle.distance_words.proofs.Valuing.{priced}
 
 -- ---- the shares of a coupling
 

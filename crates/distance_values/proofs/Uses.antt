@@ -18,8 +18,8 @@ use Rattle.distance_theory.specs.Contributions.{visits, depart, occupancy}
 use Rattle.distance_theory.proofs.Turns.{couplingAt}
 use Rattle.distance_theory.proofs.Store.{Placed, Stored}
 use Rattle.distance_theory.proofs.Held.{coupling, policyIn, policy-at, shares-length, shares-at}
-use Rattle.distance_values.specs.Store.{below, lies, held}
-use Rattle.distance_values.specs.Outcome.{priced, Valued, valued, evaluable, evaluated, Occupied, occupied, occupiable, visited}
+use Rattle.distance_words.proofs.Readable.{below, lies, held}
+use Rattle.distance_words.proofs.Valuing.{priced, Valued, valued, evaluable, evaluated, Occupied, occupied, occupiable, visited}
 
 -- ---- `evaluate` reads only the cost of each pair and the discount
 

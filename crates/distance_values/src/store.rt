@@ -4,12 +4,12 @@ ghost use Prim.Native.Nat.{_≤_, _<_};
 ghost use lib.ListN.{length};
 ghost use lib.Seq.{slice};
 ghost use Rattle.numbers.specs.Lists.{all};
-ghost use Rattle.distance_values.specs.Store;
+ghost use Rattle.distance_words.proofs.Readable;
 
 // Whether each of places[from..to] is below n.
 fn all_below(places: &[u32], from: usize, to: usize, n: usize) -> bool
     requires { ⌜ (from ≤ to) × (to ≤ length (now places)) ⌝ }
-    ensures { λ r. ⌜ r ≡ all (Store.below n) (slice from to (now (places .entry))) ⌝ }
+    ensures { λ r. ⌜ r ≡ all (Readable.below n) (slice from to (now (places .entry))) ⌝ }
 {
     let mut i = from;
     while i < to {
@@ -24,7 +24,7 @@ fn all_below(places: &[u32], from: usize, to: usize, n: usize) -> bool
 // Whether the coupling of pair k is in the store, and leads to some of n pairs.
 fn lies(starts: &[u32], lengths: &[u32], places: &[u32], masses: &[f64], n: usize, k: usize) -> bool
     requires { ⌜ (k < length (now starts)) × (k < length (now lengths)) ⌝ }
-    ensures { λ r. ⌜ r ≡ Store.lies (now (starts .entry)) (now (lengths .entry)) (now (places .entry)) (now (masses .entry)) n k ⌝ }
+    ensures { λ r. ⌜ r ≡ Readable.lies (now (starts .entry)) (now (lengths .entry)) (now (places .entry)) (now (masses .entry)) n k ⌝ }
 {
     let from = starts[k] as usize;
     let to = from + lengths[k] as usize;
@@ -44,7 +44,7 @@ pub(crate) fn held(
     masses: &[f64],
     n: usize,
 ) -> bool
-    ensures { λ r. ⌜ r ≡ Store.held (now (starts .entry)) (now (lengths .entry)) (now (places .entry)) (now (masses .entry)) n ⌝ }
+    ensures { λ r. ⌜ r ≡ Readable.held (now (starts .entry)) (now (lengths .entry)) (now (places .entry)) (now (masses .entry)) n ⌝ }
 {
     if n <= starts.len() {
         if n <= lengths.len() {

@@ -9,7 +9,7 @@ ghost use Rattle.distance_theory.specs.Couplings;
 ghost use Rattle.distance_theory.specs.Rounds;
 ghost use Rattle.distance_theory.proofs.Held.{sharesIn, policyIn, Lies, Holds};
 ghost use Rattle.distance_theory.proofs.ValueRows.{Swept};
-ghost use Rattle.distance_values.specs.Outcome.{priced, valued, evaluated};
+ghost use Rattle.distance_words.proofs.Valuing.{priced, valued, evaluated};
 
 // The sum of mass × value over the shares from..to.
 fn expected(places: &[u32], masses: &[f64], from: usize, to: usize, value: &[f64]) -> f64

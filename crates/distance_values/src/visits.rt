@@ -10,7 +10,7 @@ ghost use Rattle.distance_theory.specs.Pairs.{most};
 ghost use Rattle.distance_theory.specs.Contributions;
 ghost use Rattle.distance_theory.proofs.Held.{sharesIn, policyIn, Lies, Holds};
 ghost use Rattle.distance_theory.proofs.ValueRows.{staying, Stayed, Advanced, visiting, Rested};
-ghost use Rattle.distance_values.specs.Outcome.{occupied, visited};
+ghost use Rattle.distance_words.proofs.Valuing.{occupied, visited};
 
 // x × mass more for each pair that the shares from..to lead to.
 fn pour(places: &[u32], masses: &[f64], from: usize, to: usize, x: f64, next: &mut [f64])

@@ -2,7 +2,7 @@
 use crate::side;
 use crate::side::Side;
 use bisim_measure::measure::measure;
-use distance_run::told::Told;
+use distance_words::told::Told;
 use replay_measures::answer;
 use replay_measures::asked;
 use replay_measures::asked::Asked;

@@ -2,7 +2,7 @@
 use bisim_core::ids::StateId;
 use chain_theory::ChainShape;
 use distance::measure::measure;
-use distance_run::told::Told;
+use distance_words::told::Told;
 use replay_measures::answer;
 use replay_measures::asked;
 use replay_measures::asked::Asked;

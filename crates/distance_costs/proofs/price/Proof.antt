@@ -1,6 +1,6 @@
 -- By the check of the counts.
 use lib.ListN.{length}
-use Rattle.distance_costs.specs.Costs.{costs}
+use Rattle.distance_words.proofs.Costs.{costs}
 use Rattle.distance_costs.proofs.Pricing.{counts-known, uncounted, counting}
 use borrow.Author.Needs.{needs}
 use Rattle.distance_costs.proofs.price.Statement.{statement}

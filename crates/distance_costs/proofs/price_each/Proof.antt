@@ -4,7 +4,7 @@ use Prim.Native.Nat.{_≤_, _-_}
 use native.Mathlib.Omega.{arith}
 use lib.ListN.{length, length-set}
 use Rattle.numbers.proofs.Over.{over}
-use Rattle.distance_costs.specs.Costs.{costs}
+use Rattle.distance_words.proofs.Costs.{costs}
 use Rattle.distance_costs.proofs.Pricing.{cost-next, cost-done}
 use borrow.Author.Needs.{needs}
 use Rattle.distance_costs.proofs.price_each.Statement.{statement}

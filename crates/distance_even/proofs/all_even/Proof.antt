@@ -8,7 +8,7 @@ use lib.ListN.{length}
 use Rattle.numbers.specs.Lists.{every}
 use Rattle.numbers.proofs.Alls.{every-none}
 use Rattle.chain_theory.specs.Columns.{chainColumns}
-use Rattle.distance_even.specs.Even.{evenPairs}
+use Rattle.distance_words.proofs.Even.{evenPairs}
 use Rattle.distance_even.proofs.Evens.{lefts-short, rights-short, even-end, even-stop, even-next}
 use borrow.Author.Needs.{needs}
 use Rattle.distance_even.proofs.all_even.Statement.{statement}

@@ -4,7 +4,7 @@ use Prim.Native.Nat.{_-_}
 use mathlib.Core.List.{map}
 use lib.ListN.{length, drop}
 use Rattle.numbers.specs.Real.{sum, sumFrom}
-use Rattle.distance_even.specs.Even.{fittedBy}
+use Rattle.distance_words.proofs.Even.{fittedBy}
 use Rattle.distance_even.proofs.Evens.{fit-start, fit-next, fit-end}
 use borrow.Author.Needs.{needs}
 use Rattle.distance_even.proofs.fitted_total.Statement.{statement}

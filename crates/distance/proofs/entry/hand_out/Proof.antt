@@ -47,9 +47,9 @@ use Rattle.distance_theory.proofs.PairContribution.Laws as R′
 use Rattle.distance_theory.proofs.Measured as S
 use Rattle.distance_theory.proofs.Measured.Laws as S′
 use Rattle.distance_contributions.specs.Row.{Stored, stored, written}
-use Rattle.distance_run.specs.declared.told.Told.{Told}
-use Rattle.distance_run.proofs.told.Told as T
-use Rattle.distance_run.proofs.told.Told.Laws as T′
+use Rattle.distance_words.specs.declared.told.Told.{Told}
+use Rattle.distance_words.proofs.told.Told as T
+use Rattle.distance_words.proofs.told.Told.Laws as T′
 use Rattle.distance.specs.Measuring.{answerOf, handed, handOut}
 use Rattle.distance.proofs.measure.records_of as recs
 use Rattle.distance.proofs.measure.records_of.Symbol as recs-def

@@ -10,7 +10,7 @@ use lib.Seq.{slice}
 use borrow.Author.Tests.{le-ltb, lt-ltb}
 use Rattle.numbers.specs.Lists.{all}
 use Rattle.numbers.proofs.Alls.{all-stop, all-on, all-end}
-use Rattle.distance_contributions.specs.Outcome.{below}
+use Rattle.distance_words.proofs.Listing.{below}
 
 abbrev Inv-loop : tie.InvT-loop
 Inv-loop states n count i₀ i = (i ≤ n) × (all (below count) (slice i n states) ≡ all (below count) (take n states))

@@ -5,7 +5,7 @@ use Rattle.distance_contributions.proofs.listing.contributions.Tie as t
 use mathlib.Core.Path.{sym, _∙_}
 use Rattle.distance_contributions.proofs.Records.{told, untold}
 use Rattle.distance_theory.specs.Contributions.{listed}
-use Rattle.distance_contributions.specs.Outcome.{observing, pairsIn}
+use Rattle.distance_words.proofs.Listing.{observing, pairsIn}
 
 listable-requires : tie.Need-listable-requires
 listable-requires c κs = search needs

@@ -8,7 +8,7 @@ use lib.Seq.{length-take-le}
 use lib.Ieee.{Float}
 use Rattle.numbers.specs.Real.{nought}
 use Rattle.chain_theory.specs.Columns.{chainColumns}
-use Rattle.distance_rounds.specs.Improving.{bestOfPair}
+use Rattle.distance_words.proofs.Improving.{bestOfPair}
 use Rattle.distance_rounds.proofs.Steps.{worked-at, Betters, betters-start, betters-next, betters-end}
 use borrow.Author.Needs.{needs}
 use Rattle.distance_rounds.proofs.improve.improve_each.Statement.{statement}

@@ -4,7 +4,7 @@ use Prim.Native.Nat.{_-_}
 use mathlib.Core.List.{[]}
 use native.Mathlib.Omega.{arith}
 use Rattle.chain_theory.specs.Columns.{chainColumns}
-use Rattle.distance_rounds.specs.Iterating.{task}
+use Rattle.distance_words.proofs.Iterating.{task}
 use Rattle.distance_rounds.proofs.Iterates.{Iterates, iterates-start, iterates-end, iterates-stop, iterates-next}
 use borrow.Author.Needs.{needs}
 use Rattle.distance_rounds.proofs.rounds.iterate.Statement.{statement}

@@ -5,7 +5,7 @@ use mathlib.Core.List.{[]}
 use native.Mathlib.Omega.{arith}
 use Rattle.parts.proofs.Lent.{back-length}
 use Rattle.chain_theory.specs.Columns.{chainColumns}
-use Rattle.distance_store.specs.Store.{layingOf}
+use Rattle.distance_words.proofs.Store.{layingOf}
 use Rattle.distance_store.proofs.Filling.{Fills, fills-start, fills-end, cells-in, fills-next, fills-stop}
 use borrow.Author.Needs.{needs}
 use Rattle.distance_store.proofs.store.fill_each.Statement.{statement}

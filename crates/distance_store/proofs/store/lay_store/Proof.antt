@@ -2,7 +2,7 @@
 use mathlib.Core.List.{[]}
 use lib.ListN.{length}
 use Rattle.chain_theory.specs.Columns.{chainColumns}
-use Rattle.distance_store.specs.Store.{fillFrom, layingOf}
+use Rattle.distance_words.proofs.Store.{fillFrom, layingOf}
 use Rattle.distance_store.proofs.Filling.{counts-known, uncounted, counting}
 use borrow.Author.Needs.{needs}
 use Rattle.distance_store.proofs.store.lay_store.Statement.{statement}

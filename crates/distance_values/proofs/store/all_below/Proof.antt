@@ -9,7 +9,7 @@ use lib.Seq.{slice}
 use borrow.Author.Tests.{le-ltb, lt-ltb}
 use Rattle.numbers.specs.Lists.{all}
 use Rattle.numbers.proofs.Alls.{all-stop, all-on, all-end}
-use Rattle.distance_values.specs.Store.{below}
+use Rattle.distance_words.proofs.Readable.{below}
 
 abbrev Inv-loop : tie.InvT-loop
 Inv-loop places from to n i₀ i = (from ≤ i) × (i ≤ to) × (all (below n) (slice i to places) ≡ all (below n) (slice from to places))

@@ -10,7 +10,7 @@ use borrow.Author.Tests.{le-leb, lt-leb, not-true, not-false}
 use Rattle.numbers.specs.Lists.{every}
 use Rattle.numbers.proofs.Alls.{every-none}
 use Rattle.numbers.proofs.Bools.{and-first, and-second}
-use Rattle.distance_values.specs.Store.{lies}
+use Rattle.distance_words.proofs.Readable.{lies}
 use Rattle.distance_values.proofs.Reading.{stops, goes}
 
 abbrev Inv-loop : tie.InvT-loop

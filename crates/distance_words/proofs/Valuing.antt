@@ -13,7 +13,7 @@ use Rattle.distance_theory.specs.Couplings.{Metric}
 use Rattle.distance_theory.specs.Rounds.{sweeps}
 use Rattle.distance_theory.specs.Contributions.{Visits, visits, depart}
 use Rattle.distance_theory.proofs.Held.{policyIn}
-use Rattle.distance_values.specs.Store.{held}
+use Rattle.distance_words.proofs.Readable.{held}
 
 -- ---- `sweeps`
 

@@ -3,17 +3,18 @@ use Prim.Native.Nat.{ℕ}
 use mathlib.Core.Bool.{Bool, true, false, _&&_}
 use mathlib.Core.List.{List, [], map}
 use lib.Dec.{leb, ltb}
-use lib.ListN.{length, getD, take, replicate}
+use lib.ListN.{length, getD, take}
 use lib.Ieee.{Float, nan}
 use Rattle.numbers.specs.Real.{nought}
-use Rattle.numbers.specs.Lists.{span, all, over}
+use Rattle.numbers.specs.Lists.{span, all}
 use Rattle.chain_theory.specs.Chain.{Chain}
 use Rattle.distance_theory.specs.Pairs.{Pair, pair, most}
 use Rattle.distance_theory.specs.Couplings.{Metric}
 use Rattle.distance_theory.specs.Contributions.{contribution, listed}
 use Rattle.distance_theory.specs.declared.MetricOptions.{MetricOptions}
 use Rattle.distance_theory.specs.declared.PairContribution.{PairContribution}
-use Rattle.distance_contributions.specs.declared.listing.Listed.{Listed}
+use Rattle.distance_words.specs.Told.{row}
+use Rattle.distance_words.specs.declared.told.Listed.{Listed}
 
 -- a chain of which only the observations are known
 abbrev pub observed : List Float → Chain
@@ -47,14 +48,6 @@ known n states count = leb n (length states) && all (below count) (take n states
 -- at most 4,096 pairs, each with two observations and an occupancy, of which at most 64 are asked for
 abbrev pub listable : ℕ → List ℕ → List ℕ → List Float → List Float → List Float → ℕ → Bool
 listable n lefts rights seenL seenR spent top = leb n most && (leb top 64 && (leb n (length spent) && (known n lefts (length seenL) && known n rights (length seenR))))
-
--- a record of zeros
-abbrev pub nothing : PairContribution
-nothing = record { left = record { 0 = 0 }; right = record { 0 = 0 }; gap = nought; occupancy = nought; contribution = nought }
-
--- 64 records, these first
-abbrev pub row : List PairContribution → List PairContribution
-row cs = over cs (replicate 64 nothing)
 
 -- what is answered: these contributions, or that they can't be told
 abbrev pub listing : Bool → List PairContribution → Listed

@@ -1,7 +1,7 @@
--- What a run answers: a refusal's number, or the distance and 64 records, the contributions first.
+-- What a run of pairs that were found answers, from lists of their states.
 use Prim.Native.Nat.{ℕ, zero, suc}
 use mathlib.Core.Bool.{Bool, true, false}
-use mathlib.Core.List.{List, [], _++_}
+use mathlib.Core.List.{List, _++_}
 use lib.Dec.{ltb}
 use lib.ListN.{getD, take, drop, replicate}
 use lib.Ieee.{Float, nan, binary64, sub, div, lt}
@@ -10,17 +10,20 @@ use Rattle.chain_theory.specs.Columns.{ChainColumns}
 use Rattle.distance_theory.specs.Pairs.{most}
 use Rattle.distance_theory.specs.declared.MetricOptions.{MetricOptions}
 use Rattle.distance_theory.specs.declared.Distance.{Distance}
-use Rattle.distance_theory.specs.Outcome.{Run}
-use Rattle.distance_costs.specs.Costs.{Priced, pricing}
-use Rattle.distance_contributions.specs.Outcome.{row}
-use Rattle.distance_run.specs.Account.{accountOf}
-use Rattle.distance_run.specs.Solve.{Solving, solveOf}
-use Rattle.distance_run.specs.declared.told.Accounted.{Accounted}
-use Rattle.distance_run.specs.declared.told.Told.{Told}
+use Rattle.distance_theory.specs.Rounds.{many}
+use Rattle.distance_words.proofs.Costs.{Priced, pricing}
+use Rattle.distance_words.specs.Told.{refusedWith}
+use Rattle.distance_words.proofs.Valuing.{Occupied, visited}
+use Rattle.distance_words.proofs.Listing.{listedOf}
+use Rattle.distance_words.proofs.Solve.{Solving, solveOf}
+use Rattle.distance_words.specs.declared.told.Accounted.{Accounted}
+use Rattle.distance_words.specs.declared.told.Told.{Told}
 
--- zeros behind the number
-abbrev pub refusedWith : ℕ → Told
-refusedWith r = record { refusal = r; distance = record { value = nought; «error_bound» = nought; gamma = nought; «pairs_explored» = 0; contributions = 0; rounds = 0 }; records = row [] }
+-- how the distance arises, for couplings in the store: the mass that is left in `occupancy`, and the contributions; of n pairs by lists of their states, the observations, and the store
+abbrev pub accountOf : ℕ → List ℕ → List ℕ → List Float → List Float → List ℕ → List ℕ → List ℕ → List Float → Float → MetricOptions → Accounted
+accountOf n lefts rights seenL seenR starts lengths places masses γ o =
+    let w = visited many starts lengths places masses γ (replicate most nought) n in
+    record { mass = w .mass; listed = listedOf n lefts rights seenL seenR (w .spent) o }
 
 -- 19, or the distance x of n pairs, values off by y, after k rounds
 abbrev pub tellIf : Bool → ℕ → Float → Float → Float → ℕ → Accounted → Told
@@ -50,12 +53,3 @@ abbrev pub foundOf : ℕ → List ℕ → List ℕ → List ℕ → ChainColumns
 foundOf n lefts rights codes C D seenL seenR γ o p m =
     foundIf (ltb most n) (foundFrom n lefts rights seenL seenR γ o
     (solveOf n lefts rights codes C D ((pricing n lefts rights seenL seenR γ (replicate most nought)) .cost) γ o (replicate most 0) (replicate most 0) p m (take n (replicate most nought))))
-
--- ---- of a run of the definition
-
-abbrev pub toldIf : ℕ → Run → Told
-toldIf zero R = record { refusal = 0; distance = R .distance; records = row (R .listed) }
-toldIf (suc r) R = refusedWith (suc r)
-
-abbrev pub toldOf : Run → Told
-toldOf R = toldIf (R .refusal) R

@@ -8,10 +8,10 @@ use Rattle.numbers.specs.Real.{nought, one, tenth}
 use Rattle.chain_theory.specs.Columns.{ChainColumns}
 use Rattle.distance_theory.specs.Rounds.{tolerance}
 use Rattle.distance_theory.specs.declared.MetricOptions.{MetricOptions}
-use Rattle.distance_store.specs.Store.{Filled, fill}
-use Rattle.distance_even.specs.Even.{allEven}
-use Rattle.distance_rounds.specs.Iterating.{Task, task, Iterated, iterateFrom}
-use Rattle.distance_run.specs.declared.solve.Solved.{Solved}
+use Rattle.distance_words.proofs.Store.{Filled, fill}
+use Rattle.distance_words.proofs.Even.{allEven}
+use Rattle.distance_words.proofs.Iterating.{Task, task, Iterated, iterateFrom}
+use Rattle.distance_words.specs.declared.told.Solved.{Solved}
 
 -- the number of the refusal, 0 if there is none, the most that a value was off, the rounds made, and the lists then
 pub record Solving : Type 0 where

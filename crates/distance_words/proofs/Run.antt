@@ -12,8 +12,8 @@ use Rattle.chain_theory.specs.declared.ChainShape.{ChainShape}
 use Rattle.distance_theory.specs.Pairs.{most}
 use Rattle.distance_theory.specs.declared.MetricOptions.{MetricOptions}
 use Rattle.distance_theory.specs.Outcome.{run, zeros, noughts}
-use Rattle.distance_run.specs.declared.told.Told.{Told}
-use Rattle.distance_run.specs.Told.{refusedWith, toldOf}
+use Rattle.distance_words.specs.declared.told.Told.{Told}
+use Rattle.distance_words.specs.Told.{refusedWith, toldOf}
 
 -- rows of at most 32 entries
 abbrev pub slim : ChainShape → ChainColumns → Bool

@@ -1,2 +1,0 @@
-pub mod Improving
-pub mod Iterating

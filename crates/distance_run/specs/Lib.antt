@@ -1,4 +1,0 @@
-pub mod Account
-pub mod Solve
-pub mod Told
-pub mod Run

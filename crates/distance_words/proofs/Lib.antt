@@ -1,0 +1,11 @@
+pub mod Readable
+pub mod Valuing
+pub mod Store
+pub mod Costs
+pub mod Even
+pub mod Improving
+pub mod Iterating
+pub mod Listing
+pub mod Solve
+pub mod Found
+pub mod Run
