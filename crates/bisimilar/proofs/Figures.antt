@@ -13,7 +13,8 @@ use Rattle.bisim_core.specs.declared.wlts.Initial.the-variants.{At, Absent}
 use Rattle.epsdelta_theory.specs.Refusal.{bisimilarRefusal}
 use Rattle.epsdelta_theory.specs.Bisimilar.{bisimilar}
 use Rattle.bisimilar.specs.Related.{relatedOutcome}
-use Rattle.bisimilar.specs.Outcome.{Outcome, judged, bisimilarOutcome}
+use Rattle.epsdelta.specs.Outcome.{Outcome, ends}
+use Rattle.bisimilar.specs.Outcome.{bisimilarOutcome}
 use Rattle.bisimilar.specs.declared.related.Verdict.{Verdict}
 use Rattle.bisimilar.specs.declared.related.Verdict.the-variants.{Related, Unrelated, Refused}
 
@@ -42,20 +43,20 @@ line k = columns (0 ∷ []) (0 ∷ 1 ∷ 1 ∷ []) (0 ∷ []) (1 ∷ []) (fin fa
 from : ℕ → Initial
 from s = At (record { 0 = s })
 
-card : Initial → Initial → Float → List ℕ → Outcome
+card : Initial → Initial → Float → List ℕ → Outcome Verdict
 card i j ε store = bisimilarOutcome (shape i) (line 1) (shape j) (line 2) (0 ∷ 1 ∷ []) (0 ∷ 1 ∷ []) ε (fin false 1 (pos 1)) store
 
 -- bisimilar, and the third byte is zero too
-alike : card (from 0) (from 0) nought (7 ∷ 7 ∷ 7 ∷ []) ≡ judged Related (0 ∷ 0 ∷ 0 ∷ [])
+alike : card (from 0) (from 0) nought (7 ∷ 7 ∷ 7 ∷ []) ≡ ends Related (0 ∷ 0 ∷ 0 ∷ [])
 unfolding card shape line from bisimilarRefusal bisimilar ofBits
 alike = refl
 
 -- not if the right model starts in its state 1
-apart : card (from 0) (from 1) nought (7 ∷ 7 ∷ []) ≡ judged Unrelated (0 ∷ 0 ∷ [])
+apart : card (from 0) (from 1) nought (7 ∷ 7 ∷ []) ≡ ends Unrelated (0 ∷ 0 ∷ [])
 unfolding card shape line from bisimilarRefusal bisimilar ofBits
 apart = refl
 
 -- 8 comes before 9, and the bytes are kept
-absent-first : card (from 0) Absent nan (7 ∷ 7 ∷ []) ≡ judged (Refused 8) (7 ∷ 7 ∷ [])
+absent-first : card (from 0) Absent nan (7 ∷ 7 ∷ []) ≡ ends (Refused 8) (7 ∷ 7 ∷ [])
 unfolding card shape line from bisimilarRefusal bisimilar ofBits
 absent-first = refl

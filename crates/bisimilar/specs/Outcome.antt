@@ -8,23 +8,16 @@ use Rattle.bisim_core.specs.Data.{Columns}
 use Rattle.bisim_core.specs.declared.wlts.Shape.{Shape}
 use Rattle.epsdelta_theory.specs.Refusal.{bisimilarRefusal}
 use Rattle.epsdelta_theory.specs.Bisimilar.{bisimilar}
+use Rattle.epsdelta.specs.Outcome.{Outcome, ends}
 use Rattle.bisimilar.specs.Related.{verdict}
 use Rattle.bisimilar.specs.declared.related.Verdict.{Verdict}
 use Rattle.bisimilar.specs.declared.related.Verdict.the-variants.{Refused}
 
--- the answer, and the bytes
-pub record Outcome : Type 0 where
-  pub answer : Verdict
-  pub relation : List ℕ
-
-abbrev pub judged : Verdict → List ℕ → Outcome
-judged a store = record { answer = a; relation = store }
-
 -- the number of the check that failed and the bytes as they were, or yes or no and every byte zero
-abbrev pub judgedBy : ℕ → Bool → List ℕ → Outcome
-judgedBy zero b store = judged (verdict b) (replicate (length store) 0)
-judgedBy (suc r) b store = judged (Refused (suc r)) store
+abbrev pub judgedBy : ℕ → Bool → List ℕ → Outcome Verdict
+judgedBy zero b store = ends (verdict b) (replicate (length store) 0)
+judgedBy (suc r) b store = ends (Refused (suc r)) store
 
 -- two models handed in, classes, ε, ρ and the bytes lent for the relation
-abbrev pub bisimilarOutcome : Shape → Columns → Shape → Columns → List ℕ → List ℕ → Float → Float → List ℕ → Outcome
+abbrev pub bisimilarOutcome : Shape → Columns → Shape → Columns → List ℕ → List ℕ → Float → Float → List ℕ → Outcome Verdict
 bisimilarOutcome SL ML SR MR cl cr ε ρ store = judgedBy (bisimilarRefusal SL ML SR MR cl cr ε ρ (length store)) (bisimilar SL ML SR MR cl cr ε ρ) store

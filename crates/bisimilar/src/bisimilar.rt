@@ -16,7 +16,8 @@ ghost use Rattle.epsdelta_theory.specs.Refusal;
 ghost use Rattle.epsdelta_theory.specs.Bisimilar;
 ghost use Rattle.epsdelta.specs.declared.relation.Ended.the-variants.{Related, Refused};
 ghost use Rattle.bisimilar.specs.Related.{relatedOutcome};
-ghost use Rattle.bisimilar.specs.Outcome.{judged, bisimilarOutcome};
+ghost use Rattle.epsdelta.specs.Outcome.{ends};
+ghost use Rattle.bisimilar.specs.Outcome.{bisimilarOutcome};
 
 // Whether a model has no initial state.
 fn absent(initial: Initial) -> bool
@@ -65,8 +66,8 @@ fn conclude(
     t: StateId,
     relation: &mut [u8],
 ) -> Verdict
-    ensures { λ r. ⌜ ((n : ℕ) → ended ≡ Refused n → judged r (now (relation .exit)) ≡ judged (Verdict.Refused n) (now (relation .entry)))
-        × (ended ≡ Related → judged r (now (relation .exit)) ≡ judged (relatedOutcome «left_states» «right_states» (now (relation .entry)) (s .0) (t .0)) (replicate (length (now (relation .entry))) 0)) ⌝ }
+    ensures { λ r. ⌜ ((n : ℕ) → ended ≡ Refused n → ends r (now (relation .exit)) ≡ ends (Verdict.Refused n) (now (relation .entry)))
+        × (ended ≡ Related → ends r (now (relation .exit)) ≡ ends (relatedOutcome «left_states» «right_states» (now (relation .entry)) (s .0) (t .0)) (replicate (length (now (relation .entry))) 0)) ⌝ }
 {
     match ended {
         Ended::Refused(r) => Verdict::Refused(r),
@@ -98,7 +99,7 @@ pub fn epsdelta_bisimilar(
     rho: f64,
     relation: &mut [u8],
 ) -> Verdict
-    ensures { λ r. ⌜ judged r (now (relation .exit)) ≡ bisimilarOutcome left (columns (now («left_values» .entry)) (now («left_offsets» .entry)) (now («left_labels» .entry)) (now («left_targets» .entry)) (now («left_weights» .entry))) right (columns (now («right_values» .entry)) (now («right_offsets» .entry)) (now («right_labels» .entry)) (now («right_targets» .entry)) (now («right_weights» .entry))) (now («left_classes» .entry)) (now («right_classes» .entry)) epsilon rho (now (relation .entry)) ⌝ }
+    ensures { λ r. ⌜ ends r (now (relation .exit)) ≡ bisimilarOutcome left (columns (now («left_values» .entry)) (now («left_offsets» .entry)) (now («left_labels» .entry)) (now («left_targets» .entry)) (now («left_weights» .entry))) right (columns (now («right_values» .entry)) (now («right_offsets» .entry)) (now («right_labels» .entry)) (now («right_targets» .entry)) (now («right_weights» .entry))) (now («left_classes» .entry)) (now («right_classes» .entry)) epsilon rho (now (relation .entry)) ⌝ }
 {
     let first = left.initial;
     let second = right.initial;

@@ -13,7 +13,7 @@ use Rattle.epsdelta_theory.specs.Epsdelta.{Given, ratesClose, givenRows, epsdel
 use Rattle.epsdelta_theory.specs.Refusal.{tolerancesOutside}
 use Rattle.epsdelta_theory.specs.Claim.{final}
 use Rattle.card_layout.specs.Card.{Transition, Side, Card}
-use Rattle.card_layout.specs.Lists.{sourceOf, labelOf, targetOf, weightOf}
+use Rattle.card_layout.specs.Lists.{weightOf}
 use Rattle.card_report.specs.Report.{report}
 use Rattle.card_relation.specs.Relating.{parts, textOf}
 
@@ -21,7 +21,7 @@ use Rattle.card_relation.specs.Relating.{parts, textOf}
 
 -- the transitions given
 abbrev pub givenOf : Side → Transitions
-givenOf s = transitions (map sourceOf (s .transitions)) (map labelOf (s .transitions)) (map targetOf (s .transitions)) (map weightOf (s .transitions))
+givenOf s = transitions (map (λ (m : Transition). m .source) (s .transitions)) (map (λ (m : Transition). m .label) (s .transitions)) (map (λ (m : Transition). m .target) (s .transitions)) (map weightOf (s .transitions))
 
 -- what `build` makes of them
 abbrev pub edgesOf : Side → List Edge

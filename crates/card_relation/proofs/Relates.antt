@@ -72,13 +72,13 @@ told (Refused n) = suc n
 module _ (rel store : List ℕ) (R : List Bool) where
   related-case : (n : ℕ) → ends Related rel ≡ settled n store R → (n ≡ 0) × (rel ≡ over (packed R) store)
   unfolding told
-  related-case zero e = (refl, ap (λ (o : Outcome). o .relation) e)
-  related-case (suc n) e = absurd (let z = ap (λ (o : Outcome). told (o .answer)) e in omega arith)
+  related-case zero e = (refl, ap (λ (o : Outcome Ended). o .relation) e)
+  related-case (suc n) e = absurd (let z = ap (λ (o : Outcome Ended). told (o .answer)) e in omega arith)
 
   refused-case : (m n : ℕ) (text : List ℕ) → ends (Refused m) rel ≡ settled n store R → refusalLine m ≡ textOf n text
   unfolding told
-  refused-case m zero text e = absurd (let z = ap (λ (o : Outcome). told (o .answer)) e in omega arith)
-  refused-case m (suc n) text e = let z = ap (λ (o : Outcome). told (o .answer)) e in let f : m ≡ suc n = omega arith in ap refusalLine f
+  refused-case m zero text e = absurd (let z = ap (λ (o : Outcome Ended). told (o .answer)) e in omega arith)
+  refused-case m (suc n) text e = let z = ap (λ (o : Outcome Ended). told (o .answer)) e in let f : m ≡ suc n = omega arith in ap refusalLine f
 
 module _ (l r n : ℕ) (rel store : List ℕ) (R : List Bool) (out out′ : List ℕ) (t : Text) where
   pub finish-related : l ≤ 32 → r ≤ 32 → 512 ≤ length rel → mostReport ≤ length out → ends Related rel ≡ settled n store R → length R ≡ (l + r) * (l + r)

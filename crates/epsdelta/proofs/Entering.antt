@@ -35,6 +35,7 @@ use Rattle.epsdelta_sweeps.specs.Rows.{entries, rowsIn, rowStands}
 use Rattle.epsdelta_sweeps.proofs.Reading.{held-rows}
 use Rattle.flow_links.specs.Fits.{rowFits}
 use Rattle.epsdelta.specs.Outcome.{Outcome, settled, outcomeUnless, outcome}
+use Rattle.epsdelta.specs.declared.relation.Ended.{Ended}
 
 -- ---- the checks of both models come first
 
@@ -166,7 +167,7 @@ module _ (SL : Shape) (ML : Columns) (SR : Shape) (MR : Columns) (E₀ : List Fl
   pub rows-are : n ≡ 0 → SL .states + SR .states ≤ 2000 → rowsIn (SL .states + SR .states) E S T' P ≡ union (model SL ML) (model SR MR)
   rows-are z few = held-rows (held z few) total
 
-  pub done : (fails8 : Bool) (cl cr : List ℕ) (ε ρ : Float) (store : List ℕ) {x : Outcome}
+  pub done : (fails8 : Bool) (cl cr : List ℕ) (ε ρ : Float) (store : List ℕ) {x : Outcome Ended}
       → x ≡ settled (first n (laterRefusal fails8 (tolerancesOutside ε ρ) (SL .states) (SR .states) (length cl) (length cr) (length store))) store
       ((epsdelta (givenRows (union (model SL ML) (model SR MR)) (take (SL .states) cl ++ take (SR .states) cr) ε ρ)) .relation)
       → x ≡ outcomeUnless fails8 SL ML SR MR cl cr ε ρ store
@@ -176,6 +177,6 @@ module _ (SL : Shape) (ML : Columns) (SR : Shape) (MR : Columns) (E₀ : List Fl
       e ∙ ap (λ (k : ℕ). settled k store ((epsdelta (given SL ML SR MR cl cr ε ρ)) .relation)) (ap (λ (k : ℕ). first k later) number ∙ sym (refusal-split SL ML SR MR fails8 (tolerancesOutside ε ρ) cl cr (length store)))
 
 -- without a need of initial states
-pub plain : (SL : Shape) (ML : Columns) (SR : Shape) (MR : Columns) (cl cr : List ℕ) (ε ρ : Float) (store : List ℕ) {o : Outcome} → o ≡ outcomeUnless false SL ML SR MR cl cr ε ρ store → o ≡ outcome SL ML SR MR cl cr ε ρ store
+pub plain : (SL : Shape) (ML : Columns) (SR : Shape) (MR : Columns) (cl cr : List ℕ) (ε ρ : Float) (store : List ℕ) {o : Outcome Ended} → o ≡ outcomeUnless false SL ML SR MR cl cr ε ρ store → o ≡ outcome SL ML SR MR cl cr ε ρ store
 unfolding epsdeltaRefusal
 plain SL ML SR MR cl cr ε ρ store e = e

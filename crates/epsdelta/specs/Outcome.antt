@@ -13,23 +13,23 @@ use Rattle.epsdelta_theory.specs.Epsdelta.{given, epsdelta}
 use Rattle.epsdelta.specs.declared.relation.Ended.{Ended}
 use Rattle.epsdelta.specs.declared.relation.Ended.the-variants.{Related, Refused}
 
--- the answer, and the bytes
-pub record Outcome : Type 0 where
-  pub answer : Ended
+-- the answer of an entry, and the bytes
+pub record Outcome (A : Type 0) : Type 0 where
+  pub answer : A
   pub relation : List ℕ
 
-abbrev pub ends : Ended → List ℕ → Outcome
+abbrev pub ends : {A : Type 0} → A → List ℕ → Outcome A
 ends a store = record { answer = a; relation = store }
 
 -- the final relation over the first bytes, or the number of the check that failed and the bytes as they were
-abbrev pub settled : ℕ → List ℕ → List Bool → Outcome
+abbrev pub settled : ℕ → List ℕ → List Bool → Outcome Ended
 settled zero store R = ends Related (over (packed R) store)
 settled (suc r) store R = ends (Refused (suc r)) store
 
 -- whether 8 fails, two models handed in, classes, ε, ρ and the bytes lent for the relation
-abbrev pub outcomeUnless : Bool → Shape → Columns → Shape → Columns → List ℕ → List ℕ → Float → Float → List ℕ → Outcome
+abbrev pub outcomeUnless : Bool → Shape → Columns → Shape → Columns → List ℕ → List ℕ → Float → Float → List ℕ → Outcome Ended
 outcomeUnless fails8 SL ML SR MR cl cr ε ρ store = settled (relationRefusal fails8 (tolerancesOutside ε ρ) SL ML SR MR cl cr (length store)) store ((epsdelta (given SL ML SR MR cl cr ε ρ)) .relation)
 
 -- `epsdelta` asks for no initial state
-abbrev pub outcome : Shape → Columns → Shape → Columns → List ℕ → List ℕ → Float → Float → List ℕ → Outcome
+abbrev pub outcome : Shape → Columns → Shape → Columns → List ℕ → List ℕ → Float → Float → List ℕ → Outcome Ended
 outcome SL ML SR MR cl cr ε ρ store = settled (epsdeltaRefusal SL ML SR MR cl cr ε ρ (length store)) store ((epsdelta (given SL ML SR MR cl cr ε ρ)) .relation)

@@ -1,7 +1,7 @@
 -- What `new` makes, and what `add_edge` makes of a network where it adds the link, is a network that the check accepts, for any two nodes as source and sink where no infinite capacity leaves the source.
 use mathlib.Core.Path.{_≡_, refl, sym, ap, _∙_}
 use mathlib.Core.Logic.{_≢_, _⊎_, inl, inr}
-use mathlib.Core.Bool.{Bool, true, false, _&&_, not, false≢true}
+use mathlib.Core.Bool.{Bool, true, false, cond, _&&_, not, false≢true}
 use Prim.Native.Nat.{ℕ, zero, suc, _+_, _*_, _/_, _%_, _≤_, _<_}
 use mathlib.Core.List.{List, [], map}
 use native.Mathlib.Omega.{arith}
@@ -23,7 +23,7 @@ use Rattle.flow_check.proofs.Accepting.{is-infinite, indexable}
 use Rattle.flow_check.proofs.Laying.{list-length}
 use Rattle.flow.specs.declared.network.Link.{Link}
 use Rattle.flow.specs.declared.network.FlowNetwork.{FlowNetwork}
-use Rattle.flow.specs.Network.{headsOf, capsOf, costsOf, made, withLink, fitsOn, addable, grown, addedIf, added}
+use Rattle.flow.specs.Network.{headsOf, capsOf, costsOf, made, withLink, fitsOn, addable, grown, leaves, added}
 use Rattle.flow.proofs.Grows.{EdgeFit, edge-fit, net-fit, row-before, row-forth, row-back, row-size, listed}
 
 -- does the check accept the network
@@ -181,7 +181,7 @@ module _ (N : FlowNetwork) (whole : length (N .links) ≡ 2176) (from to : ℕ) 
   pub added-accepted : (s t : ℕ) → added N from to cap cost .refused ≡ 0 → s < n → t < n → s ≢ t → FiniteFrom s (added N from to cap cost .net) → acceptsOn (added N from to cap cost .net) s t ≡ true
   added-accepted s t z a b d = pick (addable N from to cap cost) refl z
     where
-      pick : (y : Bool) → addable N from to cap cost ≡ y → addedIf y N ls .refused ≡ 0 → FiniteFrom s (addedIf y N ls .net) → acceptsOn (addedIf y N ls .net) s t ≡ true
+      pick : (y : Bool) → addable N from to cap cost ≡ y → (cond y (leaves 0 (grown N ls)) (leaves 15 N)) .refused ≡ 0 → FiniteFrom s ((cond y (leaves 0 (grown N ls)) (leaves 15 N)) .net) → acceptsOn ((cond y (leaves 0 (grown N ls)) (leaves 15 N)) .net) s t ≡ true
       pick true q r finite =
           let (few, o) = and-t (leb (N .count) 2174) _ q in
           let (E, F) = and-t (edgeFits n from to cap cost) _ o in

@@ -1,7 +1,7 @@
 -- A network of links: its heads, capacities and costs, and what `new`, `add_edge` and `max_flow` make of it.
 use Prim.Native.Nat.{ℕ, _+_}
 use mathlib.Core.List.{List, [], _∷_, map}
-use mathlib.Core.Bool.{Bool, true, false, _&&_}
+use mathlib.Core.Bool.{Bool, true, false, cond, _&&_}
 use lib.Dec.{leb}
 use lib.ListN.{take, set, replicate}
 use lib.Ieee.{Float, neg}
@@ -61,13 +61,13 @@ flowThrough N source sink = flowIf (leb (N .count) 2176) N source sink
 abbrev pub bare : ℕ → FlowNetwork
 bare n = record { links = replicate 2176 (record { head = 0; cap = nought; cost = nought }); count = 0; nodes = n; starts = replicate 67 0; list = replicate 2176 0 }
 
--- over 66 nodes are turned back with 15, and the network then has none
-abbrev pub madeIf : Bool → ℕ → Made
-madeIf true n = record { refused = 0; net = bare n }
-madeIf false n = record { refused = 15; net = bare 0 }
+-- how making a network or adding a link ends: the number of the refusal, and the network that it leaves
+abbrev pub leaves : ℕ → FlowNetwork → Made
+leaves r N = record { refused = r; net = N }
 
+-- over 66 nodes are turned back with 15, and the network then has none
 abbrev pub made : ℕ → Made
-made n = madeIf (leb n 66) n
+made n = cond (leb n 66) (leaves 0 (bare n)) (leaves 15 (bare 0))
 
 -- ---- adding a link
 
@@ -89,14 +89,6 @@ grown N ls =
     let H = headsOf (N .count + 2) ls in
     record { links = ls; count = N .count + 2; nodes = N .nodes; starts = over (startsOf H (N .nodes)) (N .starts); list = over (listOf H (N .nodes)) (N .list) }
 
--- how adding a link ends: the number of the refusal, and the network that it leaves
-abbrev pub leaves : ℕ → FlowNetwork → Made
-leaves r N = record { refused = r; net = N }
-
-abbrev pub addedIf : Bool → FlowNetwork → List Link → Made
-addedIf true N ls = leaves 0 (grown N ls)
-addedIf false N ls = leaves 15 N
-
 -- the network with one more link and its reverse; a refusal, 15, leaves it as it was
 abbrev pub added : FlowNetwork → ℕ → ℕ → Float → Float → Made
-added N from to cap cost = addedIf (addable N from to cap cost) N (withLink (N .links) (N .count) from to cap cost)
+added N from to cap cost = cond (addable N from to cap cost) (leaves 0 (grown N (withLink (N .links) (N .count) from to cap cost))) (leaves 15 N)

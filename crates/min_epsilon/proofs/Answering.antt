@@ -14,10 +14,11 @@ use Rattle.epsdelta_theory.specs.MinEpsilon.{Search, alikeAt, minEpsilon}
 use Rattle.epsdelta_theory.proofs.MinEpsilon.{one-valid, refused-alike, search-none, belowOne, below-one}
 use Rattle.bisimilar.specs.declared.related.Verdict.{Verdict}
 use Rattle.bisimilar.specs.declared.related.Verdict.the-variants.{Related, Unrelated, Refused}
-use Rattle.bisimilar.specs.Outcome.{Outcome, judged, judgedBy, bisimilarOutcome}
+use Rattle.epsdelta.specs.Outcome.{Outcome, ends}
+use Rattle.bisimilar.specs.Outcome.{judgedBy, bisimilarOutcome}
 use Rattle.min_epsilon.specs.declared.least.Least.{Least}
 use Rattle.min_epsilon.specs.declared.least.Least.the-variants as least
-use Rattle.min_epsilon.specs.Outcome.{ends, found, settled, outcome}
+use Rattle.min_epsilon.specs.Outcome.{found, settled, outcome}
 use Rattle.min_epsilon.proofs.Runs.{zero-length, zero-again}
 
 -- ---- an answer
@@ -29,25 +30,25 @@ pub record Judged (n : ℕ) (says b : Bool) (out store : List ℕ) : Type 0 wher
   pub cleared : out ≡ replicate (length store) 0
 
 module _ (store out : List ℕ) (v : Verdict) where
-  pub judged-related : (n : ℕ) (b : Bool) → judged v out ≡ judgedBy n b store → v ≡ Related → Judged n true b out store
-  judged-related zero true e t = record { unrefused = refl; said = refl; cleared = ap (λ (x : Outcome). x .relation) e }
-  judged-related zero false e t = let f = ap (λ (x : Outcome). x .answer) e in absurd (let z : _≡_ {A = ℕ} 0 1 = cc in let y : ⊥ = omega arith in y)
-  judged-related (suc n) b e t = let f = ap (λ (x : Outcome). x .answer) e in absurd (let z : _≡_ {A = ℕ} 0 1 = cc in let y : ⊥ = omega arith in y)
+  pub judged-related : (n : ℕ) (b : Bool) → ends v out ≡ judgedBy n b store → v ≡ Related → Judged n true b out store
+  judged-related zero true e t = record { unrefused = refl; said = refl; cleared = ap (λ (x : Outcome Verdict). x .relation) e }
+  judged-related zero false e t = let f = ap (λ (x : Outcome Verdict). x .answer) e in absurd (let z : _≡_ {A = ℕ} 0 1 = cc in let y : ⊥ = omega arith in y)
+  judged-related (suc n) b e t = let f = ap (λ (x : Outcome Verdict). x .answer) e in absurd (let z : _≡_ {A = ℕ} 0 1 = cc in let y : ⊥ = omega arith in y)
 
-  pub judged-unrelated : (n : ℕ) (b : Bool) → judged v out ≡ judgedBy n b store → v ≡ Unrelated → Judged n false b out store
-  judged-unrelated zero true e t = let f = ap (λ (x : Outcome). x .answer) e in absurd (let z : _≡_ {A = ℕ} 0 1 = cc in let y : ⊥ = omega arith in y)
-  judged-unrelated zero false e t = record { unrefused = refl; said = refl; cleared = ap (λ (x : Outcome). x .relation) e }
-  judged-unrelated (suc n) b e t = let f = ap (λ (x : Outcome). x .answer) e in absurd (let z : _≡_ {A = ℕ} 0 1 = cc in let y : ⊥ = omega arith in y)
+  pub judged-unrelated : (n : ℕ) (b : Bool) → ends v out ≡ judgedBy n b store → v ≡ Unrelated → Judged n false b out store
+  judged-unrelated zero true e t = let f = ap (λ (x : Outcome Verdict). x .answer) e in absurd (let z : _≡_ {A = ℕ} 0 1 = cc in let y : ⊥ = omega arith in y)
+  judged-unrelated zero false e t = record { unrefused = refl; said = refl; cleared = ap (λ (x : Outcome Verdict). x .relation) e }
+  judged-unrelated (suc n) b e t = let f = ap (λ (x : Outcome Verdict). x .answer) e in absurd (let z : _≡_ {A = ℕ} 0 1 = cc in let y : ⊥ = omega arith in y)
 
   -- the number, and the bytes as they were
-  pub judged-refused : (n : ℕ) (b : Bool) (r : ℕ) (x : Search) → judged v out ≡ judgedBy n b store → v ≡ Refused r → ends (least.Refused r) out ≡ settled n store x
-  judged-refused zero true r x e t = let f = ap (λ (x : Outcome). x .answer) e in absurd (let z : _≡_ {A = ℕ} 0 1 = cc in let y : ⊥ = omega arith in y)
-  judged-refused zero false r x e t = let f = ap (λ (x : Outcome). x .answer) e in absurd (let z : _≡_ {A = ℕ} 0 1 = cc in let y : ⊥ = omega arith in y)
-  judged-refused (suc n) b r x e t = let f = ap (λ (x : Outcome). x .answer) e in let g = ap (λ (x : Outcome). x .relation) e in cc
+  pub judged-refused : (n : ℕ) (b : Bool) (r : ℕ) (x : Search) → ends v out ≡ judgedBy n b store → v ≡ Refused r → ends (least.Refused r) out ≡ settled n store x
+  judged-refused zero true r x e t = let f = ap (λ (x : Outcome Verdict). x .answer) e in absurd (let z : _≡_ {A = ℕ} 0 1 = cc in let y : ⊥ = omega arith in y)
+  judged-refused zero false r x e t = let f = ap (λ (x : Outcome Verdict). x .answer) e in absurd (let z : _≡_ {A = ℕ} 0 1 = cc in let y : ⊥ = omega arith in y)
+  judged-refused (suc n) b r x e t = let f = ap (λ (x : Outcome Verdict). x .answer) e in let g = ap (λ (x : Outcome Verdict). x .relation) e in cc
 
-  pub judged-not-refused : (n : ℕ) (b : Bool) (r : ℕ) → judged v out ≡ judgedBy n b store → n ≡ 0 → v ≡ Refused r → ⊥
-  judged-not-refused zero true r e z t = let f = ap (λ (x : Outcome). x .answer) e in let y : _≡_ {A = ℕ} 0 1 = cc in omega arith
-  judged-not-refused zero false r e z t = let f = ap (λ (x : Outcome). x .answer) e in let y : _≡_ {A = ℕ} 0 1 = cc in omega arith
+  pub judged-not-refused : (n : ℕ) (b : Bool) (r : ℕ) → ends v out ≡ judgedBy n b store → n ≡ 0 → v ≡ Refused r → ⊥
+  judged-not-refused zero true r e z t = let f = ap (λ (x : Outcome Verdict). x .answer) e in let y : _≡_ {A = ℕ} 0 1 = cc in omega arith
+  judged-not-refused zero false r e z t = let f = ap (λ (x : Outcome Verdict). x .answer) e in let y : _≡_ {A = ℕ} 0 1 = cc in omega arith
   judged-not-refused (suc n) b r e z t = omega arith
 
 -- ---- by the answer at ε = 1
@@ -60,11 +61,11 @@ module _ (SL : Shape) (ML : Columns) (SR : Shape) (MR : Columns) (cl cr : List �
   refusal = minEpsilonRefusal SL ML SR MR cl cr ρ (length store)
 
   -- the refusal at ε = 1 is that of `min_epsilon`
-  at-one : (out : List ℕ) (v : Verdict) → judged v out ≡ bisimilarOutcome SL ML SR MR cl cr one ρ store → judged v out ≡ judgedBy refusal (alike one) store
+  at-one : (out : List ℕ) (v : Verdict) → ends v out ≡ bisimilarOutcome SL ML SR MR cl cr one ρ store → ends v out ≡ judgedBy refusal (alike one) store
   unfolding alike refusal
   at-one out v e = e ∙ ap (λ (n : ℕ). judgedBy n (alikeAt SL ML SR MR cl cr ρ one) store) (refused-alike SL ML SR MR cl cr one ρ (length store) one-valid)
 
-  module _ (out : List ℕ) (v : Verdict) (e : judged v out ≡ bisimilarOutcome SL ML SR MR cl cr one ρ store) where
+  module _ (out : List ℕ) (v : Verdict) (e : ends v out ≡ bisimilarOutcome SL ML SR MR cl cr one ρ store) where
     -- it holds there: what comes next is not refused
     pub next-allowed : v ≡ Related → minEpsilonRefusal SL ML SR MR cl cr ρ (length out) ≡ 0
     unfolding refusal

@@ -8,16 +8,9 @@ use Rattle.bisim_core.specs.declared.wlts.Shape.{Shape}
 use Rattle.epsdelta_theory.specs.Refusal.{minEpsilonRefusal}
 use Rattle.epsdelta_theory.specs.MinEpsilon.{Search, minEpsilon}
 use Rattle.epsdelta_theory.specs.MinEpsilon as search
+use Rattle.epsdelta.specs.Outcome.{Outcome, ends}
 use Rattle.min_epsilon.specs.declared.least.Least.{Least}
 use Rattle.min_epsilon.specs.declared.least.Least.the-variants.{At, Absent, Refused}
-
--- the answer, and the bytes
-pub record Outcome : Type 0 where
-  pub answer : Least
-  pub relation : List ℕ
-
-abbrev pub ends : Least → List ℕ → Outcome
-ends a store = record { answer = a; relation = store }
 
 -- what the search found
 abbrev pub found : search.Least → Least
@@ -25,10 +18,10 @@ found (search.at ε) = At ε
 found search.none = Absent
 
 -- what the search found and every byte zero, or the number of the check that failed and the bytes as they were
-abbrev pub settled : ℕ → List ℕ → Search → Outcome
+abbrev pub settled : ℕ → List ℕ → Search → Outcome Least
 settled zero store x = ends (found (x .least)) (replicate (length store) 0)
 settled (suc r) store x = ends (Refused (suc r)) store
 
 -- two models handed in, classes, ρ and the bytes lent for the relation
-abbrev pub outcome : Shape → Columns → Shape → Columns → List ℕ → List ℕ → Float → List ℕ → Outcome
+abbrev pub outcome : Shape → Columns → Shape → Columns → List ℕ → List ℕ → Float → List ℕ → Outcome Least
 outcome SL ML SR MR cl cr ρ store = settled (minEpsilonRefusal SL ML SR MR cl cr ρ (length store)) store (minEpsilon SL ML SR MR cl cr ρ)

@@ -15,8 +15,9 @@ ghost use Rattle.epsdelta_theory.specs.Refusal.{bisimilarRefusal, minEpsilonRef
 ghost use Rattle.epsdelta_theory.specs.MinEpsilon.{alikeAt, minEpsilon, Searched};
 ghost use Rattle.epsdelta_theory.proofs.MinEpsilon.{belowOne};
 ghost use Rattle.bisimilar.specs.declared.related.Verdict.the-variants.{Related};
-ghost use Rattle.bisimilar.specs.Outcome.{judged, bisimilarOutcome};
-ghost use Rattle.min_epsilon.specs.Outcome.{ends, outcome};
+ghost use Rattle.epsdelta.specs.Outcome.{ends};
+ghost use Rattle.bisimilar.specs.Outcome.{bisimilarOutcome};
+ghost use Rattle.min_epsilon.specs.Outcome.{outcome};
 
 // The least ε found, none, or the number of the first check that fails.
 pub enum Least {
@@ -213,7 +214,7 @@ fn after_one(
     relation: &mut [u8],
 ) -> Least
     requires { ⌜ (first ≡ Related → minEpsilonRefusal left (columns (now «left_values») (now «left_offsets») (now «left_labels») (now «left_targets») (now «left_weights»)) right (columns (now «right_values») (now «right_offsets») (now «right_labels») (now «right_targets») (now «right_weights»)) (now «left_classes») (now «right_classes») rho (length (now relation)) ≡ 0) ⌝ }
-    ensures { λ r. ⌜ ((store : List ℕ) → judged first (now (relation .entry)) ≡ bisimilarOutcome left (columns (now («left_values» .entry)) (now («left_offsets» .entry)) (now («left_labels» .entry)) (now («left_targets» .entry)) (now («left_weights» .entry))) right (columns (now («right_values» .entry)) (now («right_offsets» .entry)) (now («right_labels» .entry)) (now («right_targets» .entry)) (now («right_weights» .entry))) (now («left_classes» .entry)) (now («right_classes» .entry)) one rho store → ends r (now (relation .exit)) ≡ outcome left (columns (now («left_values» .entry)) (now («left_offsets» .entry)) (now («left_labels» .entry)) (now («left_targets» .entry)) (now («left_weights» .entry))) right (columns (now («right_values» .entry)) (now («right_offsets» .entry)) (now («right_labels» .entry)) (now («right_targets» .entry)) (now («right_weights» .entry))) (now («left_classes» .entry)) (now («right_classes» .entry)) rho store) ⌝ }
+    ensures { λ r. ⌜ ((store : List ℕ) → ends first (now (relation .entry)) ≡ bisimilarOutcome left (columns (now («left_values» .entry)) (now («left_offsets» .entry)) (now («left_labels» .entry)) (now («left_targets» .entry)) (now («left_weights» .entry))) right (columns (now («right_values» .entry)) (now («right_offsets» .entry)) (now («right_labels» .entry)) (now («right_targets» .entry)) (now («right_weights» .entry))) (now («left_classes» .entry)) (now («right_classes» .entry)) one rho store → ends r (now (relation .exit)) ≡ outcome left (columns (now («left_values» .entry)) (now («left_offsets» .entry)) (now («left_labels» .entry)) (now («left_targets» .entry)) (now («left_weights» .entry))) right (columns (now («right_values» .entry)) (now («right_offsets» .entry)) (now («right_labels» .entry)) (now («right_targets» .entry)) (now («right_weights» .entry))) (now («left_classes» .entry)) (now («right_classes» .entry)) rho store) ⌝ }
 {
     match first {
         Verdict::Related => Least::At(below_one(

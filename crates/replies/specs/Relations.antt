@@ -7,10 +7,8 @@ use Rattle.epsdelta.specs.declared.relation.Ended.the-variants as ended
 use Rattle.epsdelta.specs.Outcome as epsdelta
 use Rattle.bisimilar.specs.declared.related.Verdict.{Verdict}
 use Rattle.bisimilar.specs.declared.related.Verdict.the-variants as verdict
-use Rattle.bisimilar.specs.Outcome as bisimilar
 use Rattle.min_epsilon.specs.declared.least.Least.{Least}
 use Rattle.min_epsilon.specs.declared.least.Least.the-variants as least
-use Rattle.min_epsilon.specs.Outcome as least-epsilon
 
 -- 0, or the refusal's number
 abbrev pub ofEnded : Ended → ℕ
@@ -49,13 +47,13 @@ abbrev pub leaves : {A : Type 0} → A → List ℕ → Left A
 leaves x store = record { told = x; relation = store }
 
 -- the answer of `epsdelta`, and the bytes as it leaves them
-abbrev pub answered : epsdelta.Outcome → Left ℕ
+abbrev pub answered : epsdelta.Outcome Ended → Left ℕ
 answered o = leaves (ofEnded (o .answer)) (o .relation)
 
 -- the answer of `epsdelta_bisimilar`, and the bytes as it leaves them
-abbrev pub judged : bisimilar.Outcome → ℕ → Left (List ℕ)
+abbrev pub judged : epsdelta.Outcome Verdict → ℕ → Left (List ℕ)
 judged o x = leaves (ofVerdict (o .answer) x) (o .relation)
 
 -- the answer of `min_epsilon`, and the bytes as it leaves them
-abbrev pub searched : least-epsilon.Outcome → ℕ → Float → Left Sought
+abbrev pub searched : epsdelta.Outcome Least → ℕ → Float → Left Sought
 searched o x y = leaves (ofLeast (o .answer) x y) (o .relation)

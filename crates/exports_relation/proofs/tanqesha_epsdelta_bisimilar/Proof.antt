@@ -4,7 +4,9 @@ use mathlib.Core.List.{List}
 use Prim.Native.Nat.{ℕ}
 use Rattle.bisim_core.specs.Data.{columns}
 use Rattle.bisim_core.specs.declared.wlts.Shape.{Shape}
-use Rattle.bisimilar.specs.Outcome.{Outcome, bisimilarOutcome}
+use Rattle.epsdelta.specs.Outcome.{Outcome}
+use Rattle.bisimilar.specs.declared.related.Verdict.{Verdict}
+use Rattle.bisimilar.specs.Outcome.{bisimilarOutcome}
 use Rattle.replies.specs.Answers.{initial, shape}
 use Rattle.replies.specs.Relations.{leaves, judged}
 use Rattle.replies.proofs.Telling.{tells, tells-both}
@@ -43,7 +45,7 @@ returns c =
     let MR = columns (a .right-label-values .now) (a .right-offsets .now) (a .right-edge-labels .now) (a .right-edge-targets .now) (a .right-edge-weights .now) in
     let bytes = e .epsdelta-bisimilar .last .1 .1 .1 .1 .1 .1 .1 .1 .1 .1 .1 .1 .1 .1 .1 .1 .0 in
     tells-both
-    (λ (o : Outcome). judged o (a .related .now))
+    (λ (o : Outcome Verdict). judged o (a .related .now))
     (λ (x y : Shape). bisimilarOutcome x ML y MR (a .left-classes .now) (a .right-classes .now) (a .epsilon) (a .rho) (a .relation .now))
     _ _ (left .shape-from .result) (shape (a .left-states) (a .left-edges) (a .left-labels) (initial (a .left-present) (a .left-start))) (right .shape-from2 .result) (shape (a .right-states) (a .right-edges) (a .right-labels) (initial (a .right-present) (a .right-start)))
     (ap (λ (l : List ℕ). leaves l bytes) (c .put-verdict .ensures))

@@ -2,7 +2,9 @@
 use mathlib.Core.Path.{ap}
 use Rattle.bisim_core.specs.Data.{columns}
 use Rattle.bisim_core.specs.declared.wlts.Shape.{Shape}
-use Rattle.min_epsilon.specs.Outcome.{Outcome, outcome}
+use Rattle.epsdelta.specs.Outcome.{Outcome}
+use Rattle.min_epsilon.specs.declared.least.Least.{Least}
+use Rattle.min_epsilon.specs.Outcome.{outcome}
 use Rattle.replies.specs.Answers.{initial, shape}
 use Rattle.replies.specs.Relations.{Sought, leaves, searched}
 use Rattle.replies.proofs.Telling.{tells, tells-both}
@@ -41,7 +43,7 @@ returns c =
     let MR = columns (a .right-label-values .now) (a .right-offsets .now) (a .right-edge-labels .now) (a .right-edge-targets .now) (a .right-edge-weights .now) in
     let bytes = e .min-epsilon .last .1 .1 .1 .1 .1 .1 .1 .1 .1 .1 .1 .1 .1 .1 .1 .0 in
     tells-both
-    (λ (o : Outcome). searched o (a .present .now) (a .epsilon .now))
+    (λ (o : Outcome Least). searched o (a .present .now) (a .epsilon .now))
     (λ (x y : Shape). outcome x ML y MR (a .left-classes .now) (a .right-classes .now) (a .rho) (a .relation .now))
     _ _ (left .shape-from .result) (shape (a .left-states) (a .left-edges) (a .left-labels) (initial (a .left-present) (a .left-start))) (right .shape-from2 .result) (shape (a .right-states) (a .right-edges) (a .right-labels) (initial (a .right-present) (a .right-start)))
     (ap (λ (s : Sought). leaves s bytes) (c .put-least .ensures))
