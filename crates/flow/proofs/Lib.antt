@@ -6,3 +6,4 @@ pub mod Running
 pub mod Literals
 pub mod Entering
 pub mod Accepted
+pub mod Filling
