@@ -9,7 +9,7 @@ use lib.ListN.{length, take}
 use lib.Seq.{length-take-le}
 use borrow.Author.Tests.{le-leb, lt-ltb, lt-leb, eq-eqb}
 use Rattle.numbers.specs.Lists.{over, all}
-use Rattle.numbers.proofs.Bools.{t-of}
+use Rattle.numbers.proofs.Bools.{t-of, and-t}
 use Rattle.flow_theory.specs.Rows.{startsOf, listOf}
 use Rattle.flow_check.specs.Refusal.{sizesFit}
 use Rattle.flow.specs.declared.network.FlowNetwork.{FlowNetwork}
@@ -37,6 +37,15 @@ module _ (H : List ℕ) (caps costs n nodes : ℕ) where
 
   pub no-heads : length H < n → false ≡ rowsFit H caps costs n nodes
   no-heads a = rw (lt-leb n (length H) a)
+
+  pub fit-rows : rowsFit H caps costs n nodes ≡ true → (n ≤ 2176) × (n ≤ length H) × (n ≤ caps)
+  fit-rows e =
+      let (a, e₁) = and-t (leb n (length H)) _ e in
+      let (b, e₂) = and-t (leb n caps) _ e₁ in
+      let (_, e₃) = and-t (leb n costs) _ e₂ in
+      let (_, e₄) = and-t (leb nodes 66) _ e₃ in
+      let (f, _) = and-t (leb n 2176) _ e₄ in
+      (leb→le n 2176 (t-of f), leb→le n (length H) (t-of a), leb→le n caps (t-of b))
 
 -- the node lists that were lent, back in the network
 pub relists : (r : Bool) (N : FlowNetwork) (H : List ℕ) (nodes : ℕ) (st l : List ℕ) → st ≡ cond r (over (startsOf H nodes) (N .starts)) (N .starts) → l ≡ cond r (over (listOf H nodes) (N .list)) (N .list)

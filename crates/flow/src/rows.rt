@@ -8,7 +8,7 @@ ghost use Prim.Native.Nat.{_≤_};
 ghost use lib.ListN.{length, take};
 ghost use Rattle.numbers.specs.Lists.{over};
 ghost use Rattle.flow_theory.specs.Rows.{startsOf, listOf};
-ghost use Rattle.flow.specs.Filled.{stored, rowsFit, relistedIf};
+ghost use Rattle.flow.specs.Filled.{stored, rowsFit, relistedIf, filledIf};
 
 // Makes the node lists of the first n heads over the lent lists; false, and these as they were, if the rows, with so many capacities and costs, make no network.
 fn list_rows(
@@ -72,4 +72,22 @@ fn store_links(net: &mut FlowNetwork, heads: &[u32], caps: &[f64], n: usize, nod
     }
     net.count = n;
     net.nodes = nodes;
+}
+
+// Fills the network with the links of the rows and their node lists; false, and the network as it was, if the rows, with so many costs, make no network.
+fn fill(
+    net: &mut FlowNetwork,
+    heads: &[u32],
+    caps: &[f64],
+    costs: usize,
+    n: usize,
+    nodes: usize,
+) -> bool
+    ensures { λ r. ⌜ (r ≡ rowsFit (now (heads .entry)) (length (now (caps .entry))) costs n nodes) × (now (net .exit) ≡ filledIf r (now (net .entry)) (now (heads .entry)) (now (caps .entry)) n nodes) ⌝ }
+{
+    if list_links(net, heads, caps.len(), costs, n, nodes) {
+        store_links(net, heads, caps, n, nodes);
+        return true;
+    }
+    false
 }
