@@ -47,6 +47,16 @@ module _ (H : List ℕ) (caps costs n nodes : ℕ) where
       let (f, _) = and-t (leb n 2176) _ e₄ in
       (leb→le n 2176 (t-of f), leb→le n (length H) (t-of a), leb→le n caps (t-of b))
 
+  -- and a network of n links fits them
+  pub fit-network : rowsFit H caps costs n nodes ≡ true → (N : FlowNetwork) → N .count ≡ n → (N .count ≤ 2176) × (N .count ≤ length H) × (N .count ≤ caps) × (N .count ≤ costs)
+  fit-network e N k =
+      let (a, b, d) = fit-rows e in
+      let (_, e₁) = and-t (leb n (length H)) _ e in
+      let (_, e₂) = and-t (leb n caps) _ e₁ in
+      let (f, _) = and-t (leb n costs) _ e₂ in
+      let p = leb→le n costs (t-of f) in
+      (omega arith, omega arith, omega arith, omega arith)
+
 -- the node lists that were lent, back in the network
 pub relists : (r : Bool) (N : FlowNetwork) (H : List ℕ) (nodes : ℕ) (st l : List ℕ) → st ≡ cond r (over (startsOf H nodes) (N .starts)) (N .starts) → l ≡ cond r (over (listOf H nodes) (N .list)) (N .list)
     → record { links = N .links; count = N .count; nodes = N .nodes; starts = st; list = l } ≡ relistedIf r N H nodes

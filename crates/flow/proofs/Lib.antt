@@ -7,3 +7,4 @@ pub mod Literals
 pub mod Entering
 pub mod Accepted
 pub mod Filling
+pub mod Sharing

@@ -1,14 +1,17 @@
 // Links in rows of heads and capacities, put into a network that is lent, and the run on it.
+use crate::network;
 use crate::network::FlowNetwork;
 use crate::network::Link;
 use flow_check::check;
+use flow_core::rows::Answer;
 ghost use mathlib.Core.Path.{_≡_};
 ghost use mathlib.Core.Bool.{cond};
 ghost use Prim.Native.Nat.{_≤_};
 ghost use lib.ListN.{length, take};
 ghost use Rattle.numbers.specs.Lists.{over};
 ghost use Rattle.flow_theory.specs.Rows.{startsOf, listOf};
-ghost use Rattle.flow.specs.Filled.{stored, rowsFit, relistedIf, filledIf};
+ghost use Rattle.flow.specs.Network.{flown};
+ghost use Rattle.flow.specs.Filled.{stored, rowsFit, relistedIf, filledIf, flowRows};
 
 // Makes the node lists of the first n heads over the lent lists; false, and these as they were, if the rows, with so many capacities and costs, make no network.
 fn list_rows(
@@ -90,4 +93,23 @@ fn fill(
         return true;
     }
     false
+}
+
+// The maximum flow from source to sink on a network that is lent and filled with the links of the rows' first n places, two for each added link; the rows keep the capacities and the costs of the links.
+pub fn flow_rows(
+    net: &mut FlowNetwork,
+    heads: &mut [u32],
+    caps: &mut [f64],
+    costs: &mut [f64],
+    n: usize,
+    nodes: usize,
+    source: usize,
+    sink: usize,
+) -> Answer
+    ensures { λ r. ⌜ flown r (now (net .exit)) (now (heads .exit)) (now (caps .exit)) (now (costs .exit)) ≡ flowRows (now (net .entry)) (now (heads .entry)) (now (caps .entry)) (now (costs .entry)) n nodes source sink ⌝ }
+{
+    if fill(net, heads, caps, costs.len(), n, nodes) {
+        return network::max_flow_in(net, heads, caps, costs, source, sink);
+    }
+    Answer::Refused(15)
 }
