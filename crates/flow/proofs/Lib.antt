@@ -8,3 +8,5 @@ pub mod Entering
 pub mod Accepted
 pub mod Filling
 pub mod Sharing
+pub mod Laid
+pub mod FlowRows

@@ -46,15 +46,7 @@ fn list_links(
 ) -> bool
     ensures { λ r. ⌜ (r ≡ rowsFit (now (heads .entry)) caps costs n nodes) × (now (net .exit) ≡ relistedIf r (now (net .entry)) (take n (now (heads .entry))) nodes) ⌝ }
 {
-    list_rows(
-        heads,
-        caps,
-        costs,
-        n,
-        nodes,
-        &mut net.starts,
-        &mut net.list,
-    )
+    list_rows(heads, caps, costs, n, nodes, &mut net.starts, &mut net.list)
 }
 
 // Puts the first n heads and capacities over the network's first links; the links added cost 0, their reverses its negation.

@@ -209,142 +209,142 @@ module _ {M : Type 1} (𝓤 : URA M) (H : Heap 𝓤) (A : Atoms 𝓤) (W : Given
 
       tests : ent 𝓤 (⋆ 𝓤 H A At₂) (Wp 𝓤 H (𝓣 .C) (𝓣 .Λ) En pieces.t-4 (atReturn 𝓤 H En Post))
       tests =
-        qed W At₂ ∵ exec ! (𝓣 .C) (𝓣 .Λ) En pieces.t-4 (atRet En Post) $
-        first ! $
-        branches ! (load ! (from ! (stop !)) (look ! 13 refl))
-        (λ on.
-        assigns ! (addr ! (from ! (hop ! (look ! 7 refl) (stop !)))) (from ! (stop !)) (init ! 17 refl (tt, tt)) $
-        lft-new ! tt (λ α.
-        move ! (1 ∷ 2 ∷ []) $
-        use2 W (later (some (λ (δ : GName). ‵ (MutRef (named 0) (α ∷ []) N.the-row .own (record { ptr = (b, o); name = δ; now = h′ }) (vptr b o ∷ [])) ⊛ ‵ (LentAgain N.the-row κ (α ∷ []) q γ b o δ h′)))) (lends-again 𝓤 H A W N.the-row (named 0) κ (α ∷ []) q γ b o (named 0) h′) $
-        await ! tt $
-        pick ! (λ δ.
-        split ! $
-        nothing ! $
-        move ! (7 ∷ 0 ∷ []) $
-        join ! $
-        move ! (5 ∷ 0 ∷ []) $
-        join ! $
-        move ! (3 ∷ 0 ∷ []) $
-        join ! $
-        move ! (3 ∷ 4 ∷ []) $
-        join ! $
-        move ! (2 ∷ 0 ∷ []) $
-        join ! $
-        move ! (1 ∷ 0 ∷ []) $
-        join ! $
-        use1 W (raw (Stores 𝓤 H A at-mem run .pre (to-stores α δ h′))) (goes-stores α δ h′ (fit-rows hs (length cs) costs n nodes (sym (told .0) ∙ holds r on))) $
-        calls-at ! fm (Stores 𝓤 H A at-mem run) known₂ (to-stores α δ h′) (and-then ! (load ! (from ! (stop !)) (look ! 13 refl)) (and-then ! (load ! (from ! (stop !)) (look ! 4 refl)) (and-then ! (load ! (from ! (stop !)) (look ! 5 refl)) (and-then ! (load ! (from ! (stop !)) (look ! 7 refl)) (and-then ! (load ! (from ! (stop !)) (look ! 8 refl)) (no-more !)))))) (λ v.
-        use1 W (later (some (λ (u : Unit {0}). ((‵ (flft (α ∷ []) fullShare) ⊛ (‵ (flft κ₁ q₁) ⊛ (‵ (flft κ₂ q₂) ⊛ ‵ ftrue))) ⊛ ‵ (unit .own u (v ∷ []))) ⊛ raw (ensured 𝓤 H A stores.ended (stores.clauses 𝓤 H A at-mem run) (α ∷ [], (κ₁, (κ₂, tt))) (store-args δ h′) tt u)))) (id⊢ 𝓤 _) $
-        await ! tt $
-        pick ! (λ u.
-        split ! $
-        move ! (1 ∷ []) $
-        use1 W (some (λ (ws : Lasts₂). ‵ (lasts stores.ended (α ∷ [], (κ₁, (κ₂, tt))) (store-args δ h′) ws) ⊛ raw (fact 𝓤 (ws .0 ≡ stored h′ hs cs n nodes)))) (id⊢ 𝓤 _) $
-        pick ! (λ ws.
-        split ! $
-        move ! (1 ∷ []) $
-        heard ! (ws .0 ≡ stored h′ hs cs n nodes) (λ kept.
-        fsplit ! $
-        move ! (2 ∷ []) $
-        split ! $
-        split ! $
-        move ! (1 ∷ []) $
-        split ! $
-        move ! (1 ∷ []) $
-        split ! $
-        move ! (4 ∷ []) $
-        peeks ! unit (Is unit) (shows 𝓤 H A unit) u (v ∷ []) (λ is.
-        land ! (from ! (stop !)) (init ! 18 refl (nothing-lawful 𝓤 H A W .typed u (v ∷ []) is .0)) $
-        move ! (4 ∷ []) $
-        lft-end ! tt $
-        move ! (0 ∷ 7 ∷ 5 ∷ []) $
-        use3 W (later (‵ (net (ws .0)) ⊛ ‵ (flft κ q))) (comes-back 𝓤 H A W N.the-row (named 0) κ (α ∷ []) q γ b o δ h′ (ws .0)) $
-        await ! tt $
-        split ! $
-        assigns ! (of-opd ! (true-lit !)) (from ! (stop !)) (init ! 7 refl (tt, tt)) $
-        returns-within ! Post refl (look ! 7 refl) $
-        forget ! 7 refl $
-        forget ! 8 refl $
-        forget ! 9 refl $
-        forget ! 10 refl $
-        forget ! 11 refl $
-        forget ! 12 refl $
-        forget ! 13 refl $
-        forget ! 14 refl $
-        forget ! 15 refl $
-        forget ! 16 refl $
-        forget ! 17 refl $
-        forget ! 18 refl $
-        move ! (7 ∷ 19 ∷ []) $
-        free1 ! $
-        move ! (7 ∷ 18 ∷ []) $
-        free1 ! $
-        move ! (7 ∷ 17 ∷ []) $
-        free1 ! $
-        move ! (7 ∷ 16 ∷ []) $
-        free1 ! $
-        move ! (7 ∷ 15 ∷ []) $
-        free1 ! $
-        move ! (7 ∷ 14 ∷ []) $
-        free1 ! $
-        move ! (7 ∷ 13 ∷ []) $
-        free1 ! $
-        move ! (7 ∷ 12 ∷ []) $
-        free1 ! $
-        move ! (7 ∷ 11 ∷ []) $
-        free1 ! $
-        move ! (7 ∷ 10 ∷ []) $
-        free1 ! $
-        move ! (7 ∷ 9 ∷ []) $
-        free1 ! $
-        move ! (7 ∷ 8 ∷ []) $
-        free1 ! $
-        free0 ! $
-        keep ! (0 ∷ 1 ∷ 5 ∷ 3 ∷ []) $
-        by ! (exits true (ws .0) (sym (holds r on) ∙ told .0) (kept ∙ ap (λ (x : FlowNetwork). stored x hs cs n nodes) (told .1 ∙ ap (λ (y : Bool). relistedIf y h (take n hs) nodes) (holds r on))))))))))))
-        (λ off.
-        skips ! $
-        exec ! (𝓣 .C) (𝓣 .Λ) En pieces.t-5 (atRet En Post) $
-        assigns ! (of-opd ! (false-lit !)) (from ! (stop !)) (init ! 6 refl (tt, tt)) $
-        returns ! (look ! 6 refl) $
-        forget ! 6 refl $
-        forget ! 7 refl $
-        forget ! 8 refl $
-        forget ! 9 refl $
-        forget ! 10 refl $
-        forget ! 11 refl $
-        forget ! 12 refl $
-        forget ! 13 refl $
-        forget ! 14 refl $
-        forget ! 15 refl $
-        move ! (6 ∷ 18 ∷ []) $
-        free1 ! $
-        move ! (6 ∷ 17 ∷ []) $
-        free1 ! $
-        move ! (6 ∷ 16 ∷ []) $
-        free1 ! $
-        move ! (6 ∷ 15 ∷ []) $
-        free1 ! $
-        move ! (6 ∷ 14 ∷ []) $
-        free1 ! $
-        move ! (6 ∷ 13 ∷ []) $
-        free1 ! $
-        move ! (6 ∷ 12 ∷ []) $
-        free1 ! $
-        move ! (6 ∷ 11 ∷ []) $
-        free1 ! $
-        move ! (6 ∷ 10 ∷ []) $
-        free1 ! $
-        move ! (6 ∷ 9 ∷ []) $
-        free1 ! $
-        move ! (6 ∷ 8 ∷ []) $
-        free1 ! $
-        move ! (6 ∷ 7 ∷ []) $
-        free1 ! $
-        free0 ! $
-        keep ! (0 ∷ 1 ∷ 3 ∷ 5 ∷ []) $
-        by ! (exits false h′ (sym (fails r off) ∙ told .0) (told .1 ∙ ap (λ (y : Bool). relistedIf y h (take n hs) nodes) (fails r off))))
+          qed W At₂ ∵ exec ! (𝓣 .C) (𝓣 .Λ) En pieces.t-4 (atRet En Post) $
+          first ! $
+          branches ! (load ! (from ! (stop !)) (look ! 13 refl))
+          (λ on.
+          assigns ! (addr ! (from ! (hop ! (look ! 7 refl) (stop !)))) (from ! (stop !)) (init ! 17 refl (tt, tt)) $
+          lft-new ! tt (λ α.
+          move ! (1 ∷ 2 ∷ []) $
+          use2 W (later (some (λ (δ : GName). ‵ (MutRef (named 0) (α ∷ []) N.the-row .own (record { ptr = (b, o); name = δ; now = h′ }) (vptr b o ∷ [])) ⊛ ‵ (LentAgain N.the-row κ (α ∷ []) q γ b o δ h′)))) (lends-again 𝓤 H A W N.the-row (named 0) κ (α ∷ []) q γ b o (named 0) h′) $
+          await ! tt $
+          pick ! (λ δ.
+          split ! $
+          nothing ! $
+          move ! (7 ∷ 0 ∷ []) $
+          join ! $
+          move ! (5 ∷ 0 ∷ []) $
+          join ! $
+          move ! (3 ∷ 0 ∷ []) $
+          join ! $
+          move ! (3 ∷ 4 ∷ []) $
+          join ! $
+          move ! (2 ∷ 0 ∷ []) $
+          join ! $
+          move ! (1 ∷ 0 ∷ []) $
+          join ! $
+          use1 W (raw (Stores 𝓤 H A at-mem run .pre (to-stores α δ h′))) (goes-stores α δ h′ (fit-rows hs (length cs) costs n nodes (sym (told .0) ∙ holds r on))) $
+          calls-at ! fm (Stores 𝓤 H A at-mem run) known₂ (to-stores α δ h′) (and-then ! (load ! (from ! (stop !)) (look ! 13 refl)) (and-then ! (load ! (from ! (stop !)) (look ! 4 refl)) (and-then ! (load ! (from ! (stop !)) (look ! 5 refl)) (and-then ! (load ! (from ! (stop !)) (look ! 7 refl)) (and-then ! (load ! (from ! (stop !)) (look ! 8 refl)) (no-more !)))))) (λ v.
+          use1 W (later (some (λ (u : Unit {0}). ((‵ (flft (α ∷ []) fullShare) ⊛ (‵ (flft κ₁ q₁) ⊛ (‵ (flft κ₂ q₂) ⊛ ‵ ftrue))) ⊛ ‵ (unit .own u (v ∷ []))) ⊛ raw (ensured 𝓤 H A stores.ended (stores.clauses 𝓤 H A at-mem run) (α ∷ [], (κ₁, (κ₂, tt))) (store-args δ h′) tt u)))) (id⊢ 𝓤 _) $
+          await ! tt $
+          pick ! (λ u.
+          split ! $
+          move ! (1 ∷ []) $
+          use1 W (some (λ (ws : Lasts₂). ‵ (lasts stores.ended (α ∷ [], (κ₁, (κ₂, tt))) (store-args δ h′) ws) ⊛ raw (fact 𝓤 (ws .0 ≡ stored h′ hs cs n nodes)))) (id⊢ 𝓤 _) $
+          pick ! (λ ws.
+          split ! $
+          move ! (1 ∷ []) $
+          heard ! (ws .0 ≡ stored h′ hs cs n nodes) (λ kept.
+          fsplit ! $
+          move ! (2 ∷ []) $
+          split ! $
+          split ! $
+          move ! (1 ∷ []) $
+          split ! $
+          move ! (1 ∷ []) $
+          split ! $
+          move ! (4 ∷ []) $
+          peeks ! unit (Is unit) (shows 𝓤 H A unit) u (v ∷ []) (λ is.
+          land ! (from ! (stop !)) (init ! 18 refl (nothing-lawful 𝓤 H A W .typed u (v ∷ []) is .0)) $
+          move ! (4 ∷ []) $
+          lft-end ! tt $
+          move ! (0 ∷ 7 ∷ 5 ∷ []) $
+          use3 W (later (‵ (net (ws .0)) ⊛ ‵ (flft κ q))) (comes-back 𝓤 H A W N.the-row (named 0) κ (α ∷ []) q γ b o δ h′ (ws .0)) $
+          await ! tt $
+          split ! $
+          assigns ! (of-opd ! (true-lit !)) (from ! (stop !)) (init ! 7 refl (tt, tt)) $
+          returns-within ! Post refl (look ! 7 refl) $
+          forget ! 7 refl $
+          forget ! 8 refl $
+          forget ! 9 refl $
+          forget ! 10 refl $
+          forget ! 11 refl $
+          forget ! 12 refl $
+          forget ! 13 refl $
+          forget ! 14 refl $
+          forget ! 15 refl $
+          forget ! 16 refl $
+          forget ! 17 refl $
+          forget ! 18 refl $
+          move ! (7 ∷ 19 ∷ []) $
+          free1 ! $
+          move ! (7 ∷ 18 ∷ []) $
+          free1 ! $
+          move ! (7 ∷ 17 ∷ []) $
+          free1 ! $
+          move ! (7 ∷ 16 ∷ []) $
+          free1 ! $
+          move ! (7 ∷ 15 ∷ []) $
+          free1 ! $
+          move ! (7 ∷ 14 ∷ []) $
+          free1 ! $
+          move ! (7 ∷ 13 ∷ []) $
+          free1 ! $
+          move ! (7 ∷ 12 ∷ []) $
+          free1 ! $
+          move ! (7 ∷ 11 ∷ []) $
+          free1 ! $
+          move ! (7 ∷ 10 ∷ []) $
+          free1 ! $
+          move ! (7 ∷ 9 ∷ []) $
+          free1 ! $
+          move ! (7 ∷ 8 ∷ []) $
+          free1 ! $
+          free0 ! $
+          keep ! (0 ∷ 1 ∷ 5 ∷ 3 ∷ []) $
+          by ! (exits true (ws .0) (sym (holds r on) ∙ told .0) (kept ∙ ap (λ (x : FlowNetwork). stored x hs cs n nodes) (told .1 ∙ ap (λ (y : Bool). relistedIf y h (take n hs) nodes) (holds r on))))))))))))
+          (λ off.
+          skips ! $
+          exec ! (𝓣 .C) (𝓣 .Λ) En pieces.t-5 (atRet En Post) $
+          assigns ! (of-opd ! (false-lit !)) (from ! (stop !)) (init ! 6 refl (tt, tt)) $
+          returns ! (look ! 6 refl) $
+          forget ! 6 refl $
+          forget ! 7 refl $
+          forget ! 8 refl $
+          forget ! 9 refl $
+          forget ! 10 refl $
+          forget ! 11 refl $
+          forget ! 12 refl $
+          forget ! 13 refl $
+          forget ! 14 refl $
+          forget ! 15 refl $
+          move ! (6 ∷ 18 ∷ []) $
+          free1 ! $
+          move ! (6 ∷ 17 ∷ []) $
+          free1 ! $
+          move ! (6 ∷ 16 ∷ []) $
+          free1 ! $
+          move ! (6 ∷ 15 ∷ []) $
+          free1 ! $
+          move ! (6 ∷ 14 ∷ []) $
+          free1 ! $
+          move ! (6 ∷ 13 ∷ []) $
+          free1 ! $
+          move ! (6 ∷ 12 ∷ []) $
+          free1 ! $
+          move ! (6 ∷ 11 ∷ []) $
+          free1 ! $
+          move ! (6 ∷ 10 ∷ []) $
+          free1 ! $
+          move ! (6 ∷ 9 ∷ []) $
+          free1 ! $
+          move ! (6 ∷ 8 ∷ []) $
+          free1 ! $
+          move ! (6 ∷ 7 ∷ []) $
+          free1 ! $
+          free0 ! $
+          keep ! (0 ∷ 1 ∷ 3 ∷ 5 ∷ []) $
+          by ! (exits false h′ (sym (fails r off) ∙ told .0) (told .1 ∙ ap (λ (y : Bool). relistedIf y h (take n hs) nodes) (fails r off))))
 
     abbrev At : List (Item 𝓤)
     At = ‵ (net h) ∷ ‵ (flft κ q) ∷ ‵ (ShrSlice (named 1) κ₁ u32 .own heads (at .1 .0)) ∷ ‵ (flft κ₁ q₁) ∷ ‵ (ShrSlice (named 2) κ₂ f64 .own caps (at .1 .1 .0)) ∷ ‵ (flft κ₂ q₂) ∷ ‵ (froom tyBool l₀ 0) ∷ ‵ (fat fullShare ref l₁ 0 (vptr b o)) ∷ ‵ (fat fullShare slice₁ l₂ 0 (sliceVal (b₁, o₁) (length hs))) ∷ ‵ (fat fullShare slice₂ l₃ 0 (sliceVal (b₂, o₂) (length cs))) ∷ ‵ (fat fullShare word l₄ 0 (vint w64 costs)) ∷ ‵ (fat fullShare word l₅ 0 (vint w64 n)) ∷ ‵ (fat fullShare word l₆ 0 (vint w64 nodes)) ∷ ‵ (froom tyBool l₇ 0) ∷ ‵ (froom net-ref l₈ 0) ∷ ‵ (froom word l₉ 0) ∷ ‵ (froom tyUnit l₁₀ 0) ∷ ‵ (froom net-ref l₁₁ 0) ∷ ‵ (fdies tyBool l₀) ∷ ‵ (fdies ref l₁) ∷ ‵ (fdies slice₁ l₂) ∷ ‵ (fdies slice₂ l₃) ∷ ‵ (fdies word l₄) ∷ ‵ (fdies word l₅) ∷ ‵ (fdies word l₆) ∷ ‵ (fdies tyBool l₇) ∷ ‵ (fdies net-ref l₈) ∷ ‵ (fdies word l₉) ∷ ‵ (fdies tyUnit l₁₀) ∷ ‵ (fdies net-ref l₁₁) ∷ []

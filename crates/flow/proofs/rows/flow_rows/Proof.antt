@@ -290,131 +290,131 @@ module _ {M : Type 1} (𝓤 : URA M) (H : Heap 𝓤) (A : Atoms 𝓤) (W : Given
 
       tests : ent 𝓤 (⋆ 𝓤 H A At₂) (Wp 𝓤 H (𝓣 .C) (𝓣 .Λ) En pieces.t-8 (atReturn 𝓤 H En Post))
       tests =
-        qed W At₂ ∵ exec ! (𝓣 .C) (𝓣 .Λ) En pieces.t-8 (atRet En Post) $
-        first ! $
-        branches ! (load ! (from ! (stop !)) (look ! 17 refl))
-        (λ on.
-        assigns ! (addr ! (from ! (hop ! (look ! 9 refl) (stop !)))) (from ! (stop !)) (init ! 24 refl (tt, tt)) $
-        assigns ! (addr ! (from ! (fld ! refl (hop ! (look-in ! 10 (sub ! 0 refl (whole !))) (stop !))))) (from ! (stop !)) (init ! 25 refl (tt, tt)) $
-        assigns ! (agg ! (and-then ! (load ! (from ! (stop !)) (look ! 25 refl)) (and-then ! (load ! (from ! (fld ! refl (stop !))) (look-in ! 10 (sub ! 1 refl (whole !)))) (no-more !)))) (from ! (stop !)) (init ! 26 refl (tt, (tt, (record { fits = room₁ .0 }, tt)))) $
-        assigns ! (addr ! (from ! (fld ! refl (hop ! (look-in ! 11 (sub ! 0 refl (whole !))) (stop !))))) (from ! (stop !)) (init ! 27 refl (tt, tt)) $
-        assigns ! (agg ! (and-then ! (load ! (from ! (stop !)) (look ! 27 refl)) (and-then ! (load ! (from ! (fld ! refl (stop !))) (look-in ! 11 (sub ! 1 refl (whole !)))) (no-more !)))) (from ! (stop !)) (init ! 28 refl (tt, (tt, (record { fits = room₂ .0 }, tt)))) $
-        assigns ! (addr ! (from ! (fld ! refl (hop ! (look-in ! 12 (sub ! 0 refl (whole !))) (stop !))))) (from ! (stop !)) (init ! 29 refl (tt, tt)) $
-        assigns ! (agg ! (and-then ! (load ! (from ! (stop !)) (look ! 29 refl)) (and-then ! (load ! (from ! (fld ! refl (stop !))) (look-in ! 12 (sub ! 1 refl (whole !)))) (no-more !)))) (from ! (stop !)) (init ! 30 refl (tt, (tt, (record { fits = room₃ .0 }, tt)))) $
-        nothing ! $
-        move ! (8 ∷ 0 ∷ []) $
-        join ! $
-        move ! (6 ∷ 0 ∷ []) $
-        join ! $
-        move ! (4 ∷ 0 ∷ []) $
-        join ! $
-        move ! (2 ∷ 0 ∷ []) $
-        join ! $
-        move ! (3 ∷ 4 ∷ []) $
-        join ! $
-        move ! (3 ∷ 0 ∷ []) $
-        join ! $
-        move ! (2 ∷ 0 ∷ []) $
-        join ! $
-        move ! (1 ∷ 0 ∷ []) $
-        join ! $
-        use1 W (raw (Flows 𝓤 H A at-mem run .pre (to-flow h′))) (goes-flow h′ (fit-network hs (length cs) (length ps) n nodes (sym (told .0) ∙ holds r on) h′ (ap (λ (x : FlowNetwork). x .count) (told .1 ∙ ap (λ (y : Bool). filledIf y h hs cs n nodes) (holds r on))))) $
-        calls-at ! fm (Flows 𝓤 H A at-mem run) known₂ (to-flow h′) (and-then ! (load ! (from ! (stop !)) (look ! 17 refl)) (and-then ! (load ! (from ! (stop !)) (look ! 19 refl)) (and-then ! (load ! (from ! (stop !)) (look ! 21 refl)) (and-then ! (load ! (from ! (stop !)) (look ! 23 refl)) (and-then ! (load ! (from ! (stop !)) (look ! 8 refl)) (and-then ! (load ! (from ! (stop !)) (look ! 9 refl)) (no-more !))))))) (λ v.
-        use1 W (later (some (λ (u : Answer). ((‵ (flft κ q) ⊛ (‵ (flft κ₁ q₁) ⊛ (‵ (flft κ₂ q₂) ⊛ (‵ (flft κ₃ q₃) ⊛ ‵ ftrue)))) ⊛ ‵ (S.the-row .own u (v ∷ []))) ⊛ raw (ensured 𝓤 H A flows.ended (flows.clauses 𝓤 H A at-mem run) (κ, (κ₁, (κ₂, (κ₃, tt)))) (flow-args h′) tt u)))) (id⊢ 𝓤 _) $
-        await ! tt $
-        pick ! (λ u.
-        split ! $
-        move ! (1 ∷ []) $
-        use1 W (some (λ (ws : Lasts₂). ‵ (lasts flows.ended (κ, (κ₁, (κ₂, (κ₃, tt)))) (flow-args h′) ws) ⊛ raw (fact 𝓤 (flown u (ws .0) (ws .1 .0) (ws .1 .1 .0) (ws .1 .1 .1 .0) ≡ flowIn h′ hs cs ps s t)))) (id⊢ 𝓤 _) $
-        pick ! (λ ws.
-        split ! $
-        move ! (1 ∷ []) $
-        heard ! (flown u (ws .0) (ws .1 .0) (ws .1 .1 .0) (ws .1 .1 .1 .0) ≡ flowIn h′ hs cs ps s t) (λ ran.
-        fsplit ! $
-        move ! (1 ∷ []) $
-        fsplit ! $
-        fsplit ! $
-        move ! (1 ∷ []) $
-        feqL ! (λ size₁.
-        move ! (1 ∷ []) $
-        fsplit ! $
-        fsplit ! $
-        move ! (1 ∷ []) $
-        feqL ! (λ size₂.
-        move ! (1 ∷ []) $
-        fsplit ! $
-        fsplit ! $
-        move ! (1 ∷ []) $
-        feqL ! (λ size₃.
-        move ! (5 ∷ []) $
-        split ! $
-        split ! $
-        move ! (1 ∷ []) $
-        split ! $
-        move ! (1 ∷ []) $
-        split ! $
-        move ! (1 ∷ []) $
-        split ! $
-        move ! (5 ∷ []) $
-        peeks ! S.the-row (Is S.the-row) (shows 𝓤 H A S.the-row) u (v ∷ []) (λ is.
-        land ! (from ! (stop !)) (init ! 11 refl (answered u v is)) $
-        returns-within ! Post refl (look ! 11 refl) $
-        forget ! 11 refl $
-        forget ! 12 refl $
-        forget ! 13 refl $
-        forget ! 14 refl $
-        forget ! 15 refl $
-        forget ! 16 refl $
-        forget ! 17 refl $
-        forget ! 18 refl $
-        forget ! 19 refl $
-        forget ! 20 refl $
-        forget ! 21 refl $
-        forget ! 22 refl $
-        forget ! 23 refl $
-        forget ! 24 refl $
-        forget ! 25 refl $
-        forget ! 26 refl $
-        forget ! 27 refl $
-        forget ! 28 refl $
-        forget ! 29 refl $
-        forget ! 30 refl $
-        forget ! 31 refl $
-        forget ! 32 refl $
-        forget ! 33 refl $
-        keep ! (11 ∷ 34 ∷ 12 ∷ 35 ∷ 13 ∷ 36 ∷ 14 ∷ 37 ∷ 15 ∷ 38 ∷ 16 ∷ 39 ∷ 17 ∷ 40 ∷ 18 ∷ 41 ∷ 19 ∷ 42 ∷ 20 ∷ 43 ∷ 21 ∷ 44 ∷ 22 ∷ 45 ∷ 23 ∷ 46 ∷ 24 ∷ 47 ∷ 25 ∷ 48 ∷ 26 ∷ 49 ∷ 27 ∷ 50 ∷ 28 ∷ 51 ∷ 29 ∷ 52 ∷ 30 ∷ 53 ∷ 31 ∷ 54 ∷ 32 ∷ 55 ∷ 33 ∷ 56 ∷ 10 ∷ 9 ∷ 8 ∷ 6 ∷ 5 ∷ 4 ∷ 3 ∷ 1 ∷ []) $
-        free-all ! En (Leaving (ws .0) (ws .1 .0) (ws .1 .1 .0) (ws .1 .1 .1 .0)) (by ! (exits u v is (ws .0) (ws .1 .0) (ws .1 .1 .0) (ws .1 .1 .1 .0) size₁ size₂ size₃ (ran ∙ ap (λ (x : FlowNetwork). flowIn x hs cs ps s t) (told .1 ∙ ap (λ (y : Bool). filledIf y h hs cs n nodes) (holds r on)) ∙ ap (λ (y : Bool). flowRowsIf y h hs cs ps n nodes s t) (sym (holds r on) ∙ told .0)))))))))))))
-        (λ off.
-        skips ! $
-        exec ! (𝓣 .C) (𝓣 .Λ) En pieces.t-9 (atRet En Post) $
-        assigns ! (agg ! (and-then ! (lit ! tt) (and-then ! (lit ! tt) (no-more !)))) (from ! (stop !)) (init ! 8 refl (answered (variants.Refused 15) refusal-val refused)) $
-        move ! (0 ∷ []) $
-        use1 W (‵ (fres γ (N.the-row .coded .code h′))) (gives-ref h′) $
-        move ! (2 ∷ []) $
-        use1 W (‵ (finally u32 γ₁ hs)) (gives-slice 𝓤 H A W u32 (named 1) κ₁ γ₁ b₁ o₁ hs) $
-        move ! (4 ∷ []) $
-        use1 W (‵ (finally f64 γ₂ cs)) (gives-slice 𝓤 H A W f64 (named 2) κ₂ γ₂ b₂ o₂ cs) $
-        move ! (6 ∷ []) $
-        use1 W (‵ (finally f64 γ₃ ps)) (gives-slice 𝓤 H A W f64 (named 3) κ₃ γ₃ b₃ o₃ ps) $
-        returns ! (look ! 8 refl) $
-        forget ! 8 refl $
-        forget ! 9 refl $
-        forget ! 10 refl $
-        forget ! 11 refl $
-        forget ! 12 refl $
-        forget ! 13 refl $
-        forget ! 14 refl $
-        forget ! 15 refl $
-        forget ! 16 refl $
-        forget ! 17 refl $
-        forget ! 18 refl $
-        forget ! 19 refl $
-        forget ! 20 refl $
-        forget ! 21 refl $
-        forget ! 22 refl $
-        forget ! 23 refl $
-        keep ! (8 ∷ 31 ∷ 9 ∷ 32 ∷ 10 ∷ 33 ∷ 11 ∷ 34 ∷ 12 ∷ 35 ∷ 13 ∷ 36 ∷ 14 ∷ 37 ∷ 15 ∷ 38 ∷ 16 ∷ 39 ∷ 17 ∷ 40 ∷ 18 ∷ 41 ∷ 19 ∷ 42 ∷ 20 ∷ 43 ∷ 21 ∷ 44 ∷ 22 ∷ 45 ∷ 23 ∷ 46 ∷ 24 ∷ 47 ∷ 25 ∷ 48 ∷ 26 ∷ 49 ∷ 27 ∷ 50 ∷ 28 ∷ 51 ∷ 29 ∷ 52 ∷ 30 ∷ 53 ∷ 3 ∷ 2 ∷ 1 ∷ 0 ∷ 4 ∷ 5 ∷ 6 ∷ 7 ∷ []) $
-        free-all ! En (Leaving h′ hs cs ps) (by ! (exits (variants.Refused 15) refusal-val refused h′ hs cs ps refl refl refl (ap (λ (x : FlowNetwork). flown (variants.Refused 15) x hs cs ps) (told .1 ∙ ap (λ (y : Bool). filledIf y h hs cs n nodes) (fails r off)) ∙ ap (λ (y : Bool). flowRowsIf y h hs cs ps n nodes s t) (sym (fails r off) ∙ told .0)))))
+          qed W At₂ ∵ exec ! (𝓣 .C) (𝓣 .Λ) En pieces.t-8 (atRet En Post) $
+          first ! $
+          branches ! (load ! (from ! (stop !)) (look ! 17 refl))
+          (λ on.
+          assigns ! (addr ! (from ! (hop ! (look ! 9 refl) (stop !)))) (from ! (stop !)) (init ! 24 refl (tt, tt)) $
+          assigns ! (addr ! (from ! (fld ! refl (hop ! (look-in ! 10 (sub ! 0 refl (whole !))) (stop !))))) (from ! (stop !)) (init ! 25 refl (tt, tt)) $
+          assigns ! (agg ! (and-then ! (load ! (from ! (stop !)) (look ! 25 refl)) (and-then ! (load ! (from ! (fld ! refl (stop !))) (look-in ! 10 (sub ! 1 refl (whole !)))) (no-more !)))) (from ! (stop !)) (init ! 26 refl (tt, (tt, (record { fits = room₁ .0 }, tt)))) $
+          assigns ! (addr ! (from ! (fld ! refl (hop ! (look-in ! 11 (sub ! 0 refl (whole !))) (stop !))))) (from ! (stop !)) (init ! 27 refl (tt, tt)) $
+          assigns ! (agg ! (and-then ! (load ! (from ! (stop !)) (look ! 27 refl)) (and-then ! (load ! (from ! (fld ! refl (stop !))) (look-in ! 11 (sub ! 1 refl (whole !)))) (no-more !)))) (from ! (stop !)) (init ! 28 refl (tt, (tt, (record { fits = room₂ .0 }, tt)))) $
+          assigns ! (addr ! (from ! (fld ! refl (hop ! (look-in ! 12 (sub ! 0 refl (whole !))) (stop !))))) (from ! (stop !)) (init ! 29 refl (tt, tt)) $
+          assigns ! (agg ! (and-then ! (load ! (from ! (stop !)) (look ! 29 refl)) (and-then ! (load ! (from ! (fld ! refl (stop !))) (look-in ! 12 (sub ! 1 refl (whole !)))) (no-more !)))) (from ! (stop !)) (init ! 30 refl (tt, (tt, (record { fits = room₃ .0 }, tt)))) $
+          nothing ! $
+          move ! (8 ∷ 0 ∷ []) $
+          join ! $
+          move ! (6 ∷ 0 ∷ []) $
+          join ! $
+          move ! (4 ∷ 0 ∷ []) $
+          join ! $
+          move ! (2 ∷ 0 ∷ []) $
+          join ! $
+          move ! (3 ∷ 4 ∷ []) $
+          join ! $
+          move ! (3 ∷ 0 ∷ []) $
+          join ! $
+          move ! (2 ∷ 0 ∷ []) $
+          join ! $
+          move ! (1 ∷ 0 ∷ []) $
+          join ! $
+          use1 W (raw (Flows 𝓤 H A at-mem run .pre (to-flow h′))) (goes-flow h′ (fit-network hs (length cs) (length ps) n nodes (sym (told .0) ∙ holds r on) h′ (ap (λ (x : FlowNetwork). x .count) (told .1 ∙ ap (λ (y : Bool). filledIf y h hs cs n nodes) (holds r on))))) $
+          calls-at ! fm (Flows 𝓤 H A at-mem run) known₂ (to-flow h′) (and-then ! (load ! (from ! (stop !)) (look ! 17 refl)) (and-then ! (load ! (from ! (stop !)) (look ! 19 refl)) (and-then ! (load ! (from ! (stop !)) (look ! 21 refl)) (and-then ! (load ! (from ! (stop !)) (look ! 23 refl)) (and-then ! (load ! (from ! (stop !)) (look ! 8 refl)) (and-then ! (load ! (from ! (stop !)) (look ! 9 refl)) (no-more !))))))) (λ v.
+          use1 W (later (some (λ (u : Answer). ((‵ (flft κ q) ⊛ (‵ (flft κ₁ q₁) ⊛ (‵ (flft κ₂ q₂) ⊛ (‵ (flft κ₃ q₃) ⊛ ‵ ftrue)))) ⊛ ‵ (S.the-row .own u (v ∷ []))) ⊛ raw (ensured 𝓤 H A flows.ended (flows.clauses 𝓤 H A at-mem run) (κ, (κ₁, (κ₂, (κ₃, tt)))) (flow-args h′) tt u)))) (id⊢ 𝓤 _) $
+          await ! tt $
+          pick ! (λ u.
+          split ! $
+          move ! (1 ∷ []) $
+          use1 W (some (λ (ws : Lasts₂). ‵ (lasts flows.ended (κ, (κ₁, (κ₂, (κ₃, tt)))) (flow-args h′) ws) ⊛ raw (fact 𝓤 (flown u (ws .0) (ws .1 .0) (ws .1 .1 .0) (ws .1 .1 .1 .0) ≡ flowIn h′ hs cs ps s t)))) (id⊢ 𝓤 _) $
+          pick ! (λ ws.
+          split ! $
+          move ! (1 ∷ []) $
+          heard ! (flown u (ws .0) (ws .1 .0) (ws .1 .1 .0) (ws .1 .1 .1 .0) ≡ flowIn h′ hs cs ps s t) (λ ran.
+          fsplit ! $
+          move ! (1 ∷ []) $
+          fsplit ! $
+          fsplit ! $
+          move ! (1 ∷ []) $
+          feqL ! (λ size₁.
+          move ! (1 ∷ []) $
+          fsplit ! $
+          fsplit ! $
+          move ! (1 ∷ []) $
+          feqL ! (λ size₂.
+          move ! (1 ∷ []) $
+          fsplit ! $
+          fsplit ! $
+          move ! (1 ∷ []) $
+          feqL ! (λ size₃.
+          move ! (5 ∷ []) $
+          split ! $
+          split ! $
+          move ! (1 ∷ []) $
+          split ! $
+          move ! (1 ∷ []) $
+          split ! $
+          move ! (1 ∷ []) $
+          split ! $
+          move ! (5 ∷ []) $
+          peeks ! S.the-row (Is S.the-row) (shows 𝓤 H A S.the-row) u (v ∷ []) (λ is.
+          land ! (from ! (stop !)) (init ! 11 refl (answered u v is)) $
+          returns-within ! Post refl (look ! 11 refl) $
+          forget ! 11 refl $
+          forget ! 12 refl $
+          forget ! 13 refl $
+          forget ! 14 refl $
+          forget ! 15 refl $
+          forget ! 16 refl $
+          forget ! 17 refl $
+          forget ! 18 refl $
+          forget ! 19 refl $
+          forget ! 20 refl $
+          forget ! 21 refl $
+          forget ! 22 refl $
+          forget ! 23 refl $
+          forget ! 24 refl $
+          forget ! 25 refl $
+          forget ! 26 refl $
+          forget ! 27 refl $
+          forget ! 28 refl $
+          forget ! 29 refl $
+          forget ! 30 refl $
+          forget ! 31 refl $
+          forget ! 32 refl $
+          forget ! 33 refl $
+          keep ! (11 ∷ 34 ∷ 12 ∷ 35 ∷ 13 ∷ 36 ∷ 14 ∷ 37 ∷ 15 ∷ 38 ∷ 16 ∷ 39 ∷ 17 ∷ 40 ∷ 18 ∷ 41 ∷ 19 ∷ 42 ∷ 20 ∷ 43 ∷ 21 ∷ 44 ∷ 22 ∷ 45 ∷ 23 ∷ 46 ∷ 24 ∷ 47 ∷ 25 ∷ 48 ∷ 26 ∷ 49 ∷ 27 ∷ 50 ∷ 28 ∷ 51 ∷ 29 ∷ 52 ∷ 30 ∷ 53 ∷ 31 ∷ 54 ∷ 32 ∷ 55 ∷ 33 ∷ 56 ∷ 10 ∷ 9 ∷ 8 ∷ 6 ∷ 5 ∷ 4 ∷ 3 ∷ 1 ∷ []) $
+          free-all ! En (Leaving (ws .0) (ws .1 .0) (ws .1 .1 .0) (ws .1 .1 .1 .0)) (by ! (exits u v is (ws .0) (ws .1 .0) (ws .1 .1 .0) (ws .1 .1 .1 .0) size₁ size₂ size₃ (ran ∙ ap (λ (x : FlowNetwork). flowIn x hs cs ps s t) (told .1 ∙ ap (λ (y : Bool). filledIf y h hs cs n nodes) (holds r on)) ∙ ap (λ (y : Bool). flowRowsIf y h hs cs ps n nodes s t) (sym (holds r on) ∙ told .0)))))))))))))
+          (λ off.
+          skips ! $
+          exec ! (𝓣 .C) (𝓣 .Λ) En pieces.t-9 (atRet En Post) $
+          assigns ! (agg ! (and-then ! (lit ! tt) (and-then ! (lit ! tt) (no-more !)))) (from ! (stop !)) (init ! 8 refl (answered (variants.Refused 15) refusal-val refused)) $
+          move ! (0 ∷ []) $
+          use1 W (‵ (fres γ (N.the-row .coded .code h′))) (gives-ref h′) $
+          move ! (2 ∷ []) $
+          use1 W (‵ (finally u32 γ₁ hs)) (gives-slice 𝓤 H A W u32 (named 1) κ₁ γ₁ b₁ o₁ hs) $
+          move ! (4 ∷ []) $
+          use1 W (‵ (finally f64 γ₂ cs)) (gives-slice 𝓤 H A W f64 (named 2) κ₂ γ₂ b₂ o₂ cs) $
+          move ! (6 ∷ []) $
+          use1 W (‵ (finally f64 γ₃ ps)) (gives-slice 𝓤 H A W f64 (named 3) κ₃ γ₃ b₃ o₃ ps) $
+          returns ! (look ! 8 refl) $
+          forget ! 8 refl $
+          forget ! 9 refl $
+          forget ! 10 refl $
+          forget ! 11 refl $
+          forget ! 12 refl $
+          forget ! 13 refl $
+          forget ! 14 refl $
+          forget ! 15 refl $
+          forget ! 16 refl $
+          forget ! 17 refl $
+          forget ! 18 refl $
+          forget ! 19 refl $
+          forget ! 20 refl $
+          forget ! 21 refl $
+          forget ! 22 refl $
+          forget ! 23 refl $
+          keep ! (8 ∷ 31 ∷ 9 ∷ 32 ∷ 10 ∷ 33 ∷ 11 ∷ 34 ∷ 12 ∷ 35 ∷ 13 ∷ 36 ∷ 14 ∷ 37 ∷ 15 ∷ 38 ∷ 16 ∷ 39 ∷ 17 ∷ 40 ∷ 18 ∷ 41 ∷ 19 ∷ 42 ∷ 20 ∷ 43 ∷ 21 ∷ 44 ∷ 22 ∷ 45 ∷ 23 ∷ 46 ∷ 24 ∷ 47 ∷ 25 ∷ 48 ∷ 26 ∷ 49 ∷ 27 ∷ 50 ∷ 28 ∷ 51 ∷ 29 ∷ 52 ∷ 30 ∷ 53 ∷ 3 ∷ 2 ∷ 1 ∷ 0 ∷ 4 ∷ 5 ∷ 6 ∷ 7 ∷ []) $
+          free-all ! En (Leaving h′ hs cs ps) (by ! (exits (variants.Refused 15) refusal-val refused h′ hs cs ps refl refl refl (ap (λ (x : FlowNetwork). flown (variants.Refused 15) x hs cs ps) (told .1 ∙ ap (λ (y : Bool). filledIf y h hs cs n nodes) (fails r off)) ∙ ap (λ (y : Bool). flowRowsIf y h hs cs ps n nodes s t) (sym (fails r off) ∙ told .0)))))
 
     abbrev At : List (Item 𝓤)
     At = ‵ (net h) ∷ ‵ (flft κ q) ∷ ‵ heads ∷ ‵ (flft κ₁ q₁) ∷ ‵ caps ∷ ‵ (flft κ₂ q₂) ∷ ‵ costs ∷ ‵ (flft κ₃ q₃) ∷ ‵ (froom S′.mir l₀ 0) ∷ ‵ (fat fullShare ref l₁ 0 (vptr b o)) ∷ ‵ (fat fullShare slice₁ l₂ 0 (sliceVal (b₁, o₁) (length hs))) ∷ ‵ (fat fullShare slice₂ l₃ 0 (sliceVal (b₂, o₂) (length cs))) ∷ ‵ (fat fullShare slice₃ l₄ 0 (sliceVal (b₃, o₃) (length ps))) ∷ ‵ (fat fullShare word l₅ 0 (vint w64 n)) ∷ ‵ (fat fullShare word l₆ 0 (vint w64 nodes)) ∷ ‵ (fat fullShare word l₇ 0 (vint w64 s)) ∷ ‵ (fat fullShare word l₈ 0 (vint w64 t)) ∷ ‵ (froom tyBool l₉ 0) ∷ ‵ (froom net-ref l₁₀ 0) ∷ ‵ (froom heads-shr l₁₁ 0) ∷ ‵ (froom (sliceTy heads-shr) l₁₂ 0) ∷ ‵ (froom caps-shr l₁₃ 0) ∷ ‵ (froom (sliceTy caps-shr) l₁₄ 0) ∷ ‵ (froom word l₁₅ 0) ∷ ‵ (froom net-ref l₁₆ 0) ∷ ‵ (froom heads-mut l₁₇ 0) ∷ ‵ (froom (sliceTy heads-mut) l₁₈ 0) ∷ ‵ (froom caps-mut l₁₉ 0) ∷ ‵ (froom (sliceTy caps-mut) l₂₀ 0) ∷ ‵ (froom caps-mut l₂₁ 0) ∷ ‵ (froom (sliceTy caps-mut) l₂₂ 0) ∷ ‵ (fdies S′.mir l₀) ∷ ‵ (fdies ref l₁) ∷ ‵ (fdies slice₁ l₂) ∷ ‵ (fdies slice₂ l₃) ∷ ‵ (fdies slice₃ l₄) ∷ ‵ (fdies word l₅) ∷ ‵ (fdies word l₆) ∷ ‵ (fdies word l₇) ∷ ‵ (fdies word l₈) ∷ ‵ (fdies tyBool l₉) ∷ ‵ (fdies net-ref l₁₀) ∷ ‵ (fdies heads-shr l₁₁) ∷ ‵ (fdies (sliceTy heads-shr) l₁₂) ∷ ‵ (fdies caps-shr l₁₃) ∷ ‵ (fdies (sliceTy caps-shr) l₁₄) ∷ ‵ (fdies word l₁₅) ∷ ‵ (fdies net-ref l₁₆) ∷ ‵ (fdies heads-mut l₁₇) ∷ ‵ (fdies (sliceTy heads-mut) l₁₈) ∷ ‵ (fdies caps-mut l₁₉) ∷ ‵ (fdies (sliceTy caps-mut) l₂₀) ∷ ‵ (fdies caps-mut l₂₁) ∷ ‵ (fdies (sliceTy caps-mut) l₂₂) ∷ []

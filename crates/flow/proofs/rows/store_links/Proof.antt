@@ -8,7 +8,7 @@ use native.Mathlib.Numerals.{add-one}
 use native.Mathlib.Omega.{arith}
 use mathlib.Core.Bool.{Bool, true, false}
 use mathlib.Core.List.{List, [], _∷_}
-use lib.ListN.{length, getD, length-set}
+use lib.ListN.{length, getD}
 use lib.WfN.{Nat·lt-wfRel}
 use lib.Dec.{T, ltb, lt→ltb, ltb→lt, lit<}
 use lib.Ieee.{Float, binary64, nan, fits, ofBits}
@@ -59,6 +59,7 @@ use Rattle.flow.specs.declared.network.FlowNetwork.{FlowNetwork}
 use Rattle.flow.proofs.Packing.{pastEnd}
 use Rattle.flow.proofs.Entering.{alloc-all}
 use Rattle.flow.proofs.Apart.{fieldsIn, Back, apart, together}
+use Rattle.flow.proofs.Laid.{laid-length}
 use Rattle.flow.proofs.network.Link as L
 use Rattle.flow.proofs.network.Link.Laws as L′
 use Rattle.flow.proofs.network.FlowNetwork as N
@@ -98,11 +99,6 @@ abbrev slice₂ : Ty
 slice₂ = sliceTy (tyRef (named 2) imm float)
 
 -- ---- links
-laid-length : (ls : List Link) (hs : List ℕ) (cs : List Float) (i : ℕ) → length (laid ls hs cs i) ≡ length ls
-unfolding laid
-laid-length ls hs cs zero = refl
-laid-length ls hs cs (suc i) = rw length-set (laid-length ls hs cs i)
-
 cost-fits : (i : ℕ) → T (fits binary64 (costAt i))
 unfolding costAt fits ofBits
 cost-fits zero = tt
