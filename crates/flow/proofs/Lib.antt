@@ -6,3 +6,7 @@ pub mod Running
 pub mod Literals
 pub mod Entering
 pub mod Accepted
+pub mod Filling
+pub mod Sharing
+pub mod Laid
+pub mod FlowRows
