@@ -4,9 +4,9 @@ use crate::give::give_rows;
 use crate::settle::Verdict;
 use crate::settle::search_on;
 use flow_core::rows::Answer;
-use flow_core::test::flow_between;
 use flow_links::fits::rows_fit;
 ghost use mathlib.Core.Path.{_≡_};
+ghost use mathlib.Core.Bool.{true};
 ghost use Prim.Native.Nat.{ℕ, _≤_, _<_, _*_};
 ghost use lib.ListN.{length, getD};
 ghost use lib.Ieee.{nan};
@@ -16,7 +16,7 @@ ghost use Rattle.flow_routes.proofs.Reaching.{Told};
 ghost use Rattle.flow_direct.specs.Reaches.{atLeast, reaches};
 
 // Whether an answer is a flow that is enough.
-fn enough(answer: Answer, need: f64) -> bool
+pub fn enough(answer: Answer, need: f64) -> bool
     ensures { λ r. ⌜ r ≡ atLeast need answer ⌝ }
 {
     match answer {
@@ -204,9 +204,9 @@ fn reach(
     )
 }
 
-// Whether the flow between two rows of jumps against a relation is at least what is needed: bit u * states + v says whether v is related with u.
+// Whether the flow between two rows of jumps against a relation is at least what is needed, where that is known without a network: bit u * states + v says whether v is related with u.
 // It is not where a row has over 31 targets, or not one rate from 0 to 2^40 for each, or where the relation is over more than 2,000 states.
-pub fn flow_reaches(
+pub fn verdict(
     left_targets: &[u32],
     left_rates: &[f64],
     right_targets: &[u32],
@@ -214,33 +214,22 @@ pub fn flow_reaches(
     states: usize,
     relation: &[u8],
     need: f64,
-) -> bool
-    ensures { λ r. ⌜ r ≡ reaches (now («left_targets» .entry)) (now («left_rates» .entry)) (now («right_targets» .entry)) (now («right_rates» .entry)) states (relationOf (now (relation .entry))) need ⌝ }
+) -> Verdict
+    ensures { λ r. ⌜ (r .known ≡ true → r .passes ≡ reaches (now («left_targets» .entry)) (now («left_rates» .entry)) (now («right_targets» .entry)) (now («right_rates» .entry)) states (relationOf (now (relation .entry))) need) ⌝ }
 {
     if !rows_fit(left_targets, left_rates, right_targets, right_rates, states) {
-        return false;
+        return Verdict {
+            known: true,
+            passes: false,
+        };
     }
-    let v = reach(
+    reach(
         left_targets,
         left_rates,
         right_targets,
         right_rates,
         states,
         relation,
-        need,
-    );
-    if v.known {
-        return v.passes;
-    }
-    enough(
-        flow_between(
-            left_targets,
-            left_rates,
-            right_targets,
-            right_rates,
-            states,
-            relation,
-        ),
         need,
     )
 }
