@@ -2,7 +2,7 @@
 use crate::changes::fade;
 use crate::changes::strike;
 use crate::changes::unchanged;
-use flow_direct::reach::flow_reaches;
+use flow_direct::reach::flows_reach;
 use numbers::bit;
 ghost use mathlib.Core.Path.{_≡_};
 ghost use Prim.Native.Nat.{ℕ, _≤_, _<_, _+_, _*_, _-_};
@@ -14,36 +14,7 @@ ghost use Rattle.epsdelta_theory.specs.Sweeps;
 ghost use Rattle.epsdelta_theory.proofs.TasksIn.{RowsFit, testIn, Makes, RunsTo};
 ghost use Rattle.epsdelta_theory.proofs.Unchanged.{Settled, Noted};
 
-// Whether the flow test from s to t passes.
-fn passes(
-    starts: &[u32],
-    targets: &[u32],
-    probs: &[f64],
-    states: usize,
-    need: f64,
-    relation: &[u8],
-    s: usize,
-    t: usize,
-) -> bool
-    requires { ⌜ RowsFit states (now starts) (now targets) (now probs) × (s < states) × (t < states) ⌝ }
-    ensures { λ r. ⌜ ((R : List Bool) → now (relation .entry) ≡ packed R → r ≡ testIn states (now (starts .entry)) (now (targets .entry)) (now (probs .entry)) need R s t) ⌝ }
-{
-    let a = starts[s] as usize;
-    let b = starts[s + 1] as usize;
-    let c = starts[t] as usize;
-    let d = starts[t + 1] as usize;
-    flow_reaches(
-        &targets[a..b],
-        &probs[a..b],
-        &targets[c..d],
-        &probs[c..d],
-        states,
-        relation,
-        need,
-    )
-}
-
-// Whether the flow test passes both ways; the one back is made only if the other passed.
+// Whether the flow test passes both ways.
 fn passes_both(
     starts: &[u32],
     targets: &[u32],
@@ -57,10 +28,19 @@ fn passes_both(
     requires { ⌜ RowsFit states (now starts) (now targets) (now probs) × (s < states) × (t < states) ⌝ }
     ensures { λ r. ⌜ ((R : List Bool) → now (relation .entry) ≡ packed R → r ≡ (testIn states (now (starts .entry)) (now (targets .entry)) (now (probs .entry)) need R s t && testIn states (now (starts .entry)) (now (targets .entry)) (now (probs .entry)) need R t s)) ⌝ }
 {
-    if passes(starts, targets, probs, states, need, relation, s, t) {
-        return passes(starts, targets, probs, states, need, relation, t, s);
-    }
-    false
+    let a = starts[s] as usize;
+    let b = starts[s + 1] as usize;
+    let c = starts[t] as usize;
+    let d = starts[t + 1] as usize;
+    flows_reach(
+        &targets[a..b],
+        &probs[a..b],
+        &targets[c..d],
+        &probs[c..d],
+        states,
+        relation,
+        need,
+    )
 }
 
 // The same, but without a run where nothing that the tests read was struck since they passed.

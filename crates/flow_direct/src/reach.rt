@@ -7,13 +7,15 @@ use flow_core::rows::Answer;
 use flow_core::test::flow_between;
 use flow_links::fits::rows_fit;
 ghost use mathlib.Core.Path.{_≡_};
+ghost use mathlib.Core.Bool.{true};
 ghost use Prim.Native.Nat.{ℕ, _≤_, _<_, _*_};
 ghost use lib.ListN.{length, getD};
 ghost use lib.Ieee.{nan};
 ghost use Rattle.numbers.specs.Real.{nought};
 ghost use Rattle.epsdelta_theory.specs.Relation.{relationOf};
+ghost use Rattle.flow_links.specs.Fits.{fits};
 ghost use Rattle.flow_routes.proofs.Reaching.{Told};
-ghost use Rattle.flow_direct.specs.Reaches.{atLeast, reaches};
+ghost use Rattle.flow_direct.specs.Reaches.{atLeast, reaches, bothReach};
 
 // Whether an answer is a flow that is enough.
 fn enough(answer: Answer, need: f64) -> bool
@@ -204,9 +206,8 @@ fn reach(
     )
 }
 
-// Whether the flow between two rows of jumps against a relation is at least what is needed: bit u * states + v says whether v is related with u.
-// It is not where a row has over 31 targets, or not one rate from 0 to 2^40 for each, or where the relation is over more than 2,000 states.
-pub fn flow_reaches(
+// Whether the flow between two rows that fit is at least what is needed.
+fn flow_reaches(
     left_targets: &[u32],
     left_rates: &[f64],
     right_targets: &[u32],
@@ -215,11 +216,9 @@ pub fn flow_reaches(
     relation: &[u8],
     need: f64,
 ) -> bool
+    requires { ⌜ fits (now «left_targets») (now «left_rates») (now «right_targets») (now «right_rates») states ≡ true ⌝ }
     ensures { λ r. ⌜ r ≡ reaches (now («left_targets» .entry)) (now («left_rates» .entry)) (now («right_targets» .entry)) (now («right_rates» .entry)) states (relationOf (now (relation .entry))) need ⌝ }
 {
-    if !rows_fit(left_targets, left_rates, right_targets, right_rates, states) {
-        return false;
-    }
     let v = reach(
         left_targets,
         left_rates,
@@ -241,6 +240,44 @@ pub fn flow_reaches(
             states,
             relation,
         ),
+        need,
+    )
+}
+
+// Whether the flows between two rows of jumps against a relation, from the one to the other and back, are at least what is needed: bit u * states + v says whether v is related with u.
+// They are not where a row has over 31 targets, or not one rate from 0 to 2^40 for each, or where the relation is over more than 2,000 states. The one back is asked for only where the other is enough.
+pub fn flows_reach(
+    left_targets: &[u32],
+    left_rates: &[f64],
+    right_targets: &[u32],
+    right_rates: &[f64],
+    states: usize,
+    relation: &[u8],
+    need: f64,
+) -> bool
+    ensures { λ r. ⌜ r ≡ bothReach (now («left_targets» .entry)) (now («left_rates» .entry)) (now («right_targets» .entry)) (now («right_rates» .entry)) states (relationOf (now (relation .entry))) need ⌝ }
+{
+    if !rows_fit(left_targets, left_rates, right_targets, right_rates, states) {
+        return false;
+    }
+    if !flow_reaches(
+        left_targets,
+        left_rates,
+        right_targets,
+        right_rates,
+        states,
+        relation,
+        need,
+    ) {
+        return false;
+    }
+    flow_reaches(
+        right_targets,
+        right_rates,
+        left_targets,
+        left_rates,
+        states,
+        relation,
         need,
     )
 }
