@@ -11,7 +11,7 @@ use lib.Ieee.{Float, nan}
 use lib.ListN.{length, getD}
 use Rattle.numbers.specs.Real.{isZero}
 use Rattle.numbers.specs.Bits.{packed, unpack, bitAt, cleared}
-use Rattle.numbers.proofs.Bools.{one-if, lt-or-ge}
+use Rattle.numbers.proofs.Bools.{one-if, lt-or-ge, and-f}
 use Rattle.numbers.proofs.Packed.{unpack-packed}
 use Rattle.epsdelta_theory.specs.Relation.{holds, clear}
 use Rattle.epsdelta_theory.specs.Sweeps.{Task, Run, strike, afterBack, afterForth, testPair, turn, sweepRow, sweepRows, sweep, sweeps}
@@ -401,6 +401,34 @@ module _ {n : ℕ} {E : List Float} {S T : List ℕ} {P : List Float} {need : Fl
       let M = turn-asks (omega arith) k H l e h in
       let N = forth-passes (M .held) (λ R q. p R q .0) in
       moves-then M (omega arith) (moves-then N (omega arith) (back-passes (N .held) (λ R q. p R q .1)))
+
+  -- its test, or the one back where that passes, is asked for
+  pub turn-waits : s < t → t < n → Held n E S T P need store C s t false false → isZero (getD E s nan) ≡ false → bitAt store (s * n + t) ≡ true
+      → (b : Bool) → (b ≡ true → Ends n S T P need store true s t) → Moves n E S T P need store s t false struck false (weight n store s t false struck + 1) store C s t b struck true
+  turn-waits l k H e h false f = turn-asks (omega arith) k H l e h
+  turn-waits l k H e h true f = let M = turn-asks (omega arith) k H l e h in moves-then M (omega arith) (forth-passes (M .held) (f refl))
+
+  -- one of its tests fails, whichever
+  pub turn-fails : {store' C' : List ℕ} → s < t → t < n → Held n E S T P need store C s t false false → isZero (getD E s nan) ≡ false → bitAt store (s * n + t) ≡ true
+      → ((R : List Bool) → store ≡ packed R → (testIn n S T P need R s t && testIn n S T P need R t s) ≡ false)
+      → store' ≡ cleared (cleared store (s * n + t)) (t * n + s) → C' ≡ noted C s t
+      → Moves n E S T P need store s t false struck false (weight n store s t false struck + 1) store' C' s (t + 1) false true false
+  unfolding at-forth
+  turn-fails {store'} l k H e h p q c =
+      let M = turn-asks (omega arith) k H l e h in
+      let x = struck-held F (M .held) q c in
+      record {
+        leads = λ Q K z a. let b = at-asks Q n K z store s t struck (omega arith) k e h a in fails Q K z b (testIn n S T P need ((b .run) .relation) s t) refl;
+        held = x .0;
+        falls = (let g = strike-falls n store store' s t false struck (omega arith) k (x .1) in omega arith);
+      }
+    where
+      fails : (Q : Task) → SweepsIn Q n E S T P need → (z : Run) → (a : At n Q z store s t false struck true) → (b : Bool) → testIn n S T P need ((a .run) .relation) s t ≡ b → At n Q z store' s (t + 1) false true false
+      fails Q K z a false f = at-forth-fails Q n K z store s t struck h q a (sym (K .test ((a .run) .relation) s t (omega arith) k) ∙ f)
+      fails Q K z a true f =
+          let R = (a .run) .relation in
+          at-back-fails Q n K z store s t struck h q (at-forth Q n K z store s t struck a (sym (K .test R s t (omega arith) k) ∙ f))
+          (sym (K .test R t s k (omega arith)) ∙ and-f (testIn n S T P need R s t) (testIn n S T P need R t s) f (p R (a .stored .0)))
 
   pub row-ends : n ≤ t → t ≤ n → Held n E S T P need store C s t false false
       → Moves n E S T P need store s t false struck false (weight n store s t false struck + 1) store C (s + 1) (s + 1 + 1) false struck false

@@ -23,7 +23,7 @@ use Rattle.flow_core.specs.Outcome.{settled}
 use Rattle.flow_theory.specs.Run.{allPushes}
 use Rattle.flow_core.specs.declared.rows.Answer.{Answer}
 use Rattle.flow_core.specs.declared.rows.Answer.the-variants.{Flow}
-use Rattle.flow_direct.specs.Reaches.{reaches, atLeast}
+use Rattle.flow_direct.specs.Reaches.{bothReach, reaches, atLeast}
 use Rattle.flow_direct.proofs.Beginning.{answer-reaches}
 
 -- ---- a flow test
@@ -84,6 +84,13 @@ module _ {n : ℕ} {S T : List ℕ} {P : List Float} (F : RowsFit n S T P) where
       let ts = partOf S t T in
       let ws = partOf S t P in
       sym (answer-reaches need (fits us vs ts ws n) (runBetween n (relationOf store) (jumpsOf us vs) (jumpsOf ts ws))) ∙ ap (atLeast need) (passed-in store R z s t h k)
+
+  -- both ways
+  pub reached-both : (need : Float) (store : List ℕ) (R : List Bool) → store ≡ packed R → (s t : ℕ) → s < n → t < n
+      → bothReach (partOf S s T) (partOf S s P) (partOf S t T) (partOf S t P) n (relationOf store) need ≡ (testIn n S T P need R s t && testIn n S T P need R t s)
+  reached-both need store R z s t h k =
+      ap (λ (b : Bool). b && reaches (partOf S t T) (partOf S t P) (partOf S s T) (partOf S s P) n (relationOf store) need) (reached-in need store R z s t h k)
+      ∙ ap (λ (b : Bool). testIn n S T P need R s t && b) (reached-in need store R z t s k h)
 
 pub first-fails : (a b : Bool) → a ≡ false → false ≡ (a && b)
 first-fails a b h = ap (λ (x : Bool). x && b) (sym h)

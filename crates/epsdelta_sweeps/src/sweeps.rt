@@ -4,13 +4,15 @@ use crate::changes::strike;
 use crate::changes::unchanged;
 use flow_core::rows::Answer;
 use flow_core::test::flow_between;
+use flow_direct::reach::Ways;
+use flow_direct::reach::both_ways;
 use flow_direct::reach::enough;
 use flow_direct::reach::verdict;
 use flow_direct::settle::Verdict;
 use numbers::bit;
 ghost use mathlib.Core.Path.{_≡_};
 ghost use Prim.Native.Nat.{ℕ, _≤_, _<_, _+_, _*_, _-_};
-ghost use mathlib.Core.Bool.{Bool, true, false};
+ghost use mathlib.Core.Bool.{Bool, true, false, _&&_};
 ghost use mathlib.Core.List.{List};
 ghost use lib.Ieee.{Float};
 ghost use lib.ListN.{length, getD};
@@ -47,6 +49,36 @@ fn judge(
     let c = starts[t] as usize;
     let d = starts[t + 1] as usize;
     verdict(
+        &targets[a..b],
+        &probs[a..b],
+        &targets[c..d],
+        &probs[c..d],
+        states,
+        relation,
+        need,
+    )
+}
+
+// What is known without a network of the flow tests from s to t and back.
+fn judge_both(
+    starts: &[u32],
+    targets: &[u32],
+    probs: &[f64],
+    states: usize,
+    need: f64,
+    relation: &[u8],
+    s: usize,
+    t: usize,
+) -> Ways
+    requires { ⌜ RowsFit states (now starts) (now targets) (now probs) × (s < states) × (t < states) ⌝ }
+    ensures { λ r. ⌜ (r .known ≡ true → (R : List Bool) → now (relation .entry) ≡ packed R → (testIn states (now (starts .entry)) (now (targets .entry)) (now (probs .entry)) need R s t && testIn states (now (starts .entry)) (now (targets .entry)) (now (probs .entry)) need R t s) ≡ r .passes)
+        × (r .back ≡ true → (R : List Bool) → now (relation .entry) ≡ packed R → testIn states (now (starts .entry)) (now (targets .entry)) (now (probs .entry)) need R s t ≡ true) ⌝ }
+{
+    let a = starts[s] as usize;
+    let b = starts[s + 1] as usize;
+    let c = starts[t] as usize;
+    let d = starts[t + 1] as usize;
+    both_ways(
         &targets[a..b],
         &probs[a..b],
         &targets[c..d],
@@ -168,29 +200,27 @@ fn turn(
     if unchanged(starts, targets, states, changed, s, t) {
         return next;
     }
-    let v = judge(starts, targets, probs, states, need, relation, s, t);
+    let v = judge_both(starts, targets, probs, states, need, relation, s, t);
     if !v.known {
         return Place {
             s: s,
             t: t,
-            back: false,
+            back: v.back,
             struck: struck,
             asks: true,
         };
     }
-    tested_forth(
-        starts,
-        targets,
-        probs,
-        states,
-        need,
-        relation,
-        changed,
-        s,
-        t,
-        struck,
-        v.passes,
-    )
+    if v.passes {
+        return next;
+    }
+    strike(states, relation, changed, s, t);
+    Place {
+        s: s,
+        t: t + 1,
+        back: false,
+        struck: true,
+        asks: false,
+    }
 }
 
 // The turns of s with t and every higher state, up to one that asks.

@@ -3,9 +3,11 @@ use mathlib.Core.Path.{_≡_, refl, sym, ap, _∙_}
 use Prim.Native.Nat.{ℕ, _+_, _*_}
 use mathlib.Core.Bool.{Bool, true, false, _&&_}
 use mathlib.Core.List.{List, []}
+use lib.Dec.{leb}
 use lib.Ieee.{Float, le}
 use lib.ListN.{getD}
 use Rattle.numbers.specs.Bits.{bitAt}
+use Rattle.numbers.proofs.Bools.{and-t, and-second}
 use Rattle.flow_theory.specs.Run.{FlowRun}
 use Rattle.epsdelta_theory.specs.Jumps.{Jump, jumpsOf}
 use Rattle.epsdelta_theory.specs.Relation.{relationOf, holds}
@@ -14,12 +16,12 @@ use Rattle.epsdelta_theory.proofs.RowReads.{jumps-at}
 use Rattle.flow_routes.proofs.Crossing.{targetAt}
 use Rattle.flow_routes.proofs.Standing.{Rows, holding}
 use Rattle.flow_routes.proofs.Reaching.{Begins, Told}
-use Rattle.flow_links.specs.Fits.{fits}
+use Rattle.flow_links.specs.Fits.{rowFits, fits}
 use Rattle.flow_links.proofs.LinkWrites.{entry}
 use Rattle.flow_links.proofs.Fitting.{fit}
 use Rattle.flow_core.specs.Outcome.{settled}
 use Rattle.flow_core.proofs.Tests.{lefts, rights, between}
-use Rattle.flow_direct.specs.Reaches.{reaches, atLeast}
+use Rattle.flow_direct.specs.Reaches.{reaches, bothReach, atLeast}
 
 abbrev rowsOf : List ℕ → List Float → List ℕ → List Float → ℕ → List ℕ → Rows
 rowsOf us vs ts ws n store = record { states = n; relation = relationOf store; ps = jumpsOf us vs; pt = jumpsOf ts ws }
@@ -51,6 +53,19 @@ module _ (us : List ℕ) (vs : List Float) (ts : List ℕ) (ws : List Float) (n 
   -- rows that do not fit
   pub none-reaches : (need : Float) → fits us vs ts ws n ≡ false → false ≡ reaches us vs ts ws n (relationOf store) need
   none-reaches need f = ap (λ (b : Bool). b && le need ((runBetween n (relationOf store) (jumpsOf us vs) (jumpsOf ts ws)) .total)) (sym f)
+
+-- ---- both ways
+
+-- rows that do not fit
+pub none-both : (us : List ℕ) (vs : List Float) (ts : List ℕ) (ws : List Float) (n : ℕ) (R : List Bool) (need : Float) → fits us vs ts ws n ≡ false → false ≡ bothReach us vs ts ws n R need
+none-both us vs ts ws n R need f = ap (λ (b : Bool). (b && le need ((runBetween n R (jumpsOf us vs) (jumpsOf ts ws)) .total)) && reaches ts ws us vs n R need) (sym f)
+
+-- rows that fit one way fit the other
+pub fits-back : (us : List ℕ) (vs : List Float) (ts : List ℕ) (ws : List Float) (n : ℕ) → fits us vs ts ws n ≡ true → fits ts ws us vs n ≡ true
+fits-back us vs ts ws n f =
+    let (a, r) = and-t (leb n 2000) (rowFits us vs && rowFits ts ws) f in
+    let (b, d) = and-t (rowFits us vs) (rowFits ts ws) r in
+    sym (and-second (leb n 2000) (rowFits ts ws && rowFits us vs) true a (and-second (rowFits ts ws) (rowFits us vs) true d (sym b)))
 
 -- what an answer says
 pub answer-reaches : (need : Float) (b : Bool) (r : FlowRun) → atLeast need (settled b r [] .answer) ≡ (b && le need (r .total))

@@ -13,6 +13,10 @@ use Rattle.flow_core.specs.declared.rows.Answer.the-variants as says
 abbrev pub reaches : List ℕ → List Float → List ℕ → List Float → ℕ → List Bool → Float → Bool
 reaches us vs ts ws n R need = fits us vs ts ws n && le need ((runBetween n R (jumpsOf us vs) (jumpsOf ts ws)) .total)
 
+-- the flows of the runs from the one row to the other and back are
+abbrev pub bothReach : List ℕ → List Float → List ℕ → List Float → ℕ → List Bool → Float → Bool
+bothReach us vs ts ws n R need = reaches us vs ts ws n R need && reaches ts ws us vs n R need
+
 -- the same of an answer; a refusal is no flow
 abbrev pub atLeast : Float → Answer → Bool
 atLeast need (says.Flow f p q) = le need f

@@ -13,7 +13,7 @@ ghost use lib.Ieee.{nan};
 ghost use Rattle.numbers.specs.Real.{nought};
 ghost use Rattle.epsdelta_theory.specs.Relation.{relationOf};
 ghost use Rattle.flow_routes.proofs.Reaching.{Told};
-ghost use Rattle.flow_direct.specs.Reaches.{atLeast, reaches};
+ghost use Rattle.flow_direct.specs.Reaches.{atLeast, reaches, bothReach};
 
 // Whether an answer is a flow that is enough.
 pub fn enough(answer: Answer, need: f64) -> bool
@@ -232,4 +232,69 @@ pub fn verdict(
         relation,
         need,
     )
+}
+
+// What is known without a network of the flow tests between two rows, from the one to the other and back: whether both pass. With `back` the first does.
+pub struct Ways {
+    pub known: bool,
+    pub passes: bool,
+    pub back: bool,
+}
+
+// The same both ways, with one check of the rows. The flow back is looked at only where the other is known to be enough.
+pub fn both_ways(
+    left_targets: &[u32],
+    left_rates: &[f64],
+    right_targets: &[u32],
+    right_rates: &[f64],
+    states: usize,
+    relation: &[u8],
+    need: f64,
+) -> Ways
+    ensures { λ r. ⌜ (r .known ≡ true → r .passes ≡ bothReach (now («left_targets» .entry)) (now («left_rates» .entry)) (now («right_targets» .entry)) (now («right_rates» .entry)) states (relationOf (now (relation .entry))) need) × (r .back ≡ true → reaches (now («left_targets» .entry)) (now («left_rates» .entry)) (now («right_targets» .entry)) (now («right_rates» .entry)) states (relationOf (now (relation .entry))) need ≡ true) ⌝ }
+{
+    if !rows_fit(left_targets, left_rates, right_targets, right_rates, states) {
+        return Ways {
+            known: true,
+            passes: false,
+            back: false,
+        };
+    }
+    let v = reach(
+        left_targets,
+        left_rates,
+        right_targets,
+        right_rates,
+        states,
+        relation,
+        need,
+    );
+    if !v.known {
+        return Ways {
+            known: false,
+            passes: false,
+            back: false,
+        };
+    }
+    if !v.passes {
+        return Ways {
+            known: true,
+            passes: false,
+            back: false,
+        };
+    }
+    let w = reach(
+        right_targets,
+        right_rates,
+        left_targets,
+        left_rates,
+        states,
+        relation,
+        need,
+    );
+    Ways {
+        known: w.known,
+        passes: w.passes,
+        back: true,
+    }
 }

@@ -1,6 +1,5 @@
 // Searches: the first target that has a label and something left. They go from the last target down without a way out, since which target it is can't be foretold.
 use flow_routes::remains;
-use numbers::bit;
 ghost use mathlib.Core.Path.{_≡_};
 ghost use mathlib.Core.Logic.{_≢_};
 ghost use Prim.Native.Nat.{ℕ, _+_, _*_, _≤_, _<_};
@@ -37,6 +36,23 @@ pub(crate) fn first_left(lefts: &[f64], labels: &[usize], n: usize, want: usize)
     r
 }
 
+// Byte k of a relation; 0 past its end.
+fn byte_of(relation: &[u8], k: usize) -> u8
+    ensures { λ r. ⌜ r ≡ getD (now (relation .entry)) k 0 ⌝ }
+{
+    if k < relation.len() {
+        return relation[k];
+    }
+    0
+}
+
+// Bit i of a relation, as `numbers::bit` has it; past the end it is read of 0, so that a search has one test the less.
+fn related(relation: &[u8], i: usize) -> bool
+    ensures { λ r. ⌜ r ≡ bitAt (now (relation .entry)) i ⌝ }
+{
+    (byte_of(relation, i >> 3) >> (i & 7)) & 1 == 1
+}
+
 // The first target of t with this label whose bit, counted from `base` on, is set; their number where there is none.
 pub(crate) fn first_right(
     targets: &[u32],
@@ -54,7 +70,7 @@ pub(crate) fn first_right(
         j -= 1;
         r = lower(
             labels[j] == want,
-            bit(relation, base + targets[j] as usize),
+            related(relation, base + targets[j] as usize),
             j,
             r,
         );

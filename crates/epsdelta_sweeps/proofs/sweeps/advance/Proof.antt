@@ -41,14 +41,14 @@ sweep-requires-2 c κs =
     (c .before .before .before .before .before .before .before .before .before .before .before .before .before .before .before .before .before .before .before .before .before .before .pre .0, c .before .before .before .before .before .before .before .before .before .before .before .before .before .before .before .before .before .before .before .before .before .before .pre .1, omega arith, (λ k. omega arith), sweep-ends (c .before .before .before .before .before .before .before .before .before .before .before .before .before .before .before .before .before .before .before .before .before .before .pre .0) (c .before .before .before .before .before .before .before .before .loop .p .struck) h i (c .before .before .before .before .before .before .before .loop-test .taken) (c .before .before .before .before .fade .kept .1 .0) (c .before .before .before .before .fade .ensures) (resting (l .2) e (refl, refl, b) .held) .held)
 
 loop-less : tie.Need-loop-less Inv-loop μ-loop
-loop-less c = let l = c .before .before .before .before .before .before .before .before .before .before .before .before .before .loop .inv in sweep-again (c .before .before .before .before .before .before .before .before .before .before .before .before .before .before .before .before .before .before .before .before .before .before .before .before .before .before .before .pre .0) (l .2) (c .before .before .before .before .before .before .before .before .before .before .before .if1 .left) (l .3 (c .before .before .before .before .before .before .before .before .before .before .before .if1 .left)) (c .before .before .before .before .before .before .before .before .before .before .before .before .loop-test .taken) (c .before .before .before .before .before .before .before .before .before .fade .kept .1 .0) (c .before .before .before .before .before .before .before .before .before .fade .ensures) (λ _. c .before .before .before .before .sweep2 .ensures .0) .1
+loop-less c = let l = c .before .before .before .before .before .before .before .before .before .before .before .before .before .loop .inv in sweep-again (c .before .before .before .before .before .before .before .before .before .before .before .before .before .before .before .before .before .before .before .before .before .before .before .before .before .before .before .pre .0) {C' = c .before .before .before .before .before .before .before .before .before .fade .last .1 .0} (l .2) (c .before .before .before .before .before .before .before .before .before .before .before .if1 .left) (l .3 (c .before .before .before .before .before .before .before .before .before .before .before .if1 .left)) (c .before .before .before .before .before .before .before .before .before .before .before .before .loop-test .taken) (c .before .before .before .before .before .before .before .before .before .fade .kept .1 .0) (c .before .before .before .before .before .before .before .before .before .fade .ensures) (λ _. c .before .before .before .before .sweep2 .ensures .0) .1
 
 loop-again : tie.Need-loop-again Inv-loop μ-loop
 loop-again c =
     let l = c .before .before .before .before .before .before .before .before .before .before .before .before .before .loop .inv in (
       c .before .before .before .before .sweep2 .kept .1 .1 .1 .1 .1 .1 .0 ∙ l .0,
       c .before .before .before .before .sweep2 .kept .1 .1 .1 .1 .1 .1 .1 .0 ∙ c .before .before .before .before .before .before .before .before .before .fade .kept .1 .0 ∙ l .1,
-      sweep-again (c .before .before .before .before .before .before .before .before .before .before .before .before .before .before .before .before .before .before .before .before .before .before .before .before .before .before .before .pre .0) (l .2) (c .before .before .before .before .before .before .before .before .before .before .before .if1 .left) (l .3 (c .before .before .before .before .before .before .before .before .before .before .before .if1 .left)) (c .before .before .before .before .before .before .before .before .before .before .before .before .loop-test .taken) (c .before .before .before .before .before .before .before .before .before .fade .kept .1 .0) (c .before .before .before .before .before .before .before .before .before .fade .ensures) (λ _. c .before .before .before .before .sweep2 .ensures .0) .0,
+      sweep-again (c .before .before .before .before .before .before .before .before .before .before .before .before .before .before .before .before .before .before .before .before .before .before .before .before .before .before .before .pre .0) {C' = c .before .before .before .before .before .before .before .before .before .fade .last .1 .0} (l .2) (c .before .before .before .before .before .before .before .before .before .before .before .if1 .left) (l .3 (c .before .before .before .before .before .before .before .before .before .before .before .if1 .left)) (c .before .before .before .before .before .before .before .before .before .before .before .before .loop-test .taken) (c .before .before .before .before .before .before .before .before .before .fade .kept .1 .0) (c .before .before .before .before .before .before .before .before .before .fade .ensures) (λ _. c .before .before .before .before .sweep2 .ensures .0) .0,
       c .before .before .before .before .sweep2 .ensures .1,
     )
 

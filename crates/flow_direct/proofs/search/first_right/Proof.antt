@@ -29,20 +29,20 @@ mul-lower c = let i = c .before .loop .inv .0 in let t = c .loop-test .taken in 
 shared-slice-read-lower : tie.Need-shared-slice-read-lower Inv-loop μ-loop
 shared-slice-read-lower c = let i = c .before .before .loop .inv .0 in let t = c .before .loop-test .taken in let p = c .before .before .before .before .before .before .pre in let a = p .0 in omega arith
 
-mul-bit : tie.Need-mul-bit Inv-loop μ-loop
-mul-bit c = let i = c .before .before .loop .inv .0 in let t = c .before .loop-test .taken in let p = c .before .before .before .before .before .before .pre in omega arith
+mul-related : tie.Need-mul-related Inv-loop μ-loop
+mul-related c = let i = c .before .before .loop .inv .0 in let t = c .before .loop-test .taken in let p = c .before .before .before .before .before .before .pre in omega arith
 
-shared-slice-read-bit : tie.Need-shared-slice-read-bit Inv-loop μ-loop
-shared-slice-read-bit c = let i = c .before .before .before .loop .inv .0 in let t = c .before .before .loop-test .taken in let p = c .before .before .before .before .before .before .before .pre in omega arith
+shared-slice-read-related : tie.Need-shared-slice-read-related Inv-loop μ-loop
+shared-slice-read-related c = let i = c .before .before .before .loop .inv .0 in let t = c .before .before .loop-test .taken in let p = c .before .before .before .before .before .before .before .pre in omega arith
 
-cast-bit : tie.Need-cast-bit Inv-loop μ-loop
-cast-bit c = omega (arith, c .shared-slice-known5 .given (c .before .before .before .loop .j - 1))
+cast-related : tie.Need-cast-related Inv-loop μ-loop
+cast-related c = omega (arith, c .shared-slice-known5 .given (c .before .before .before .loop .j - 1))
 
-add-bit : tie.Need-add-bit Inv-loop μ-loop
-add-bit c = let p = c .before .before .before .before .before .before .before .pre .1 in omega (arith, c .shared-slice-known5 .given (c .before .before .before .loop .j - 1))
+add-related : tie.Need-add-related Inv-loop μ-loop
+add-related c = let p = c .before .before .before .before .before .before .before .pre .1 in omega (arith, c .shared-slice-known5 .given (c .before .before .before .loop .j - 1))
 
-bit-requires : tie.Need-bit-requires Inv-loop μ-loop
-bit-requires c κs = search needs
+related-requires : tie.Need-related-requires Inv-loop μ-loop
+related-requires c κs = search needs
 
 lower-requires : tie.Need-lower-requires Inv-loop μ-loop
 lower-requires c κs = search needs
@@ -51,7 +51,7 @@ loop-less : tie.Need-loop-less Inv-loop μ-loop
 loop-less c = let t = c .before .before .before .before .loop-test .taken in omega arith
 
 loop-again : tie.Need-loop-again Inv-loop μ-loop
-loop-again c = (let i = c .before .before .before .before .before .loop .inv .0 in omega arith, from-down (c .before .before .before .before .before .loop .inv .1) (c .before .before .before .before .loop-test .taken) (c .before .before .before .before .before .loop .inv .0) (both-or-none _ _ (c .lower .ensures) (λ e. eqb-true _ _ e) (λ e x. eqb-false _ _ e x) (λ e. sym (c .before .bit .ensures) ∙ e) (λ e x. true≢false (sym x ∙ sym (c .before .bit .ensures) ∙ e))))
+loop-again c = (let i = c .before .before .before .before .before .loop .inv .0 in omega arith, from-down (c .before .before .before .before .before .loop .inv .1) (c .before .before .before .before .loop-test .taken) (c .before .before .before .before .before .loop .inv .0) (both-or-none _ _ (c .lower .ensures) (λ e. eqb-true _ _ e) (λ e x. eqb-false _ _ e x) (λ e. sym (c .before .related .ensures) ∙ e) (λ e x. true≢false (sym x ∙ sym (c .before .related .ensures) ∙ e))))
 
 returns : tie.Need-returns Inv-loop μ-loop
 returns c = from-ends (c .before .loop .inv .1) (c .loop-test .left)
@@ -66,11 +66,11 @@ first-right-spec =
     sub-j
     mul-lower
     shared-slice-read-lower
-    mul-bit
-    shared-slice-read-bit
-    cast-bit
-    add-bit
-    bit-requires
+    mul-related
+    shared-slice-read-related
+    cast-related
+    add-related
+    related-requires
     lower-requires
     loop-less
     loop-again
