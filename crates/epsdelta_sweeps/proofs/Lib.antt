@@ -1,5 +1,5 @@
 pub mod Marking
 pub mod Turns
 pub mod Noting
-pub mod Sweeping
+pub mod Resuming
 pub mod Reading

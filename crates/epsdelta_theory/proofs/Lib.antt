@@ -17,5 +17,6 @@ pub mod RowReads
 pub mod Layings
 pub mod TasksIn
 pub mod Unchanged
+pub mod Places
 pub mod Halves
 pub mod MinEpsilon

@@ -50,6 +50,10 @@ module _ (us : List ℕ) (vs : List Float) (ts : List ℕ) (ws : List Float) (n 
     pub known-reaches : (need : Float) {known passes : Bool} → Told us vs ts ws n store need known passes → known ≡ true → passes ≡ reaches us vs ts ws n (relationOf store) need
     known-reaches need T z = T z (rowsOf us vs ts ws n store) begins ∙ ap (λ (b : Bool). b && le need ((runBetween n (relationOf store) (jumpsOf us vs) (jumpsOf ts ws)) .total)) (sym f)
 
+  -- rows that do not fit
+  pub none-reaches : (need : Float) → fits us vs ts ws n ≡ false → false ≡ reaches us vs ts ws n (relationOf store) need
+  none-reaches need f = ap (λ (b : Bool). b && le need ((runBetween n (relationOf store) (jumpsOf us vs) (jumpsOf ts ws)) .total)) (sym f)
+
 -- ---- both ways
 
 -- rows that do not fit
