@@ -1,6 +1,6 @@
 -- The flow test of two rows that stand in lists, as code makes it: of parts of the lists, against the bytes of a relation.
 use mathlib.Core.Path.{_≡_, sym, ap, _∙_}
-use Prim.Native.Nat.{ℕ, zero, suc, _+_, _-_, _<_}
+use Prim.Native.Nat.{ℕ, zero, suc, _+_, _-_, _*_, _<_}
 use mathlib.Core.Bool.{Bool, true, false, _&&_}
 use mathlib.Core.List.{List, [], _∷_}
 use native.Mathlib.Omega.{arith}
@@ -15,7 +15,7 @@ use Rattle.epsdelta_theory.specs.Jumps.{jumpsOf}
 use Rattle.epsdelta_theory.specs.FlowTest.{runBetween}
 use Rattle.epsdelta_theory.proofs.TasksIn.{rowIn, testIn, RowsFit}
 use Rattle.flow_links.specs.Fits.{rowFits, fits}
-use Rattle.flow_links.proofs.Fitting.{all-fit}
+use Rattle.flow_links.proofs.Fitting.{all-fit, fit, few-links, Written, laid}
 use Rattle.epsdelta_theory.specs.Relation.{relationOf}
 use Rattle.flow_core.specs.Test.{flowBetween}
 use Rattle.flow_core.proofs.Tests.{between-packed}
@@ -25,6 +25,9 @@ use Rattle.flow_core.specs.declared.rows.Answer.{Answer}
 use Rattle.flow_core.specs.declared.rows.Answer.the-variants.{Flow}
 use Rattle.flow_direct.specs.Reaches.{bothReach, reaches, atLeast}
 use Rattle.flow_direct.proofs.Beginning.{answer-reaches}
+use Rattle.flow.specs.declared.network.FlowNetwork.{FlowNetwork}
+use Rattle.flow.specs.Filled.{flowRows}
+use Rattle.flow.proofs.FlowRows.{rows-between}
 
 -- ---- a flow test
 
@@ -94,3 +97,45 @@ module _ {n : ℕ} {S T : List ℕ} {P : List Float} (F : RowsFit n S T P) where
 
 pub first-fails : (a b : Bool) → a ≡ false → false ≡ (a && b)
 first-fails a b h = ap (λ (x : Bool). x && b) (sym h)
+
+-- ---- the links of a flow test in rows
+
+module _ {n : ℕ} {S T : List ℕ} {P : List Float} (F : RowsFit n S T P) where
+  fits-in : (s t : ℕ) → s < n → t < n → fits (partOf S s T) (partOf S s P) (partOf S t T) (partOf S t P) n ≡ true
+  fits-in s t h k =
+      ap (λ (l : List ℕ). fits l (partOf S s P) (partOf S t T) (partOf S t P) n) (part (getD S s 0) (getD S (s + 1) 0) T)
+      ∙ ap (λ (l : List Float). fits (slice (getD S s 0) (getD S (s + 1) 0) T) l (partOf S t T) (partOf S t P) n) (part (getD S s 0) (getD S (s + 1) 0) P)
+      ∙ ap (λ (l : List ℕ). fits (slice (getD S s 0) (getD S (s + 1) 0) T) (slice (getD S s 0) (getD S (s + 1) 0) P) l (partOf S t P) n) (part (getD S t 0) (getD S (t + 1) 0) T)
+      ∙ ap (λ (l : List Float). fits (slice (getD S s 0) (getD S (s + 1) 0) T) (slice (getD S s 0) (getD S (s + 1) 0) P) (slice (getD S t 0) (getD S (t + 1) 0) T) l n) (part (getD S t 0) (getD S (t + 1) 0) P)
+      ∙ all-fit (slice (getD S s 0) (getD S (s + 1) 0) T) (slice (getD S s 0) (getD S (s + 1) 0) P) (slice (getD S t 0) (getD S (t + 1) 0) T) (slice (getD S t 0) (getD S (t + 1) 0) P) n (F .few) (row-fits F s h) (row-fits F t k)
+
+  -- so many targets a part has
+  pub part-count : (s : ℕ) → s < n → length (partOf S s T) ≡ getD S (s + 1) 0 - getD S s 0
+  part-count s h = ap length (part (getD S s 0) (getD S (s + 1) 0) T) ∙ length-slice (getD S s 0) (getD S (s + 1) 0) T (F .targets-long s h)
+
+  -- where the links of the test were written into rows with room for all, the run on a network that is filled from them is the definition's test
+  pub laid-test : (store : List ℕ) (s t : ℕ) → s < n → t < n → (h : List ℕ) (c : List Float) → length h ≡ 2046 → length c ≡ 2046
+      → {d : Bool} {k : ℕ} {h' : List ℕ} {c' : List Float} → Written (partOf S s T) (partOf S s P) (partOf S t T) (partOf S t P) n (relationOf store) h c d k h' c'
+      → (x y z : ℕ) → x ≡ length (partOf S s T) + length (partOf S t T) + 2 → y ≡ length (partOf S s T) + length (partOf S t T) → z ≡ length (partOf S s T) + length (partOf S t T) + 1
+      → (N : FlowNetwork) → length (N .links) ≡ 2176 → length (N .list) ≡ 2176 → (p : List Float) → length p ≡ 2046
+      → (need : Float) (R : List Bool) → store ≡ packed R → testIn n S T P need R s t ≡ atLeast need (flowRows N h' c' p k x y z .answer)
+  laid-test store s t i j h c lh lc {d} {k} {h'} {c'} w x y z ex ey ez N whole places p lp need R e =
+      let us = partOf S s T in
+      let vs = partOf S s P in
+      let ts = partOf S t T in
+      let ws = partOf S t P in
+      let f = fits-in s t i j in
+      let G = fit us vs ts ws n f in
+      let q = 2 * (length us + length ts + length us * length ts) in
+      let few = few-links (length us) (length ts) (G .left .few) (G .right .few) in
+      let done : d ≡ true =
+          w .0 ∙ ap (λ (b : Bool). b && (leb q (length h) && leb q (length c))) f ∙ ap (λ (b : Bool). b && leb q (length c)) (le-leb q (length h) (omega arith)) ∙ le-leb q (length c) (omega arith) in
+      let L = laid us vs ts ws n store h c w done in
+      let m = L .heads-in in
+      let g = L .heads-size in
+      sym (
+        ap (λ (v : ℕ). atLeast need (flowRows N h' c' p k v y z .answer)) ex
+        ∙ ap (λ (v : ℕ). atLeast need (flowRows N h' c' p k (length us + length ts + 2) v z .answer)) ey
+        ∙ ap (λ (v : ℕ). atLeast need (flowRows N h' c' p k (length us + length ts + 2) (length us + length ts) v .answer)) ez
+        ∙ ap (atLeast need) (rows-between store L N whole places p (omega arith) ∙ passed-in F store R e s t i j)
+      )

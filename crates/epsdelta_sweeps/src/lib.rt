@@ -1,6 +1,7 @@
 // The relation of states whose rows stand in lists: marks, and sweeps until one without a strike.
 mod changes; // changes.rt: strikes that are noted, and tests that need no run
 mod marks; // marks.rt: the marks of a relation
+mod network; // network.rt: flow tests on a network that is lent
 pub mod relate; // relate.rt: marks, then sweeps
 mod rows; // rows.rt: whether lists hold rows that can be read
 mod sweeps; // sweeps.rt: turns, sweeps and the run

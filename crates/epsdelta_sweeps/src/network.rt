@@ -1,0 +1,146 @@
+// The flow tests that sweeps ask for, on one network that is lent to each of them.
+use crate::sweeps::Place;
+use flow::network::FlowNetwork;
+use flow::rows::flow_rows;
+use flow_core::rows::Answer;
+use flow_links::links::write_links;
+ghost use mathlib.Core.Path.{_≡_};
+ghost use Prim.Native.Nat.{ℕ, _≤_, _<_, _+_, _*_, _-_};
+ghost use mathlib.Core.Bool.{Bool, true, false};
+ghost use mathlib.Core.List.{List};
+ghost use lib.Ieee.{Float};
+ghost use lib.ListN.{length};
+ghost use Rattle.numbers.specs.Bits.{packed};
+ghost use Rattle.epsdelta_theory.proofs.TasksIn.{RowsFit, testIn};
+ghost use Rattle.flow.specs.declared.network.FlowNetwork.{FlowNetwork};
+ghost use Rattle.flow.specs.Filled.{flowRows};
+ghost use Rattle.flow_direct.specs.Reaches.{atLeast};
+
+// The links of a flow test in rows: the places that they take, the nodes, and the test's ends.
+pub struct Laid {
+    pub places: usize,
+    pub nodes: usize,
+    pub source: usize,
+    pub sink: usize,
+}
+
+// Writes the links of the flow test from s to t over the lent rows.
+fn lay_links(
+    starts: &[u32],
+    targets: &[u32],
+    probs: &[f64],
+    states: usize,
+    relation: &[u8],
+    s: usize,
+    t: usize,
+    heads: &mut [u32],
+    caps: &mut [f64],
+) -> Laid
+    requires { ⌜ RowsFit states (now starts) (now targets) (now probs) × (s < states) × (t < states) × (length (now heads) ≡ 2046) × (length (now caps) ≡ 2046) ⌝ }
+    ensures { λ r. ⌜ ((N : FlowNetwork) → length (N .links) ≡ 2176 → length (N .list) ≡ 2176 → (costs : List Float) → length costs ≡ 2046 → (need : Float) (R : List Bool) → now (relation .entry) ≡ packed R
+        → testIn states (now (starts .entry)) (now (targets .entry)) (now (probs .entry)) need R s t ≡ atLeast need (flowRows N (now (heads .exit)) (now (caps .exit)) costs (r .places) (r .nodes) (r .source) (r .sink) .answer)) ⌝ }
+{
+    let a = starts[s] as usize;
+    let b = starts[s + 1] as usize;
+    let c = starts[t] as usize;
+    let d = starts[t + 1] as usize;
+    let w = write_links(
+        &targets[a..b],
+        &probs[a..b],
+        &targets[c..d],
+        &probs[c..d],
+        states,
+        relation,
+        heads,
+        caps,
+    );
+    let source = b - a + (d - c);
+    Laid {
+        places: w.places,
+        nodes: source + 2,
+        source: source,
+        sink: source + 1,
+    }
+}
+
+// Writes the links of the flow test that a place asks for over the lent rows.
+fn lay(
+    starts: &[u32],
+    targets: &[u32],
+    probs: &[f64],
+    states: usize,
+    relation: &[u8],
+    p: Place,
+    heads: &mut [u32],
+    caps: &mut [f64],
+) -> Laid
+    requires { ⌜ RowsFit states (now starts) (now targets) (now probs) × (p .s < states) × (p .t < states) × (length (now heads) ≡ 2046) × (length (now caps) ≡ 2046) ⌝ }
+    ensures { λ r. ⌜ ((N : FlowNetwork) → length (N .links) ≡ 2176 → length (N .list) ≡ 2176 → (costs : List Float) → length costs ≡ 2046 → (need : Float) (R : List Bool) → now (relation .entry) ≡ packed R
+        → (p .back ≡ false → testIn states (now (starts .entry)) (now (targets .entry)) (now (probs .entry)) need R (p .s) (p .t) ≡ atLeast need (flowRows N (now (heads .exit)) (now (caps .exit)) costs (r .places) (r .nodes) (r .source) (r .sink) .answer))
+        × (p .back ≡ true → testIn states (now (starts .entry)) (now (targets .entry)) (now (probs .entry)) need R (p .t) (p .s) ≡ atLeast need (flowRows N (now (heads .exit)) (now (caps .exit)) costs (r .places) (r .nodes) (r .source) (r .sink) .answer))) ⌝ }
+{
+    let s = p.s;
+    let t = p.t;
+    if p.back {
+        return lay_links(
+            starts,
+            targets,
+            probs,
+            states,
+            relation,
+            t,
+            s,
+            heads,
+            caps,
+        );
+    }
+    lay_links(
+        starts,
+        targets,
+        probs,
+        states,
+        relation,
+        s,
+        t,
+        heads,
+        caps,
+    )
+}
+
+// The flow test that a place asks for, on a network and rows that are lent.
+fn asked_on(
+    net: &mut FlowNetwork,
+    starts: &[u32],
+    targets: &[u32],
+    probs: &[f64],
+    states: usize,
+    relation: &[u8],
+    p: Place,
+    heads: &mut [u32],
+    caps: &mut [f64],
+    costs: &mut [f64],
+) -> Answer
+    requires { ⌜ RowsFit states (now starts) (now targets) (now probs) × (p .s < states) × (p .t < states) × (length (now heads) ≡ 2046) × (length (now caps) ≡ 2046) × (length (now costs) ≡ 2046) ⌝ }
+    ensures { λ r. ⌜ ((need : Float) (R : List Bool) → now (relation .entry) ≡ packed R → (p .back ≡ false → testIn states (now (starts .entry)) (now (targets .entry)) (now (probs .entry)) need R (p .s) (p .t) ≡ atLeast need r) × (p .back ≡ true → testIn states (now (starts .entry)) (now (targets .entry)) (now (probs .entry)) need R (p .t) (p .s) ≡ atLeast need r)) ⌝ }
+{
+    let w = lay(
+        starts,
+        targets,
+        probs,
+        states,
+        relation,
+        p,
+        heads,
+        caps,
+    );
+    flow_rows(
+        net,
+        heads,
+        caps,
+        costs,
+        w.places,
+        w.nodes,
+        w.source,
+        w.sink,
+    )
+}
