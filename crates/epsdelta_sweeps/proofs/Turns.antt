@@ -129,13 +129,13 @@ module _ {n : ℕ} {S T : List ℕ} {P : List Float} (F : RowsFit n S T P) where
       let q = 2 * (length us + length ts + length us * length ts) in
       let few = few-links (length us) (length ts) (G .left .few) (G .right .few) in
       let done : d ≡ true =
-          w .0 ∙ ap (λ (b : Bool). b && (leb q (length h) && leb q (length c))) f ∙ ap (λ (b : Bool). b && leb q (length c)) (le-leb q (length h) (omega arith)) ∙ le-leb q (length c) (omega arith) in
+      w .0 ∙ ap (λ (b : Bool). b && (leb q (length h) && leb q (length c))) f ∙ ap (λ (b : Bool). b && leb q (length c)) (le-leb q (length h) (omega arith)) ∙ le-leb q (length c) (omega arith) in
       let L = laid us vs ts ws n store h c w done in
       let m = L .heads-in in
       let g = L .heads-size in
       sym (
-        ap (λ (v : ℕ). atLeast need (flowRows N h' c' p k v y z .answer)) ex
-        ∙ ap (λ (v : ℕ). atLeast need (flowRows N h' c' p k (length us + length ts + 2) v z .answer)) ey
-        ∙ ap (λ (v : ℕ). atLeast need (flowRows N h' c' p k (length us + length ts + 2) (length us + length ts) v .answer)) ez
-        ∙ ap (atLeast need) (rows-between store L N whole places p (omega arith) ∙ passed-in F store R e s t i j)
+      ap (λ (v : ℕ). atLeast need (flowRows N h' c' p k v y z .answer)) ex
+      ∙ ap (λ (v : ℕ). atLeast need (flowRows N h' c' p k (length us + length ts + 2) v z .answer)) ey
+      ∙ ap (λ (v : ℕ). atLeast need (flowRows N h' c' p k (length us + length ts + 2) (length us + length ts) v .answer)) ez
+      ∙ ap (atLeast need) (rows-between store L N whole places p (omega arith) ∙ passed-in F store R e s t i j)
       )

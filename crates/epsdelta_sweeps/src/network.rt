@@ -1,5 +1,6 @@
 // The flow tests that sweeps ask for, on one network that is lent to each of them.
 use crate::sweeps::Place;
+use crate::sweeps::settle;
 use flow::network::FlowNetwork;
 use flow::rows::flow_rows;
 use flow_core::rows::Answer;
@@ -12,6 +13,7 @@ ghost use lib.Ieee.{Float};
 ghost use lib.ListN.{length};
 ghost use Rattle.numbers.specs.Bits.{packed};
 ghost use Rattle.epsdelta_theory.proofs.TasksIn.{RowsFit, testIn};
+ghost use Rattle.epsdelta_theory.proofs.Places.{Held, Moves, weight};
 ghost use Rattle.flow.specs.declared.network.FlowNetwork.{FlowNetwork};
 ghost use Rattle.flow.specs.Filled.{flowRows};
 ghost use Rattle.flow_direct.specs.Reaches.{atLeast};
@@ -82,29 +84,9 @@ fn lay(
     let s = p.s;
     let t = p.t;
     if p.back {
-        return lay_links(
-            starts,
-            targets,
-            probs,
-            states,
-            relation,
-            t,
-            s,
-            heads,
-            caps,
-        );
+        return lay_links(starts, targets, probs, states, relation, t, s, heads, caps);
     }
-    lay_links(
-        starts,
-        targets,
-        probs,
-        states,
-        relation,
-        s,
-        t,
-        heads,
-        caps,
-    )
+    lay_links(starts, targets, probs, states, relation, s, t, heads, caps)
 }
 
 // The flow test that a place asks for, on a network and rows that are lent.
@@ -123,24 +105,56 @@ fn asked_on(
     requires { ⌜ RowsFit states (now starts) (now targets) (now probs) × (p .s < states) × (p .t < states) × (length (now heads) ≡ 2046) × (length (now caps) ≡ 2046) × (length (now costs) ≡ 2046) ⌝ }
     ensures { λ r. ⌜ ((need : Float) (R : List Bool) → now (relation .entry) ≡ packed R → (p .back ≡ false → testIn states (now (starts .entry)) (now (targets .entry)) (now (probs .entry)) need R (p .s) (p .t) ≡ atLeast need r) × (p .back ≡ true → testIn states (now (starts .entry)) (now (targets .entry)) (now (probs .entry)) need R (p .t) (p .s) ≡ atLeast need r)) ⌝ }
 {
-    let w = lay(
-        starts,
-        targets,
-        probs,
-        states,
-        relation,
-        p,
-        heads,
-        caps,
-    );
-    flow_rows(
-        net,
-        heads,
-        caps,
-        costs,
-        w.places,
-        w.nodes,
-        w.source,
-        w.sink,
-    )
+    let w = lay(starts, targets, probs, states, relation, p, heads, caps);
+    flow_rows(net, heads, caps, costs, w.places, w.nodes, w.source, w.sink)
+}
+
+// Sweeps from a place until one without a strike: each test that asks is made on the network that is lent.
+fn run_on(
+    net: &mut FlowNetwork,
+    exits: &[f64],
+    starts: &[u32],
+    targets: &[u32],
+    probs: &[f64],
+    states: usize,
+    need: f64,
+    relation: &mut [u8],
+    changed: &mut [u64],
+    heads: &mut [u32],
+    caps: &mut [f64],
+    costs: &mut [f64],
+    first: Place,
+) -> Place
+    requires { ⌜ RowsFit states (now starts) (now targets) (now probs) × (states ≤ length (now exits)) × Held states (now exits) (now starts) (now targets) (now probs) need (now relation) (now changed) (first .s) (first .t) (first .back) (first .asks)
+        × (length (now heads) ≡ 2046) × (length (now caps) ≡ 2046) × (length (now costs) ≡ 2046) × (first .asks ≡ false → (first .struck ≡ false) × (states ≤ first .s) × (states ≤ first .t)) ⌝ }
+    ensures { λ r. ⌜ Moves states (now (exits .entry)) (now (starts .entry)) (now (targets .entry)) (now (probs .entry)) need (now (relation .entry)) (first .s) (first .t) (first .back) (first .struck) (first .asks) (weight states (now (relation .entry)) (first .s) (first .t) (first .back) (first .struck) + 1) (now (relation .exit)) (now (changed .exit)) (r .s) (r .t) (r .back) (r .struck) (r .asks) × (r .asks ≡ false) × (r .struck ≡ false) × (states ≤ r .s) × (states ≤ r .t) ⌝ }
+{
+    let mut p = first;
+    while p.asks {
+        let answer = asked_on(
+            net,
+            starts,
+            targets,
+            probs,
+            states,
+            relation,
+            p,
+            heads,
+            caps,
+            costs,
+        );
+        p = settle(
+            exits,
+            starts,
+            targets,
+            probs,
+            states,
+            need,
+            relation,
+            changed,
+            p,
+            answer,
+        );
+    }
+    p
 }

@@ -413,7 +413,7 @@ fn tested(
 }
 
 // The answer to the test that a place asks for, and the sweeps from there up to the next that asks.
-fn settle(
+pub(crate) fn settle(
     exits: &[f64],
     starts: &[u32],
     targets: &[u32],
@@ -425,8 +425,8 @@ fn settle(
     p: Place,
     answer: Answer,
 ) -> Place
-    requires { ⌜ RowsFit states (now starts) (now targets) (now probs) × (states ≤ length (now exits)) × Held states (now exits) (now starts) (now targets) (now probs) need (now relation) (now changed) (p .s) (p .t) (p .back) true ⌝ }
-    requires { ⌜ ((R : List Bool) → now relation ≡ packed R → (p .back ≡ false → testIn states (now starts) (now targets) (now probs) need R (p .s) (p .t) ≡ atLeast need answer) × (p .back ≡ true → testIn states (now starts) (now targets) (now probs) need R (p .t) (p .s) ≡ atLeast need answer)) ⌝ }
+    requires { ⌜ RowsFit states (now starts) (now targets) (now probs) × (states ≤ length (now exits)) × Held states (now exits) (now starts) (now targets) (now probs) need (now relation) (now changed) (p .s) (p .t) (p .back) true
+        × ((R : List Bool) → now relation ≡ packed R → (p .back ≡ false → testIn states (now starts) (now targets) (now probs) need R (p .s) (p .t) ≡ atLeast need answer) × (p .back ≡ true → testIn states (now starts) (now targets) (now probs) need R (p .t) (p .s) ≡ atLeast need answer)) ⌝ }
     ensures { λ r. ⌜ Moves states (now (exits .entry)) (now (starts .entry)) (now (targets .entry)) (now (probs .entry)) need (now (relation .entry)) (p .s) (p .t) (p .back) (p .struck) true (weight states (now (relation .entry)) (p .s) (p .t) (p .back) (p .struck)) (now (relation .exit)) (now (changed .exit)) (r .s) (r .t) (r .back) (r .struck) (r .asks) × (r .asks ≡ false → (r .struck ≡ false) × (states ≤ r .s) × (states ≤ r .t)) ⌝ }
 {
     let q = tested(

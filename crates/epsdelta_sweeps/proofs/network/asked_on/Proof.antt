@@ -320,97 +320,97 @@ module _ {M : Type 1} (𝓤 : URA M) (H : Heap 𝓤) (A : Atoms 𝓤) (W : Given
 
       flows-on : ent 𝓤 (⋆ 𝓤 H A At₂) (Wp 𝓤 H (𝓣 .C) (𝓣 .Λ) En pieces.t-6 (atReturn 𝓤 H En Post))
       flows-on =
-        qed W At₂ ∵ exec ! (𝓣 .C) (𝓣 .Λ) En pieces.t-6 (atRet En Post) $
-        assigns ! (addr ! (from ! (hop ! (look ! 13 refl) (stop !)))) (from ! (stop !)) (init ! 28 refl (tt, tt)) $
-        assigns ! (addr ! (from ! (fld ! refl (hop ! (look-in ! 20 (sub ! 0 refl (whole !))) (stop !))))) (from ! (stop !)) (init ! 29 refl (tt, tt)) $
-        assigns ! (agg ! (and-then ! (load ! (from ! (stop !)) (look ! 29 refl)) (and-then ! (load ! (from ! (fld ! refl (stop !))) (look-in ! 20 (sub ! 1 refl (whole !)))) (no-more !)))) (from ! (stop !)) (init ! 30 refl (tt, (tt, (record { fits = room₅ .0 }, tt)))) $
-        assigns ! (addr ! (from ! (fld ! refl (hop ! (look-in ! 21 (sub ! 0 refl (whole !))) (stop !))))) (from ! (stop !)) (init ! 31 refl (tt, tt)) $
-        assigns ! (agg ! (and-then ! (load ! (from ! (stop !)) (look ! 31 refl)) (and-then ! (load ! (from ! (fld ! refl (stop !))) (look-in ! 21 (sub ! 1 refl (whole !)))) (no-more !)))) (from ! (stop !)) (init ! 32 refl (tt, (tt, (record { fits = room₆ .0 }, tt)))) $
-        assigns ! (addr ! (from ! (fld ! refl (hop ! (look-in ! 22 (sub ! 0 refl (whole !))) (stop !))))) (from ! (stop !)) (init ! 33 refl (tt, tt)) $
-        assigns ! (agg ! (and-then ! (load ! (from ! (stop !)) (look ! 33 refl)) (and-then ! (load ! (from ! (fld ! refl (stop !))) (look-in ! 22 (sub ! 1 refl (whole !)))) (no-more !)))) (from ! (stop !)) (init ! 34 refl (tt, (tt, (record { fits = room₇ .0 }, tt)))) $
-        nothing ! $
-        move ! (12 ∷ 0 ∷ []) $
-        join ! $
-        move ! (11 ∷ 0 ∷ []) $
-        join ! $
-        move ! (10 ∷ 0 ∷ []) $
-        join ! $
-        move ! (5 ∷ 0 ∷ []) $
-        join ! $
-        move ! (3 ∷ 4 ∷ []) $
-        join ! $
-        move ! (3 ∷ 0 ∷ []) $
-        join ! $
-        move ! (2 ∷ 0 ∷ []) $
-        join ! $
-        move ! (1 ∷ 0 ∷ []) $
-        join ! $
-        use1 W (raw (Flows 𝓤 H A at-mem run .pre (to-flow w hs′ cs′))) (goes-flow w hs′ cs′ was) $
-        calls-at ! fm (Flows 𝓤 H A at-mem run) known₂ (to-flow w hs′ cs′) (and-then ! (load ! (from ! (stop !)) (look ! 21 refl)) (and-then ! (load ! (from ! (stop !)) (look ! 23 refl)) (and-then ! (load ! (from ! (stop !)) (look ! 25 refl)) (and-then ! (load ! (from ! (stop !)) (look ! 27 refl)) (and-then ! (load ! (from ! (fld ! refl (stop !))) (look-in ! 16 (sub ! 0 refl (whole !)))) (and-then ! (load ! (from ! (fld ! refl (stop !))) (look-in ! 16 (sub ! 1 refl (whole !)))) (and-then ! (load ! (from ! (fld ! refl (stop !))) (look-in ! 16 (sub ! 2 refl (whole !)))) (and-then ! (load ! (from ! (fld ! refl (stop !))) (look-in ! 16 (sub ! 3 refl (whole !)))) (no-more !))))))))) (λ v.
-        use1 W (later (some (λ (r : Answer). ((‵ (flft κ q) ⊛ (‵ (flft κ₅ q₅) ⊛ (‵ (flft κ₆ q₆) ⊛ (‵ (flft κ₇ q₇) ⊛ ‵ ftrue)))) ⊛ ‵ (S.the-row .own r (v ∷ []))) ⊛ raw (ensured 𝓤 H A flows.ended (flows.clauses 𝓤 H A at-mem run) (κ, (κ₅, (κ₆, (κ₇, tt)))) (flow-args w hs′ cs′) tt r)))) (id⊢ 𝓤 _) $
-        await ! tt $
-        pick ! (λ r.
-        split ! $
-        move ! (1 ∷ []) $
-        use1 W (some (λ (ws : Lasts₂). ‵ (lasts flows.ended (κ, (κ₅, (κ₆, (κ₇, tt)))) (flow-args w hs′ cs′) ws) ⊛ raw (fact 𝓤 (flown r (ws .0) (ws .1 .0) (ws .1 .1 .0) (ws .1 .1 .1 .0) ≡ flowRows h hs′ cs′ ps (w .places) (w .nodes) (w .source) (w .sink))))) (id⊢ 𝓤 _) $
-        pick ! (λ ws.
-        split ! $
-        move ! (1 ∷ []) $
-        heard ! (flown r (ws .0) (ws .1 .0) (ws .1 .1 .0) (ws .1 .1 .1 .0) ≡ flowRows h hs′ cs′ ps (w .places) (w .nodes) (w .source) (w .sink)) (λ ran.
-        fsplit ! $
-        move ! (1 ∷ []) $
-        fsplit ! $
-        fsplit ! $
-        move ! (1 ∷ []) $
-        feqL ! (λ grown₅.
-        move ! (1 ∷ []) $
-        fsplit ! $
-        fsplit ! $
-        move ! (1 ∷ []) $
-        feqL ! (λ grown₆.
-        move ! (1 ∷ []) $
-        fsplit ! $
-        fsplit ! $
-        move ! (1 ∷ []) $
-        feqL ! (λ grown₇.
-        move ! (5 ∷ []) $
-        split ! $
-        split ! $
-        move ! (1 ∷ []) $
-        split ! $
-        move ! (1 ∷ []) $
-        split ! $
-        move ! (1 ∷ []) $
-        split ! $
-        move ! (5 ∷ []) $
-        peeks ! S.the-row (Is S.the-row) (shows 𝓤 H A S.the-row) r (v ∷ []) (λ is.
-        land ! (from ! (stop !)) (init ! 15 refl (answered r v is)) $
-        returns ! (look ! 15 refl) $
-        forget ! 15 refl $
-        forget ! 16 refl $
-        forget ! 17 refl $
-        forget ! 18 refl $
-        forget ! 19 refl $
-        forget ! 20 refl $
-        forget ! 21 refl $
-        forget ! 22 refl $
-        forget ! 23 refl $
-        forget ! 24 refl $
-        forget ! 25 refl $
-        forget ! 26 refl $
-        forget ! 27 refl $
-        forget ! 28 refl $
-        forget ! 29 refl $
-        forget ! 30 refl $
-        forget ! 31 refl $
-        forget ! 32 refl $
-        forget ! 33 refl $
-        forget ! 34 refl $
-        forget ! 35 refl $
-        forget ! 36 refl $
-        forget ! 37 refl $
-        keep ! (15 ∷ 38 ∷ 16 ∷ 39 ∷ 17 ∷ 40 ∷ 18 ∷ 41 ∷ 19 ∷ 42 ∷ 20 ∷ 43 ∷ 21 ∷ 44 ∷ 22 ∷ 45 ∷ 23 ∷ 46 ∷ 24 ∷ 47 ∷ 25 ∷ 48 ∷ 26 ∷ 49 ∷ 27 ∷ 50 ∷ 28 ∷ 51 ∷ 29 ∷ 52 ∷ 30 ∷ 53 ∷ 31 ∷ 54 ∷ 32 ∷ 55 ∷ 33 ∷ 56 ∷ 34 ∷ 57 ∷ 35 ∷ 58 ∷ 36 ∷ 59 ∷ 37 ∷ 60 ∷ 10 ∷ 9 ∷ 8 ∷ 6 ∷ 5 ∷ 11 ∷ 12 ∷ 13 ∷ 14 ∷ 4 ∷ 3 ∷ 1 ∷ []) $
-        free-all ! En (Leaving (ws .0) (ws .1 .0) (ws .1 .1 .0) (ws .1 .1 .1 .0)) (by ! (exits r v is (ws .0) (ws .1 .0) (ws .1 .1 .0) (ws .1 .1 .1 .0) (grown₅ ∙ size₅) (grown₆ ∙ size₆) grown₇ (subst Meant (sym (ap (λ (x : Flown). x .answer) ran)) (told h (sized .0) (sized .1) ps (asked .5)))))))))))))
+          qed W At₂ ∵ exec ! (𝓣 .C) (𝓣 .Λ) En pieces.t-6 (atRet En Post) $
+          assigns ! (addr ! (from ! (hop ! (look ! 13 refl) (stop !)))) (from ! (stop !)) (init ! 28 refl (tt, tt)) $
+          assigns ! (addr ! (from ! (fld ! refl (hop ! (look-in ! 20 (sub ! 0 refl (whole !))) (stop !))))) (from ! (stop !)) (init ! 29 refl (tt, tt)) $
+          assigns ! (agg ! (and-then ! (load ! (from ! (stop !)) (look ! 29 refl)) (and-then ! (load ! (from ! (fld ! refl (stop !))) (look-in ! 20 (sub ! 1 refl (whole !)))) (no-more !)))) (from ! (stop !)) (init ! 30 refl (tt, (tt, (record { fits = room₅ .0 }, tt)))) $
+          assigns ! (addr ! (from ! (fld ! refl (hop ! (look-in ! 21 (sub ! 0 refl (whole !))) (stop !))))) (from ! (stop !)) (init ! 31 refl (tt, tt)) $
+          assigns ! (agg ! (and-then ! (load ! (from ! (stop !)) (look ! 31 refl)) (and-then ! (load ! (from ! (fld ! refl (stop !))) (look-in ! 21 (sub ! 1 refl (whole !)))) (no-more !)))) (from ! (stop !)) (init ! 32 refl (tt, (tt, (record { fits = room₆ .0 }, tt)))) $
+          assigns ! (addr ! (from ! (fld ! refl (hop ! (look-in ! 22 (sub ! 0 refl (whole !))) (stop !))))) (from ! (stop !)) (init ! 33 refl (tt, tt)) $
+          assigns ! (agg ! (and-then ! (load ! (from ! (stop !)) (look ! 33 refl)) (and-then ! (load ! (from ! (fld ! refl (stop !))) (look-in ! 22 (sub ! 1 refl (whole !)))) (no-more !)))) (from ! (stop !)) (init ! 34 refl (tt, (tt, (record { fits = room₇ .0 }, tt)))) $
+          nothing ! $
+          move ! (12 ∷ 0 ∷ []) $
+          join ! $
+          move ! (11 ∷ 0 ∷ []) $
+          join ! $
+          move ! (10 ∷ 0 ∷ []) $
+          join ! $
+          move ! (5 ∷ 0 ∷ []) $
+          join ! $
+          move ! (3 ∷ 4 ∷ []) $
+          join ! $
+          move ! (3 ∷ 0 ∷ []) $
+          join ! $
+          move ! (2 ∷ 0 ∷ []) $
+          join ! $
+          move ! (1 ∷ 0 ∷ []) $
+          join ! $
+          use1 W (raw (Flows 𝓤 H A at-mem run .pre (to-flow w hs′ cs′))) (goes-flow w hs′ cs′ was) $
+          calls-at ! fm (Flows 𝓤 H A at-mem run) known₂ (to-flow w hs′ cs′) (and-then ! (load ! (from ! (stop !)) (look ! 21 refl)) (and-then ! (load ! (from ! (stop !)) (look ! 23 refl)) (and-then ! (load ! (from ! (stop !)) (look ! 25 refl)) (and-then ! (load ! (from ! (stop !)) (look ! 27 refl)) (and-then ! (load ! (from ! (fld ! refl (stop !))) (look-in ! 16 (sub ! 0 refl (whole !)))) (and-then ! (load ! (from ! (fld ! refl (stop !))) (look-in ! 16 (sub ! 1 refl (whole !)))) (and-then ! (load ! (from ! (fld ! refl (stop !))) (look-in ! 16 (sub ! 2 refl (whole !)))) (and-then ! (load ! (from ! (fld ! refl (stop !))) (look-in ! 16 (sub ! 3 refl (whole !)))) (no-more !))))))))) (λ v.
+          use1 W (later (some (λ (r : Answer). ((‵ (flft κ q) ⊛ (‵ (flft κ₅ q₅) ⊛ (‵ (flft κ₆ q₆) ⊛ (‵ (flft κ₇ q₇) ⊛ ‵ ftrue)))) ⊛ ‵ (S.the-row .own r (v ∷ []))) ⊛ raw (ensured 𝓤 H A flows.ended (flows.clauses 𝓤 H A at-mem run) (κ, (κ₅, (κ₆, (κ₇, tt)))) (flow-args w hs′ cs′) tt r)))) (id⊢ 𝓤 _) $
+          await ! tt $
+          pick ! (λ r.
+          split ! $
+          move ! (1 ∷ []) $
+          use1 W (some (λ (ws : Lasts₂). ‵ (lasts flows.ended (κ, (κ₅, (κ₆, (κ₇, tt)))) (flow-args w hs′ cs′) ws) ⊛ raw (fact 𝓤 (flown r (ws .0) (ws .1 .0) (ws .1 .1 .0) (ws .1 .1 .1 .0) ≡ flowRows h hs′ cs′ ps (w .places) (w .nodes) (w .source) (w .sink))))) (id⊢ 𝓤 _) $
+          pick ! (λ ws.
+          split ! $
+          move ! (1 ∷ []) $
+          heard ! (flown r (ws .0) (ws .1 .0) (ws .1 .1 .0) (ws .1 .1 .1 .0) ≡ flowRows h hs′ cs′ ps (w .places) (w .nodes) (w .source) (w .sink)) (λ ran.
+          fsplit ! $
+          move ! (1 ∷ []) $
+          fsplit ! $
+          fsplit ! $
+          move ! (1 ∷ []) $
+          feqL ! (λ grown₅.
+          move ! (1 ∷ []) $
+          fsplit ! $
+          fsplit ! $
+          move ! (1 ∷ []) $
+          feqL ! (λ grown₆.
+          move ! (1 ∷ []) $
+          fsplit ! $
+          fsplit ! $
+          move ! (1 ∷ []) $
+          feqL ! (λ grown₇.
+          move ! (5 ∷ []) $
+          split ! $
+          split ! $
+          move ! (1 ∷ []) $
+          split ! $
+          move ! (1 ∷ []) $
+          split ! $
+          move ! (1 ∷ []) $
+          split ! $
+          move ! (5 ∷ []) $
+          peeks ! S.the-row (Is S.the-row) (shows 𝓤 H A S.the-row) r (v ∷ []) (λ is.
+          land ! (from ! (stop !)) (init ! 15 refl (answered r v is)) $
+          returns ! (look ! 15 refl) $
+          forget ! 15 refl $
+          forget ! 16 refl $
+          forget ! 17 refl $
+          forget ! 18 refl $
+          forget ! 19 refl $
+          forget ! 20 refl $
+          forget ! 21 refl $
+          forget ! 22 refl $
+          forget ! 23 refl $
+          forget ! 24 refl $
+          forget ! 25 refl $
+          forget ! 26 refl $
+          forget ! 27 refl $
+          forget ! 28 refl $
+          forget ! 29 refl $
+          forget ! 30 refl $
+          forget ! 31 refl $
+          forget ! 32 refl $
+          forget ! 33 refl $
+          forget ! 34 refl $
+          forget ! 35 refl $
+          forget ! 36 refl $
+          forget ! 37 refl $
+          keep ! (15 ∷ 38 ∷ 16 ∷ 39 ∷ 17 ∷ 40 ∷ 18 ∷ 41 ∷ 19 ∷ 42 ∷ 20 ∷ 43 ∷ 21 ∷ 44 ∷ 22 ∷ 45 ∷ 23 ∷ 46 ∷ 24 ∷ 47 ∷ 25 ∷ 48 ∷ 26 ∷ 49 ∷ 27 ∷ 50 ∷ 28 ∷ 51 ∷ 29 ∷ 52 ∷ 30 ∷ 53 ∷ 31 ∷ 54 ∷ 32 ∷ 55 ∷ 33 ∷ 56 ∷ 34 ∷ 57 ∷ 35 ∷ 58 ∷ 36 ∷ 59 ∷ 37 ∷ 60 ∷ 10 ∷ 9 ∷ 8 ∷ 6 ∷ 5 ∷ 11 ∷ 12 ∷ 13 ∷ 14 ∷ 4 ∷ 3 ∷ 1 ∷ []) $
+          free-all ! En (Leaving (ws .0) (ws .1 .0) (ws .1 .1 .0) (ws .1 .1 .1 .0)) (by ! (exits r v is (ws .0) (ws .1 .0) (ws .1 .1 .0) (ws .1 .1 .1 .0) (grown₅ ∙ size₅) (grown₆ ∙ size₆) grown₇ (subst Meant (sym (ap (λ (x : Flown). x .answer) ran)) (told h (sized .0) (sized .1) ps (asked .5)))))))))))))
 
     abbrev At : List (Item 𝓤)
     At = ‵ net ∷ ‵ starts ∷ ‵ targets ∷ ‵ probs ∷ ‵ relation ∷ ‵ (heads hs) ∷ ‵ (caps cs) ∷ ‵ costs ∷ ‵ (flft κ q) ∷ ‵ (flft κ₁ q₁) ∷ ‵ (flft κ₂ q₂) ∷ ‵ (flft κ₃ q₃) ∷ ‵ (flft κ₄ q₄) ∷ ‵ (flft κ₅ q₅) ∷ ‵ (flft κ₆ q₆) ∷ ‵ (flft κ₇ q₇) ∷ ‵ (froom S′.mir l₀ 0) ∷ ‵ (fat fullShare ref l₁ 0 (vptr b o)) ∷ ‵ (fat fullShare slice₁ l₂ 0 (sliceVal (b₁, o₁) (length st))) ∷ ‵ (fat fullShare slice₂ l₃ 0 (sliceVal (b₂, o₂) (length tg))) ∷ ‵ (fat fullShare slice₃ l₄ 0 (sliceVal (b₃, o₃) (length pr))) ∷ ‵ (fat fullShare word l₅ 0 (vint w64 states)) ∷ ‵ (fat fullShare slice₄ l₆ 0 (sliceVal (b₄, o₄) (length rl))) ∷ ‵ (fat fullShare P′.mir l₇ 0 (LL.val P.the-type P′.the-laws p)) ∷ ‵ (fat fullShare slice₅ l₈ 0 (sliceVal (b₅, o₅) (length hs))) ∷ ‵ (fat fullShare slice₆ l₉ 0 (sliceVal (b₆, o₆) (length cs))) ∷ ‵ (fat fullShare slice₇ l₁₀ 0 (sliceVal (b₇, o₇) (length ps))) ∷ ‵ (froom L′.mir l₁₁ 0) ∷ ‵ (froom heads-mut l₁₂ 0) ∷ ‵ (froom (sliceTy heads-mut) l₁₃ 0) ∷ ‵ (froom caps-mut l₁₄ 0) ∷ ‵ (froom (sliceTy caps-mut) l₁₅ 0) ∷ ‵ (froom net-ref l₁₆ 0) ∷ ‵ (froom heads-mut l₁₇ 0) ∷ ‵ (froom (sliceTy heads-mut) l₁₈ 0) ∷ ‵ (froom caps-mut l₁₉ 0) ∷ ‵ (froom (sliceTy caps-mut) l₂₀ 0) ∷ ‵ (froom caps-mut l₂₁ 0) ∷ ‵ (froom (sliceTy caps-mut) l₂₂ 0) ∷ ‵ (fdies S′.mir l₀) ∷ ‵ (fdies ref l₁) ∷ ‵ (fdies slice₁ l₂) ∷ ‵ (fdies slice₂ l₃) ∷ ‵ (fdies slice₃ l₄) ∷ ‵ (fdies word l₅) ∷ ‵ (fdies slice₄ l₆) ∷ ‵ (fdies P′.mir l₇) ∷ ‵ (fdies slice₅ l₈) ∷ ‵ (fdies slice₆ l₉) ∷ ‵ (fdies slice₇ l₁₀) ∷ ‵ (fdies L′.mir l₁₁) ∷ ‵ (fdies heads-mut l₁₂) ∷ ‵ (fdies (sliceTy heads-mut) l₁₃) ∷ ‵ (fdies caps-mut l₁₄) ∷ ‵ (fdies (sliceTy caps-mut) l₁₅) ∷ ‵ (fdies net-ref l₁₆) ∷ ‵ (fdies heads-mut l₁₇) ∷ ‵ (fdies (sliceTy heads-mut) l₁₈) ∷ ‵ (fdies caps-mut l₁₉) ∷ ‵ (fdies (sliceTy caps-mut) l₂₀) ∷ ‵ (fdies caps-mut l₂₁) ∷ ‵ (fdies (sliceTy caps-mut) l₂₂) ∷ []

@@ -29,7 +29,7 @@ asked-requires c κs =
     (c .before .before .before .before .before .before .before .before .before .before .before .before .before .before .before .before .pre .0 .0, omega arith, k)
 
 settle-requires : tie.Need-settle-requires Inv-loop μ-loop
-settle-requires c κs = ((c .before .before .before .before .before .before .before .before .before .before .before .before .before .before .before .before .before .before .before .pre .0 .0, c .before .before .before .before .before .before .before .before .before .before .before .before .before .before .before .before .before .before .before .pre .0 .1, asking (c .before .before .before .before .before .loop .inv .2) (c .before .before .before .before .loop-test .taken) .held), λ R e. c .before .before .asked .ensures (c .before .before .before .before .before .before .before .before .before .before .before .before .before .before .before .before .before .before .before .args .need) R e)
+settle-requires c κs = (c .before .before .before .before .before .before .before .before .before .before .before .before .before .before .before .before .before .before .before .pre .0 .0, c .before .before .before .before .before .before .before .before .before .before .before .before .before .before .before .before .before .before .before .pre .0 .1, asking (c .before .before .before .before .before .loop .inv .2) (c .before .before .before .before .loop-test .taken) .held, λ R e. c .before .before .asked .ensures (c .before .before .before .before .before .before .before .before .before .before .before .before .before .before .before .before .before .before .before .args .need) R e)
 
 loop-less : tie.Need-loop-less Inv-loop μ-loop
 loop-less c = c .before .before .before .before .settle .ensures .0 .falls

@@ -13,7 +13,7 @@ enough-requires c κs = search needs
 
 tested-requires : tie.Need-tested-requires
 tested-requires c κs =
-    let p = c .before .before .before .before .before .before .before .before .before .pre .0 in
+    let p = c .before .before .before .before .before .before .before .before .before .pre in
     let A = p .2 .asked refl in
     let l = A .apart in
     let k = A .inside in
@@ -28,19 +28,19 @@ same-length-2 c = search needs
 returns : tie.Need-returns
 returns c =
     let p = c .before .before .before .before .before .before .before .before .before .before .before .before .before .before .before .pre in
-    (c .before .before .before .before .before .tested .ensures .0 (c .before .before .before .before .before .before .before .before .before .before .before .before .before .before .before .args .exits .now) (p .0 .2) (λ R e. let q = p .1 R e in (λ b. q .0 b ∙ sym (c .before .before .before .before .before .before .enough .ensures), λ b. q .1 b ∙ sym (c .before .before .before .before .before .before .enough .ensures))), λ q. absurd (true≢false (sym (c .if1 .taken) ∙ q)))
+    (c .before .before .before .before .before .tested .ensures .0 (c .before .before .before .before .before .before .before .before .before .before .before .before .before .before .before .args .exits .now) (p .2) (λ R e. let q = p .3 R e in (λ b. q .0 b ∙ sym (c .before .before .before .before .before .before .enough .ensures), λ b. q .1 b ∙ sym (c .before .before .before .before .before .before .enough .ensures))), λ q. absurd (true≢false (sym (c .if1 .taken) ∙ q)))
 
 advance-requires : tie.Need-advance-requires
 advance-requires c κs =
     let p = c .before .before .before .before .before .before .before .before .before .before .before .before .before .before .before .before .before .pre in
-    let A = p .0 .2 .asked refl in
+    let A = p .2 .asked refl in
     let l = A .apart in
     let k = A .inside in
     let t = c .before .before .before .before .before .before .before .tested .ensures .1 (c .before .before .if1 .left) in
     let x = t .0 in
     let y = t .1 in
-    let M = c .before .before .before .before .before .before .before .tested .ensures .0 (c .before .before .before .before .before .before .before .before .before .before .before .before .before .before .before .before .before .args .exits .now) (p .0 .2) (λ R e. let q = p .1 R e in (λ b. q .0 b ∙ sym (c .before .before .before .before .before .before .before .before .enough .ensures), λ b. q .1 b ∙ sym (c .before .before .before .before .before .before .before .before .enough .ensures))) in
-    (p .0 .0, p .0 .1, omega arith, (λ h. omega arith), resting M (c .before .before .if1 .left) (refl, refl, t .2) .held)
+    let M = c .before .before .before .before .before .before .before .tested .ensures .0 (c .before .before .before .before .before .before .before .before .before .before .before .before .before .before .before .before .before .args .exits .now) (p .2) (λ R e. let q = p .3 R e in (λ b. q .0 b ∙ sym (c .before .before .before .before .before .before .before .before .enough .ensures), λ b. q .1 b ∙ sym (c .before .before .before .before .before .before .before .before .enough .ensures))) in
+    (p .0, p .1, omega arith, (λ h. omega arith), resting M (c .before .before .if1 .left) (refl, refl, t .2) .held)
 
 same-length-3 : tie.Need-same-length-3
 same-length-3 c = search needs
@@ -52,7 +52,7 @@ returns-2 : tie.Need-returns-2
 returns-2 c =
     let p = c .before .before .before .before .before .before .before .before .before .before .before .before .before .before .before .before .before .before .before .before .before .before .pre in
     let t = c .before .before .before .before .before .before .before .before .before .before .before .before .tested .ensures .1 (c .before .before .before .before .before .before .before .if1 .left) in
-    let M = c .before .before .before .before .before .before .before .before .before .before .before .before .tested .ensures .0 (c .before .before .before .before .before .before .before .before .before .before .before .before .before .before .before .before .before .before .before .before .before .before .args .exits .now) (p .0 .2) (λ R e. let q = p .1 R e in (λ b. q .0 b ∙ sym (c .before .before .before .before .before .before .before .before .before .before .before .before .before .enough .ensures), λ b. q .1 b ∙ sym (c .before .before .before .before .before .before .before .before .before .before .before .before .before .enough .ensures))) in
+    let M = c .before .before .before .before .before .before .before .before .before .before .before .before .tested .ensures .0 (c .before .before .before .before .before .before .before .before .before .before .before .before .before .before .before .before .before .before .before .before .before .before .args .exits .now) (p .2) (λ R e. let q = p .3 R e in (λ b. q .0 b ∙ sym (c .before .before .before .before .before .before .before .before .before .before .before .before .before .enough .ensures), λ b. q .1 b ∙ sym (c .before .before .before .before .before .before .before .before .before .before .before .before .before .enough .ensures))) in
     (moves-then (resting M (c .before .before .before .before .before .before .before .if1 .left) (refl, refl, t .2)) (omega arith) (c .before .before .before .before .advance .ensures .0), c .before .before .before .before .advance .ensures .1)
 
 pub settle-spec : {M : Type 1} → statement M
