@@ -4,21 +4,19 @@ use crate::give::give_rows;
 use crate::settle::Verdict;
 use crate::settle::search_on;
 use flow_core::rows::Answer;
-use flow_core::test::flow_between;
 use flow_links::fits::rows_fit;
 ghost use mathlib.Core.Path.{_≡_};
-ghost use mathlib.Core.Bool.{true, _&&_};
+ghost use mathlib.Core.Bool.{true};
 ghost use Prim.Native.Nat.{ℕ, _≤_, _<_, _*_};
 ghost use lib.ListN.{length, getD};
-ghost use lib.Ieee.{nan, le};
+ghost use lib.Ieee.{nan};
 ghost use Rattle.numbers.specs.Real.{nought};
 ghost use Rattle.epsdelta_theory.specs.Relation.{relationOf};
-ghost use Rattle.flow_links.specs.Fits.{fits};
 ghost use Rattle.flow_routes.proofs.Reaching.{Told};
-ghost use Rattle.flow_direct.specs.Reaches.{atLeast, reaches, plentyOrBoth};
+ghost use Rattle.flow_direct.specs.Reaches.{atLeast, reaches, bothReach};
 
 // Whether an answer is a flow that is enough.
-fn enough(answer: Answer, need: f64) -> bool
+pub fn enough(answer: Answer, need: f64) -> bool
     ensures { λ r. ⌜ r ≡ atLeast need answer ⌝ }
 {
     match answer {
@@ -206,8 +204,9 @@ fn reach(
     )
 }
 
-// Whether the flow between two rows that fit is at least what is needed.
-fn flow_reaches(
+// Whether the flow between two rows of jumps against a relation is at least what is needed, where that is known without a network: bit u * states + v says whether v is related with u.
+// It is not where a row has over 31 targets, or not one rate from 0 to 2^40 for each, or where the relation is over more than 2,000 states.
+pub fn verdict(
     left_targets: &[u32],
     left_rates: &[f64],
     right_targets: &[u32],
@@ -215,10 +214,52 @@ fn flow_reaches(
     states: usize,
     relation: &[u8],
     need: f64,
-) -> bool
-    requires { ⌜ fits (now «left_targets») (now «left_rates») (now «right_targets») (now «right_rates») states ≡ true ⌝ }
-    ensures { λ r. ⌜ r ≡ reaches (now («left_targets» .entry)) (now («left_rates» .entry)) (now («right_targets» .entry)) (now («right_rates» .entry)) states (relationOf (now (relation .entry))) need ⌝ }
+) -> Verdict
+    ensures { λ r. ⌜ (r .known ≡ true → r .passes ≡ reaches (now («left_targets» .entry)) (now («left_rates» .entry)) (now («right_targets» .entry)) (now («right_rates» .entry)) states (relationOf (now (relation .entry))) need) ⌝ }
 {
+    if !rows_fit(left_targets, left_rates, right_targets, right_rates, states) {
+        return Verdict {
+            known: true,
+            passes: false,
+        };
+    }
+    reach(
+        left_targets,
+        left_rates,
+        right_targets,
+        right_rates,
+        states,
+        relation,
+        need,
+    )
+}
+
+// What is known without a network of the flow tests between two rows, from the one to the other and back: whether both pass. With `back` the first does.
+pub struct Ways {
+    pub known: bool,
+    pub passes: bool,
+    pub back: bool,
+}
+
+// The same both ways, with one check of the rows. The flow back is looked at only where the other is known to be enough.
+pub fn both_ways(
+    left_targets: &[u32],
+    left_rates: &[f64],
+    right_targets: &[u32],
+    right_rates: &[f64],
+    states: usize,
+    relation: &[u8],
+    need: f64,
+) -> Ways
+    ensures { λ r. ⌜ (r .known ≡ true → r .passes ≡ bothReach (now («left_targets» .entry)) (now («left_rates» .entry)) (now («right_targets» .entry)) (now («right_rates» .entry)) states (relationOf (now (relation .entry))) need) × (r .back ≡ true → reaches (now («left_targets» .entry)) (now («left_rates» .entry)) (now («right_targets» .entry)) (now («right_rates» .entry)) states (relationOf (now (relation .entry))) need ≡ true) ⌝ }
+{
+    if !rows_fit(left_targets, left_rates, right_targets, right_rates, states) {
+        return Ways {
+            known: true,
+            passes: false,
+            back: false,
+        };
+    }
     let v = reach(
         left_targets,
         left_rates,
@@ -228,91 +269,21 @@ fn flow_reaches(
         relation,
         need,
     );
-    if v.known {
-        return v.passes;
+    if !v.known {
+        return Ways {
+            known: false,
+            passes: false,
+            back: false,
+        };
     }
-    enough(
-        flow_between(
-            left_targets,
-            left_rates,
-            right_targets,
-            right_rates,
-            states,
-            relation,
-        ),
-        need,
-    )
-}
-
-// Whether plenty is no less than what is needed, and the flow between two rows that fit is at least that.
-fn plenty_reaches(
-    left_targets: &[u32],
-    left_rates: &[f64],
-    right_targets: &[u32],
-    right_rates: &[f64],
-    states: usize,
-    relation: &[u8],
-    need: f64,
-    plenty: f64,
-) -> bool
-    requires { ⌜ fits (now «left_targets») (now «left_rates») (now «right_targets») (now «right_rates») states ≡ true ⌝ }
-    ensures { λ r. ⌜ r ≡ (le need plenty && reaches (now («left_targets» .entry)) (now («left_rates» .entry)) (now («right_targets» .entry)) (now («right_rates» .entry)) states (relationOf (now (relation .entry))) plenty) ⌝ }
-{
-    if need <= plenty {
-        return flow_reaches(
-            left_targets,
-            left_rates,
-            right_targets,
-            right_rates,
-            states,
-            relation,
-            plenty,
-        );
+    if !v.passes {
+        return Ways {
+            known: true,
+            passes: false,
+            back: false,
+        };
     }
-    false
-}
-
-// Whether the flows between two rows of jumps against a relation, from the one to the other and back, are at least what is needed: bit u * states + v says whether v is related with u. Where the one to the other is plenty, the one back is not asked for.
-// They are not where a row has over 31 targets, or not one rate from 0 to 2^40 for each, or where the relation is over more than 2,000 states. The one back is asked for only where the other is enough.
-pub fn flows_reach(
-    left_targets: &[u32],
-    left_rates: &[f64],
-    right_targets: &[u32],
-    right_rates: &[f64],
-    states: usize,
-    relation: &[u8],
-    need: f64,
-    plenty: f64,
-) -> bool
-    ensures { λ r. ⌜ r ≡ plentyOrBoth (now («left_targets» .entry)) (now («left_rates» .entry)) (now («right_targets» .entry)) (now («right_rates» .entry)) states (relationOf (now (relation .entry))) need plenty ⌝ }
-{
-    if !rows_fit(left_targets, left_rates, right_targets, right_rates, states) {
-        return false;
-    }
-    if plenty_reaches(
-        left_targets,
-        left_rates,
-        right_targets,
-        right_rates,
-        states,
-        relation,
-        need,
-        plenty,
-    ) {
-        return true;
-    }
-    if !flow_reaches(
-        left_targets,
-        left_rates,
-        right_targets,
-        right_rates,
-        states,
-        relation,
-        need,
-    ) {
-        return false;
-    }
-    flow_reaches(
+    let w = reach(
         right_targets,
         right_rates,
         left_targets,
@@ -320,5 +291,10 @@ pub fn flows_reach(
         states,
         relation,
         need,
-    )
+    );
+    Ways {
+        known: w.known,
+        passes: w.passes,
+        back: true,
+    }
 }

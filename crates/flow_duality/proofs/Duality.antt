@@ -285,9 +285,3 @@ module _ (n : ℕ) (R : List Bool) (ps pt : List Jump) (hs : Shares ps) (ht : Sh
   pub passes-back : (need : Float) → T (fits binary64 need) → le (add binary64 need spare) ((runBetween n R ps pt) .total) ≡ true → le need ((runBetween n R pt ps) .total) ≡ true
   passes-back need f h =
       spared need ((runBetween n R ps pt) .total) ((runBetween n R pt ps) .total) f (total-whole n R ps pt hs ht few few') (total-whole n R pt ps ht hs few' few) (total-few n R ps pt hs ht few few') gap h
-
-  -- and forth
-  pub passes-forth : (need : Float) → T (fits binary64 need) → le (add binary64 need spare) ((runBetween n R ps pt) .total) ≡ true → le need ((runBetween n R ps pt) .total) ≡ true
-  passes-forth need f h =
-      let w = total-whole n R ps pt hs ht few few' in
-      spared need ((runBetween n R ps pt) .total) ((runBetween n R ps pt) .total) f w w (total-few n R ps pt hs ht few few') (omega arith) h

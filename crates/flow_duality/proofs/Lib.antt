@@ -9,3 +9,4 @@ pub mod Networks
 pub mod Duality
 pub mod Testing
 pub mod Plenty
+pub mod Places
