@@ -60,8 +60,8 @@ fn judge(
     )
 }
 
-// True only if the flow test from s to t is known, without a network, to pass with so much flow that the one back passes too.
-fn has_plenty(
+// What is known without a network of the flow tests from s to t and back: with `plenty` both pass.
+fn judge_both(
     starts: &[u32],
     targets: &[u32],
     probs: &[f64],
@@ -71,49 +71,17 @@ fn has_plenty(
     relation: &[u8],
     s: usize,
     t: usize,
-) -> bool
+) -> Ways
     requires { ⌜ RowsFit states (now starts) (now targets) (now probs) × (s < states) × (t < states) × Plenty states (now starts) (now targets) (now probs) need plenty × Even states (now relation) ⌝ }
-    ensures { λ r. ⌜ (r ≡ true → (R : List Bool) → now (relation .entry) ≡ packed R → (testIn states (now (starts .entry)) (now (targets .entry)) (now (probs .entry)) need R s t ≡ true) × (testIn states (now (starts .entry)) (now (targets .entry)) (now (probs .entry)) need R t s ≡ true)) ⌝ }
+    ensures { λ r. ⌜ (r .known ≡ true → (R : List Bool) → now (relation .entry) ≡ packed R → (testIn states (now (starts .entry)) (now (targets .entry)) (now (probs .entry)) need R s t && testIn states (now (starts .entry)) (now (targets .entry)) (now (probs .entry)) need R t s) ≡ r .passes)
+        × (r .back ≡ true → (R : List Bool) → now (relation .entry) ≡ packed R → testIn states (now (starts .entry)) (now (targets .entry)) (now (probs .entry)) need R s t ≡ true)
+        × (r .plenty ≡ true → (R : List Bool) → now (relation .entry) ≡ packed R → (testIn states (now (starts .entry)) (now (targets .entry)) (now (probs .entry)) need R s t ≡ true) × (testIn states (now (starts .entry)) (now (targets .entry)) (now (probs .entry)) need R t s ≡ true)) ⌝ }
 {
     let a = starts[s] as usize;
     let b = starts[s + 1] as usize;
     let c = starts[t] as usize;
     let d = starts[t + 1] as usize;
     let here = plenty_between(a, b, c, d, plenty);
-    if need <= here {
-        let v = verdict(
-            &targets[a..b],
-            &probs[a..b],
-            &targets[c..d],
-            &probs[c..d],
-            states,
-            relation,
-            here,
-        );
-        return v.known && v.passes;
-    }
-    false
-}
-
-// What is known without a network of the flow tests from s to t and back.
-fn judge_both(
-    starts: &[u32],
-    targets: &[u32],
-    probs: &[f64],
-    states: usize,
-    need: f64,
-    relation: &[u8],
-    s: usize,
-    t: usize,
-) -> Ways
-    requires { ⌜ RowsFit states (now starts) (now targets) (now probs) × (s < states) × (t < states) ⌝ }
-    ensures { λ r. ⌜ (r .known ≡ true → (R : List Bool) → now (relation .entry) ≡ packed R → (testIn states (now (starts .entry)) (now (targets .entry)) (now (probs .entry)) need R s t && testIn states (now (starts .entry)) (now (targets .entry)) (now (probs .entry)) need R t s) ≡ r .passes)
-        × (r .back ≡ true → (R : List Bool) → now (relation .entry) ≡ packed R → testIn states (now (starts .entry)) (now (targets .entry)) (now (probs .entry)) need R s t ≡ true) ⌝ }
-{
-    let a = starts[s] as usize;
-    let b = starts[s + 1] as usize;
-    let c = starts[t] as usize;
-    let d = starts[t + 1] as usize;
     both_ways(
         &targets[a..b],
         &probs[a..b],
@@ -122,6 +90,7 @@ fn judge_both(
         states,
         relation,
         need,
+        here,
     )
 }
 
@@ -237,10 +206,10 @@ fn turn(
     if unchanged(starts, targets, states, changed, s, t) {
         return next;
     }
-    if has_plenty(starts, targets, probs, states, need, plenty, relation, s, t) {
+    let v = judge_both(starts, targets, probs, states, need, plenty, relation, s, t);
+    if v.plenty {
         return next;
     }
-    let v = judge_both(starts, targets, probs, states, need, relation, s, t);
     if !v.known {
         return Place {
             s: s,

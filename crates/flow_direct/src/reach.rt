@@ -6,12 +6,13 @@ use crate::settle::search_on;
 use flow_core::rows::Answer;
 use flow_links::fits::rows_fit;
 ghost use mathlib.Core.Path.{_≡_};
-ghost use mathlib.Core.Bool.{true};
+ghost use mathlib.Core.Bool.{true, false};
 ghost use Prim.Native.Nat.{ℕ, _≤_, _<_, _*_};
 ghost use lib.ListN.{length, getD};
 ghost use lib.Ieee.{nan};
 ghost use Rattle.numbers.specs.Real.{nought};
 ghost use Rattle.epsdelta_theory.specs.Relation.{relationOf};
+ghost use Rattle.flow_links.specs.Fits.{fits};
 ghost use Rattle.flow_routes.proofs.Reaching.{Told};
 ghost use Rattle.flow_direct.specs.Reaches.{atLeast, reaches, bothReach};
 
@@ -234,15 +235,45 @@ pub fn verdict(
     )
 }
 
-// What is known without a network of the flow tests between two rows, from the one to the other and back: whether both pass. With `back` the first does.
+// True only if plenty is no less than what is needed, and the flow between two rows that fit is known to be at least that.
+fn reaches_plenty(
+    left_targets: &[u32],
+    left_rates: &[f64],
+    right_targets: &[u32],
+    right_rates: &[f64],
+    states: usize,
+    relation: &[u8],
+    need: f64,
+    plenty: f64,
+) -> bool
+    requires { ⌜ fits (now «left_targets») (now «left_rates») (now «right_targets») (now «right_rates») states ≡ true ⌝ }
+    ensures { λ r. ⌜ (r ≡ true → reaches (now («left_targets» .entry)) (now («left_rates» .entry)) (now («right_targets» .entry)) (now («right_rates» .entry)) states (relationOf (now (relation .entry))) plenty ≡ true) ⌝ }
+{
+    if need <= plenty {
+        let v = reach(
+            left_targets,
+            left_rates,
+            right_targets,
+            right_rates,
+            states,
+            relation,
+            plenty,
+        );
+        return v.known && v.passes;
+    }
+    false
+}
+
+// What is known without a network of the flow tests between two rows, from the one to the other and back: whether both pass. With `back` the first does, and with `plenty` its flow is at least what is called so.
 pub struct Ways {
     pub known: bool,
     pub passes: bool,
     pub back: bool,
+    pub plenty: bool,
 }
 
-// The same both ways, with one check of the rows. The flow back is looked at only where the other is known to be enough.
-pub fn both_ways(
+// The same both ways of rows that fit. The flow back is looked at only where the other is known to be enough.
+fn each_way(
     left_targets: &[u32],
     left_rates: &[f64],
     right_targets: &[u32],
@@ -251,15 +282,9 @@ pub fn both_ways(
     relation: &[u8],
     need: f64,
 ) -> Ways
-    ensures { λ r. ⌜ (r .known ≡ true → r .passes ≡ bothReach (now («left_targets» .entry)) (now («left_rates» .entry)) (now («right_targets» .entry)) (now («right_rates» .entry)) states (relationOf (now (relation .entry))) need) × (r .back ≡ true → reaches (now («left_targets» .entry)) (now («left_rates» .entry)) (now («right_targets» .entry)) (now («right_rates» .entry)) states (relationOf (now (relation .entry))) need ≡ true) ⌝ }
+    requires { ⌜ fits (now «left_targets») (now «left_rates») (now «right_targets») (now «right_rates») states ≡ true ⌝ }
+    ensures { λ r. ⌜ (r .known ≡ true → r .passes ≡ bothReach (now («left_targets» .entry)) (now («left_rates» .entry)) (now («right_targets» .entry)) (now («right_rates» .entry)) states (relationOf (now (relation .entry))) need) × (r .back ≡ true → reaches (now («left_targets» .entry)) (now («left_rates» .entry)) (now («right_targets» .entry)) (now («right_rates» .entry)) states (relationOf (now (relation .entry))) need ≡ true) × (r .plenty ≡ false) ⌝ }
 {
-    if !rows_fit(left_targets, left_rates, right_targets, right_rates, states) {
-        return Ways {
-            known: true,
-            passes: false,
-            back: false,
-        };
-    }
     let v = reach(
         left_targets,
         left_rates,
@@ -274,6 +299,7 @@ pub fn both_ways(
             known: false,
             passes: false,
             back: false,
+            plenty: false,
         };
     }
     if !v.passes {
@@ -281,6 +307,7 @@ pub fn both_ways(
             known: true,
             passes: false,
             back: false,
+            plenty: false,
         };
     }
     let w = reach(
@@ -296,5 +323,56 @@ pub fn both_ways(
         known: w.known,
         passes: w.passes,
         back: true,
+        plenty: false,
     }
+}
+
+// The same both ways, with one check of the rows, unless the flow from the one to the other is known to be plenty.
+pub fn both_ways(
+    left_targets: &[u32],
+    left_rates: &[f64],
+    right_targets: &[u32],
+    right_rates: &[f64],
+    states: usize,
+    relation: &[u8],
+    need: f64,
+    plenty: f64,
+) -> Ways
+    ensures { λ r. ⌜ (r .known ≡ true → r .passes ≡ bothReach (now («left_targets» .entry)) (now («left_rates» .entry)) (now («right_targets» .entry)) (now («right_rates» .entry)) states (relationOf (now (relation .entry))) need) × (r .back ≡ true → reaches (now («left_targets» .entry)) (now («left_rates» .entry)) (now («right_targets» .entry)) (now («right_rates» .entry)) states (relationOf (now (relation .entry))) need ≡ true)
+        × (r .plenty ≡ true → reaches (now («left_targets» .entry)) (now («left_rates» .entry)) (now («right_targets» .entry)) (now («right_rates» .entry)) states (relationOf (now (relation .entry))) plenty ≡ true) ⌝ }
+{
+    if !rows_fit(left_targets, left_rates, right_targets, right_rates, states) {
+        return Ways {
+            known: true,
+            passes: false,
+            back: false,
+            plenty: false,
+        };
+    }
+    if reaches_plenty(
+        left_targets,
+        left_rates,
+        right_targets,
+        right_rates,
+        states,
+        relation,
+        need,
+        plenty,
+    ) {
+        return Ways {
+            known: false,
+            passes: false,
+            back: false,
+            plenty: true,
+        };
+    }
+    each_way(
+        left_targets,
+        left_rates,
+        right_targets,
+        right_rates,
+        states,
+        relation,
+        need,
+    )
 }

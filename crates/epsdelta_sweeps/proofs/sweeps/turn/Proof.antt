@@ -90,8 +90,8 @@ returns-3 c =
     let b = sym (c .before .before .before .before .before .before .bit .ensures) ∙ not-false _ (c .before .before .before .before .before .if1 .left) in
     (turn-quiet (p .0) (a .struck) (p .2) (p .3) (p .4) z b (λ R e. still-passes (p .0) (p .4 .noted) (a .s) (a .t) (p .2) (p .3) z b R e (c .before .unchanged .ensures (c .if3 .taken))), λ _. (refl, refl, refl))
 
-has-plenty-requires : tie.Need-has-plenty-requires
-has-plenty-requires c κs = let p = c .before .before .before .before .before .before .before .before .before .before .before .before .before .before .before .pre in let l = p .2 in let k = p .3 in (p .0, omega arith, k, p .4 .enough, p .4 .even)
+judge-both-requires : tie.Need-judge-both-requires
+judge-both-requires c κs = let p = c .before .before .before .before .before .before .before .before .before .before .before .before .before .before .before .pre in let l = p .2 in let k = p .3 in (p .0, omega arith, k, p .4 .enough, p .4 .even)
 
 same-length-5 : tie.Need-same-length-5
 same-length-5 c = search needs
@@ -102,10 +102,7 @@ same-length-6 c = search needs
 returns-4 : tie.Need-returns-4
 returns-4 c =
     let p = c .before .before .before .before .before .before .before .before .before .before .before .before .before .before .before .before .before .pre in
-    (turn-quiet (p .0) (c .before .before .before .before .before .before .before .before .before .before .before .before .before .before .before .before .before .args .struck) (p .2) (p .3) (p .4) (c .before .before .before .before .before .before .if2 .left) (sym (c .before .before .before .before .before .before .before .before .before .bit .ensures) ∙ not-false _ (c .before .before .before .before .before .before .before .before .if1 .left)) (c .before .has-plenty .ensures (c .if4 .taken)), λ _. (refl, refl, refl))
-
-judge-both-requires : tie.Need-judge-both-requires
-judge-both-requires c κs = let p = c .before .before .before .before .before .before .before .before .before .before .before .before .before .before .before .before .before .before .pre in let l = p .2 in let k = p .3 in (p .0, omega arith, k)
+    (turn-quiet (p .0) (c .before .before .before .before .before .before .before .before .before .before .before .before .before .before .before .before .before .args .struck) (p .2) (p .3) (p .4) (c .before .before .before .before .before .before .if2 .left) (sym (c .before .before .before .before .before .before .before .before .before .bit .ensures) ∙ not-false _ (c .before .before .before .before .before .before .before .before .if1 .left)) (c .before .judge-both .ensures .2 (c .if4 .taken)), λ _. (refl, refl, refl))
 
 same-length-7 : tie.Need-same-length-7
 same-length-7 c = search needs
@@ -115,8 +112,8 @@ same-length-8 c = search needs
 
 returns-5 : tie.Need-returns-5
 returns-5 c =
-    let p = c .before .before .before .before .before .before .before .before .before .before .before .before .before .before .before .before .before .before .before .before .before .pre in
-    (turn-waits (p .0) (c .before .before .before .before .before .before .before .before .before .before .before .before .before .before .before .before .before .before .before .before .before .args .struck) (p .2) (p .3) (p .4) (c .before .before .before .before .before .before .before .before .before .before .if2 .left) (sym (c .before .before .before .before .before .before .before .before .before .before .before .before .before .bit .ensures) ∙ not-false _ (c .before .before .before .before .before .before .before .before .before .before .before .before .if1 .left)) (c .before .before .judge-both .result .back) (c .before .before .judge-both .ensures .1), λ q. absurd (true≢false q))
+    let p = c .before .before .before .before .before .before .before .before .before .before .before .before .before .before .before .before .before .before .before .pre in
+    (turn-waits (p .0) (c .before .before .before .before .before .before .before .before .before .before .before .before .before .before .before .before .before .before .before .args .struck) (p .2) (p .3) (p .4) (c .before .before .before .before .before .before .before .before .if2 .left) (sym (c .before .before .before .before .before .before .before .before .before .before .before .bit .ensures) ∙ not-false _ (c .before .before .before .before .before .before .before .before .before .before .if1 .left)) (c .before .before .before .judge-both .result .back) (c .before .before .before .judge-both .ensures .1), λ q. absurd (true≢false q))
 
 same-length-9 : tie.Need-same-length-9
 same-length-9 c = search needs
@@ -126,15 +123,15 @@ same-length-10 c = search needs
 
 returns-6 : tie.Need-returns-6
 returns-6 c =
-    let p = c .before .before .before .before .before .before .before .before .before .before .before .before .before .before .before .before .before .before .before .before .before .before .pre in
-    let f = c .before .before .before .judge-both .ensures .0 (not-false _ (c .before .if5 .left)) in
-    (turn-quiet (p .0) (c .before .before .before .before .before .before .before .before .before .before .before .before .before .before .before .before .before .before .before .before .before .before .args .struck) (p .2) (p .3) (p .4) (c .before .before .before .before .before .before .before .before .before .before .before .if2 .left) (sym (c .before .before .before .before .before .before .before .before .before .before .before .before .before .before .bit .ensures) ∙ not-false _ (c .before .before .before .before .before .before .before .before .before .before .before .before .before .if1 .left)) (λ R e. and-t _ _ (f R e ∙ c .if6 .taken)), λ _. (refl, refl, refl))
+    let p = c .before .before .before .before .before .before .before .before .before .before .before .before .before .before .before .before .before .before .before .before .pre in
+    let f = c .before .before .before .before .judge-both .ensures .0 (not-false _ (c .before .if5 .left)) in
+    (turn-quiet (p .0) (c .before .before .before .before .before .before .before .before .before .before .before .before .before .before .before .before .before .before .before .before .args .struck) (p .2) (p .3) (p .4) (c .before .before .before .before .before .before .before .before .before .if2 .left) (sym (c .before .before .before .before .before .before .before .before .before .before .before .before .bit .ensures) ∙ not-false _ (c .before .before .before .before .before .before .before .before .before .before .before .if1 .left)) (λ R e. and-t _ _ (f R e ∙ c .if6 .taken)), λ _. (refl, refl, refl))
 
 strike-requires : tie.Need-strike-requires
-strike-requires c κs = let p = c .before .before .before .before .before .before .before .before .before .before .before .before .before .before .before .before .before .before .before .before .before .before .before .before .pre in let l = p .2 in let k = p .3 in (p .0 .few, p .4 .noted .long, omega arith, k)
+strike-requires c κs = let p = c .before .before .before .before .before .before .before .before .before .before .before .before .before .before .before .before .before .before .before .before .before .before .pre in let l = p .2 in let k = p .3 in (p .0 .few, p .4 .noted .long, omega arith, k)
 
 add-t19 : tie.Need-add-t19
-add-t19 c = let f = c .before .before .before .before .before .before .before .before .before .before .before .before .before .before .before .before .before .before .before .before .before .before .before .before .before .before .before .before .before .pre .0 .few in let h = c .before .before .before .before .before .before .before .before .before .before .before .before .before .before .before .before .before .before .before .before .before .before .before .before .before .before .before .before .before .pre .3 in omega arith
+add-t19 c = let f = c .before .before .before .before .before .before .before .before .before .before .before .before .before .before .before .before .before .before .before .before .before .before .before .before .before .before .before .pre .0 .few in let h = c .before .before .before .before .before .before .before .before .before .before .before .before .before .before .before .before .before .before .before .before .before .before .before .before .before .before .before .pre .3 in omega arith
 
 same-length-11 : tie.Need-same-length-11
 same-length-11 c = search needs
@@ -144,9 +141,9 @@ same-length-12 c = search needs
 
 returns-7 : tie.Need-returns-7
 returns-7 c =
-    let p = c .before .before .before .before .before .before .before .before .before .before .before .before .before .before .before .before .before .before .before .before .before .before .before .before .before .before .before .before .before .pre in
-    let f = c .before .before .before .before .before .before .before .before .before .before .judge-both .ensures .0 (not-false _ (c .before .before .before .before .before .before .before .before .if5 .left)) in
-    (turn-fails (p .0) (c .before .before .before .before .before .before .before .before .before .before .before .before .before .before .before .before .before .before .before .before .before .before .before .before .before .before .before .before .before .args .struck) (p .2) (p .3) (p .4) (c .before .before .before .before .before .before .before .before .before .before .before .before .before .before .before .before .before .before .if2 .left) (sym (c .before .before .before .before .before .before .before .before .before .before .before .before .before .before .before .before .before .before .before .before .before .bit .ensures) ∙ not-false _ (c .before .before .before .before .before .before .before .before .before .before .before .before .before .before .before .before .before .before .before .before .if1 .left)) (λ R e. f R e ∙ c .before .before .before .before .before .before .before .if6 .left) (c .before .before .before .before .strike .ensures .0) (c .before .before .before .before .strike .ensures .1), λ _. (refl, refl, refl))
+    let p = c .before .before .before .before .before .before .before .before .before .before .before .before .before .before .before .before .before .before .before .before .before .before .before .before .before .before .before .pre in
+    let f = c .before .before .before .before .before .before .before .before .before .before .before .judge-both .ensures .0 (not-false _ (c .before .before .before .before .before .before .before .before .if5 .left)) in
+    (turn-fails (p .0) (c .before .before .before .before .before .before .before .before .before .before .before .before .before .before .before .before .before .before .before .before .before .before .before .before .before .before .before .args .struck) (p .2) (p .3) (p .4) (c .before .before .before .before .before .before .before .before .before .before .before .before .before .before .before .before .if2 .left) (sym (c .before .before .before .before .before .before .before .before .before .before .before .before .before .before .before .before .before .before .before .bit .ensures) ∙ not-false _ (c .before .before .before .before .before .before .before .before .before .before .before .before .before .before .before .before .before .before .if1 .left)) (λ R e. f R e ∙ c .before .before .before .before .before .before .before .if6 .left) (c .before .before .before .before .strike .ensures .0) (c .before .before .before .before .strike .ensures .1), λ _. (refl, refl, refl))
 
 pub turn-spec : {M : Type 1} → statement M
 turn-spec =
@@ -166,11 +163,10 @@ turn-spec =
     same-length-3
     same-length-4
     returns-3
-    has-plenty-requires
+    judge-both-requires
     same-length-5
     same-length-6
     returns-4
-    judge-both-requires
     same-length-7
     same-length-8
     returns-5
