@@ -1,5 +1,6 @@
 pub mod Marking
 pub mod Turns
 pub mod Noting
-pub mod Sweeping
+pub mod Resuming
+pub mod Lending
 pub mod Reading

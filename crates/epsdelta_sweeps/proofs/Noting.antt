@@ -1,7 +1,7 @@
 -- Noted strikes as code reads and writes them: places passed one by one, a sweep that is over, and what a turn leaves noted.
 use mathlib.Core.Path.{_≡_, sym, ap, subst, subst⁻¹, _∙_}
 use mathlib.Core.Logic.{_⊎_, inl, inr, _≢_}
-use mathlib.Core.Bool.{Bool, true, false, _&&_, true≢false}
+use mathlib.Core.Bool.{true, false, true≢false}
 use mathlib.Core.List.{List}
 use Prim.Native.Nat.{ℕ, _+_, _*_, _≤_, _<_}
 use native.Mathlib.Omega.{arith}
@@ -9,10 +9,10 @@ use lib.Ieee.{Float, nan}
 use lib.ListN.{length, getD, set, replicate, length-set, length-replicate, getD-replicate}
 use lib.Seq.{getD-set-same, getD-set-other}
 use Rattle.numbers.specs.Real.{isZero}
-use Rattle.numbers.specs.Bits.{packed, bitAt}
-use Rattle.numbers.proofs.Bools.{eq-or-ne, and-t}
+use Rattle.numbers.specs.Bits.{bitAt}
+use Rattle.numbers.proofs.Bools.{eq-or-ne}
 use Rattle.epsdelta_theory.proofs.Pairs.{packed-holds}
-use Rattle.epsdelta_theory.proofs.TasksIn.{RowsFit, testIn}
+use Rattle.epsdelta_theory.proofs.TasksIn.{RowsFit}
 use Rattle.epsdelta_theory.proofs.Unchanged.{Noted, noted-next}
 
 -- places c to k - 1, and now place k too
@@ -65,9 +65,6 @@ module _ {n : ℕ} {E : List Float} {S T : List ℕ} {P : List Float} {need : Fl
 
   pub noted-no-exit : isZero (getD E s nan) ≡ true → Noted n E S T P need store C s (t + 1)
   noted-no-exit e = noted-next F N (λ z h. absurd (true≢false (sym e ∙ z)))
-
-  pub noted-passed : {r : Bool} → r ≡ true → ((R : List Bool) → store ≡ packed R → r ≡ (testIn n S T P need R s t && testIn n S T P need R t s)) → Noted n E S T P need store C s (t + 1)
-  noted-passed e f = noted-next F N (λ z h. and-t (testIn n S T P need (N .relation) s t) (testIn n S T P need (N .relation) t s) (sym (f (N .relation) (N .bytes)) ∙ e))
 
 -- ---- after a strike
 

@@ -1,26 +1,22 @@
--- A pair's turn as code makes it: the pair is passed over without an exit, where it does not stand, and where both flow tests pass; else both orders are cleared.
-use mathlib.Core.Path.{_≡_, refl, sym, ap, subst⁻¹, _∙_}
+-- The flow test of two rows that stand in lists, as code makes it: of parts of the lists, against the bytes of a relation.
+use mathlib.Core.Path.{_≡_, sym, ap, _∙_}
 use Prim.Native.Nat.{ℕ, zero, suc, _+_, _-_, _*_, _<_}
-use mathlib.Core.Bool.{Bool, true, false, _&&_, _||_, not, false≢true}
+use mathlib.Core.Bool.{Bool, true, false, _&&_}
 use mathlib.Core.List.{List, [], _∷_}
 use native.Mathlib.Omega.{arith}
 use lib.Dec.{leb, eqb}
-use lib.Ieee.{Float, nan, le}
+use lib.Ieee.{Float}
 use lib.ListN.{length, getD, take, drop}
 use lib.Seq.{take-nil, slice, length-slice}
 use borrow.Author.Tests.{le-leb, eq-eqb}
-use Rattle.numbers.specs.Real.{isZero}
-use Rattle.numbers.specs.Bits.{packed, bitAt, cleared}
+use Rattle.numbers.specs.Bits.{packed}
 use Rattle.numbers.proofs.Bools.{and-second}
 use Rattle.epsdelta_theory.specs.Jumps.{jumpsOf}
-use Rattle.epsdelta_theory.specs.Relation.{holds, clear}
 use Rattle.epsdelta_theory.specs.FlowTest.{runBetween}
-use Rattle.epsdelta_theory.specs.Sweeps.{Task, Run, strike, afterBack, afterForth, testPair, turn}
-use Rattle.epsdelta_theory.proofs.Pairs.{packed-holds, packed-cleared}
-use Rattle.epsdelta_theory.proofs.TasksIn.{rowIn, testIn, RowsFit, SweepsIn, Stored}
+use Rattle.epsdelta_theory.proofs.TasksIn.{rowIn, testIn, RowsFit}
 use Rattle.flow_duality.proofs.Plenty.{Plenty, Between, Even, even-symmetric}
 use Rattle.flow_links.specs.Fits.{rowFits, fits}
-use Rattle.flow_links.proofs.Fitting.{all-fit}
+use Rattle.flow_links.proofs.Fitting.{all-fit, fit, few-links, Written, laid}
 use Rattle.epsdelta_theory.specs.Relation.{relationOf}
 use Rattle.flow_core.specs.Test.{flowBetween}
 use Rattle.flow_core.proofs.Tests.{between-packed}
@@ -28,8 +24,11 @@ use Rattle.flow_core.specs.Outcome.{settled}
 use Rattle.flow_theory.specs.Run.{allPushes}
 use Rattle.flow_core.specs.declared.rows.Answer.{Answer}
 use Rattle.flow_core.specs.declared.rows.Answer.the-variants.{Flow}
-use Rattle.flow_direct.specs.Reaches.{plentyOrBoth, reaches, atLeast}
+use Rattle.flow_direct.specs.Reaches.{bothReach, reaches, atLeast}
 use Rattle.flow_direct.proofs.Beginning.{answer-reaches}
+use Rattle.flow.specs.declared.network.FlowNetwork.{FlowNetwork}
+use Rattle.flow.specs.Filled.{flowRows}
+use Rattle.flow.proofs.FlowRows.{rows-between}
 
 -- ---- a flow test
 
@@ -70,7 +69,7 @@ module _ {n : ℕ} {S T : List ℕ} {P : List Float} (F : RowsFit n S T P) where
       ap (λ (b : Bool). settled b (runBetween n R (jumpsOf us vs) (jumpsOf ts ws)) [] .answer) (all-fit us vs ts ws n (F .few) (row-fits s h) (row-fits t k))
 
   -- the same of the parts that code takes, against the bytes of a packed relation
-  passed-in : (store : List ℕ) (R : List Bool) → store ≡ packed R → (s t : ℕ) → s < n → t < n
+  pub passed-in : (store : List ℕ) (R : List Bool) → store ≡ packed R → (s t : ℕ) → s < n → t < n
       → flowBetween (partOf S s T) (partOf S s P) (partOf S t T) (partOf S t P) n (relationOf store) ≡ answerTo R s t
   passed-in store R z s t h k =
       between-packed (partOf S s T) (partOf S s P) (partOf S t T) (partOf S t P) n store R z
@@ -81,7 +80,7 @@ module _ {n : ℕ} {S T : List ℕ} {P : List Float} (F : RowsFit n S T P) where
       ∙ answered R s t h k
 
   -- whether it is enough is the definition's test
-  reached-in : (need : Float) (store : List ℕ) (R : List Bool) → store ≡ packed R → (s t : ℕ) → s < n → t < n
+  pub reached-in : (need : Float) (store : List ℕ) (R : List Bool) → store ≡ packed R → (s t : ℕ) → s < n → t < n
       → reaches (partOf S s T) (partOf S s P) (partOf S t T) (partOf S t P) n (relationOf store) need ≡ testIn n S T P need R s t
   reached-in need store R z s t h k =
       let us = partOf S s T in
@@ -90,91 +89,61 @@ module _ {n : ℕ} {S T : List ℕ} {P : List Float} (F : RowsFit n S T P) where
       let ws = partOf S t P in
       sym (answer-reaches need (fits us vs ts ws n) (runBetween n (relationOf store) (jumpsOf us vs) (jumpsOf ts ws))) ∙ ap (atLeast need) (passed-in store R z s t h k)
 
-  -- both ways; where the flow one way is plenty, both tests pass
-  pub reached-plenty : (need plenty : Float) → Plenty n S T P need plenty → (here : Float) → (store : List ℕ) (R : List Bool) → store ≡ packed R → Even n store → (s t : ℕ) → Between (getD S s 0) (getD S (s + 1) 0) (getD S t 0) (getD S (t + 1) 0) plenty here → s < n → t < n
-      → plentyOrBoth (partOf S s T) (partOf S s P) (partOf S t T) (partOf S t P) n (relationOf store) need here ≡ (testIn n S T P need R s t && testIn n S T P need R t s)
-  reached-plenty need plenty K here store R z E s t B h k =
-      ap (λ (b : Bool). (le need here && b) || (reaches (partOf S s T) (partOf S s P) (partOf S t T) (partOf S t P) n (relationOf store) need && reaches (partOf S t T) (partOf S t P) (partOf S s T) (partOf S s P) n (relationOf store) need)) (reached-in here store R z s t h k)
-      ∙ ap (λ (b : Bool). (le need here && testIn n S T P here R s t) || (b && reaches (partOf S t T) (partOf S t P) (partOf S s T) (partOf S s P) n (relationOf store) need)) (reached-in need store R z s t h k)
-      ∙ ap (λ (b : Bool). (le need here && testIn n S T P here R s t) || (testIn n S T P need R s t && b)) (reached-in need store R z t s k h)
-      ∙ left-out (le need here) (testIn n S T P here R s t) (testIn n S T P need R s t) (testIn n S T P need R t s)
-      (λ p. let (x, y, q) = B ((runBetween n R (rowIn S T P s) (rowIn S T P t)) .total) p in K R (even-symmetric n store R z E) s t h k x y q)
-    where
-      left-out : (a p f b : Bool) → (p ≡ true → (f ≡ true) × (b ≡ true)) → ((a && p) || (f && b)) ≡ (f && b)
-      left-out false p f b g = refl
-      left-out true false f b g = refl
-      left-out true true f b g = let (x, y) = g refl in and-second f b true x (sym y)
+  -- both ways
+  pub reached-both : (need : Float) (store : List ℕ) (R : List Bool) → store ≡ packed R → (s t : ℕ) → s < n → t < n
+      → bothReach (partOf S s T) (partOf S s P) (partOf S t T) (partOf S t P) n (relationOf store) need ≡ (testIn n S T P need R s t && testIn n S T P need R t s)
+  reached-both need store R z s t h k =
+      ap (λ (b : Bool). b && reaches (partOf S t T) (partOf S t P) (partOf S s T) (partOf S s P) n (relationOf store) need) (reached-in need store R z s t h k)
+      ∙ ap (λ (b : Bool). testIn n S T P need R s t && b) (reached-in need store R z t s k h)
+
+  -- where the flow is plenty, both tests pass
+  pub plenty-in : (need plenty : Float) → Plenty n S T P need plenty → (here : Float) (store : List ℕ) (R : List Bool) → store ≡ packed R → Even n store → (s t : ℕ) → Between (getD S s 0) (getD S (s + 1) 0) (getD S t 0) (getD S (t + 1) 0) plenty here → s < n → t < n
+      → reaches (partOf S s T) (partOf S s P) (partOf S t T) (partOf S t P) n (relationOf store) here ≡ true → (testIn n S T P need R s t ≡ true) × (testIn n S T P need R t s ≡ true)
+  plenty-in need plenty K here store R z E s t B h k p =
+      let (x, y, q) = B ((runBetween n R (rowIn S T P s) (rowIn S T P t)) .total) (sym (reached-in here store R z s t h k) ∙ p) in
+      K R (even-symmetric n store R z E) s t h k x y q
 
 pub first-fails : (a b : Bool) → a ≡ false → false ≡ (a && b)
 first-fails a b h = ap (λ (x : Bool). x && b) (sym h)
 
--- ---- the turn of the definition
+-- ---- the links of a flow test in rows
 
-module _ (Q : Task) (s t : ℕ) (x : Run) where
-  untested : (holds (Q .states) (x .relation) s t && not (Q .noExit s)) ≡ false → turn Q s t x ≡ x
-  unfolding turn testPair
-  untested h = ap (λ (b : Bool). testPair Q b s t x) h
+module _ {n : ℕ} {S T : List ℕ} {P : List Float} (F : RowsFit n S T P) where
+  fits-in : (s t : ℕ) → s < n → t < n → fits (partOf S s T) (partOf S s P) (partOf S t T) (partOf S t P) n ≡ true
+  fits-in s t h k =
+      ap (λ (l : List ℕ). fits l (partOf S s P) (partOf S t T) (partOf S t P) n) (part (getD S s 0) (getD S (s + 1) 0) T)
+      ∙ ap (λ (l : List Float). fits (slice (getD S s 0) (getD S (s + 1) 0) T) l (partOf S t T) (partOf S t P) n) (part (getD S s 0) (getD S (s + 1) 0) P)
+      ∙ ap (λ (l : List ℕ). fits (slice (getD S s 0) (getD S (s + 1) 0) T) (slice (getD S s 0) (getD S (s + 1) 0) P) l (partOf S t P) n) (part (getD S t 0) (getD S (t + 1) 0) T)
+      ∙ ap (λ (l : List Float). fits (slice (getD S s 0) (getD S (s + 1) 0) T) (slice (getD S s 0) (getD S (s + 1) 0) P) (slice (getD S t 0) (getD S (t + 1) 0) T) l n) (part (getD S t 0) (getD S (t + 1) 0) P)
+      ∙ all-fit (slice (getD S s 0) (getD S (s + 1) 0) T) (slice (getD S s 0) (getD S (s + 1) 0) P) (slice (getD S t 0) (getD S (t + 1) 0) T) (slice (getD S t 0) (getD S (t + 1) 0) P) n (F .few) (row-fits F s h) (row-fits F t k)
 
-  tested : (holds (Q .states) (x .relation) s t && not (Q .noExit s)) ≡ true → turn Q s t x ≡ afterForth Q (Q .test (x .relation) s t) s t x
-  unfolding turn testPair
-  tested h = ap (λ (b : Bool). testPair Q b s t x) h
+  -- so many targets a part has
+  pub part-count : (s : ℕ) → s < n → length (partOf S s T) ≡ getD S (s + 1) 0 - getD S s 0
+  part-count s h = ap length (part (getD S s 0) (getD S (s + 1) 0) T) ∙ length-slice (getD S s 0) (getD S (s + 1) 0) T (F .targets-long s h)
 
-  without-exit : Q .noExit s ≡ true → turn Q s t x ≡ x
-  without-exit e = untested (pick (holds (Q .states) (x .relation) s t))
-    where
-      pick : (b : Bool) → (b && not (Q .noExit s)) ≡ false
-      pick true = ap not e
-      pick false = refl
-
-  without-pair : holds (Q .states) (x .relation) s t ≡ false → turn Q s t x ≡ x
-  without-pair e = untested (ap (λ (b : Bool). b && not (Q .noExit s)) e)
-
-  both-pass : (f b : Bool) → (f && b) ≡ true → Q .test (x .relation) t s ≡ b → afterForth Q f s t x ≡ x
-  unfolding afterForth afterBack
-  both-pass true b h e = ap (λ (y : Bool). afterBack Q y s t x) (e ∙ h)
-  both-pass false b h e = absurd (false≢true h)
-
-  -- struck at either test
-  Struck : Run → Type 0
-  Struck y = (y .relation ≡ clear (Q .states) (x .relation) s t) × (y .struck ≡ true)
-
-  one-fails : (f b : Bool) → (f && b) ≡ false → Q .test (x .relation) t s ≡ b → Struck (afterForth Q f s t x)
-  unfolding afterForth afterBack strike Struck
-  one-fails true b h e = subst⁻¹ (λ (y : Bool). Struck (afterBack Q y s t x)) (e ∙ h) (refl, refl)
-  one-fails false b h e = (refl, refl)
-
--- ---- and of the code
-
-module _ {Q : Task} {n : ℕ} {E : List Float} {S T : List ℕ} {P : List Float} {need : Float} (K : SweepsIn Q n E S T P need) (s t : ℕ) (hs : s < n) (ht : t < n) (x : Run) {store : List ℕ} {struck : Bool} (X : Stored x store struck) where
-  stands : holds (Q .states) (x .relation) s t ≡ bitAt store (s * n + t)
-  stands =
-      sym (packed-holds (Q .states) (x .relation) s t)
-      ∙ ap (λ (l : List ℕ). bitAt l (s * Q .states + t)) (sym (X .0)) ∙ ap (λ (m : ℕ). bitAt store (s * m + t)) (K .states)
-
-  kept : turn Q s t x ≡ x → Stored (turn Q s t x) store struck
-  kept e = subst⁻¹ (λ (y : Run). Stored y store struck) e X
-
-  pub no-exit-kept : isZero (getD E s nan) ≡ true → Stored (turn Q s t x) store struck
-  no-exit-kept e = kept (without-exit Q s t x (sym (K .no-exit s hs) ∙ e))
-
-  pub no-pair-kept : bitAt store (s * n + t) ≡ false → Stored (turn Q s t x) store struck
-  no-pair-kept e = kept (without-pair Q s t x (stands ∙ e))
-
-  -- the pair stands, and s has an exit
-  module _ (z : isZero (getD E s nan) ≡ false) (h : bitAt store (s * n + t) ≡ true) where
-    goes : (holds (Q .states) (x .relation) s t && not (Q .noExit s)) ≡ true
-    goes = ap (λ (b : Bool). b && not (Q .noExit s)) (stands ∙ h) ∙ ap not (sym (K .no-exit s hs) ∙ z)
-
-    tests : (b : Bool) → b ≡ (testIn n S T P need (x .relation) s t && testIn n S T P need (x .relation) t s) → (Q .test (x .relation) s t && Q .test (x .relation) t s) ≡ b
-    tests b e = ap (λ (f : Bool). f && Q .test (x .relation) t s) (sym (K .test (x .relation) s t hs ht)) ∙ ap (λ (f : Bool). testIn n S T P need (x .relation) s t && f) (sym (K .test (x .relation) t s ht hs)) ∙ sym e
-
-    pub passed-kept : true ≡ (testIn n S T P need (x .relation) s t && testIn n S T P need (x .relation) t s) → Stored (turn Q s t x) store struck
-    passed-kept e = kept (tested Q s t x goes ∙ both-pass Q s t x (Q .test (x .relation) s t) (Q .test (x .relation) t s) (tests true e) refl)
-
-    pub failed-struck : false ≡ (testIn n S T P need (x .relation) s t && testIn n S T P need (x .relation) t s) → Stored (turn Q s t x) (cleared (cleared store (s * n + t)) (t * n + s)) true
-    unfolding Struck
-    failed-struck e =
-        let y = subst⁻¹ (Struck Q s t x) (tested Q s t x goes) (one-fails Q s t x (Q .test (x .relation) s t) (Q .test (x .relation) t s) (tests false e) refl) in (
-          ap (λ (l : List ℕ). cleared (cleared l (s * n + t)) (t * n + s)) (X .0) ∙ packed-cleared n (x .relation) s t ∙ ap (λ (m : ℕ). packed (clear m (x .relation) s t)) (sym (K .states)) ∙ ap packed (sym (y .0)),
-          sym (y .1),
-        )
+  -- where the links of the test were written into rows with room for all, the run on a network that is filled from them is the definition's test
+  pub laid-test : (store : List ℕ) (s t : ℕ) → s < n → t < n → (h : List ℕ) (c : List Float) → length h ≡ 2046 → length c ≡ 2046
+      → {d : Bool} {k : ℕ} {h' : List ℕ} {c' : List Float} → Written (partOf S s T) (partOf S s P) (partOf S t T) (partOf S t P) n (relationOf store) h c d k h' c'
+      → (x y z : ℕ) → x ≡ length (partOf S s T) + length (partOf S t T) + 2 → y ≡ length (partOf S s T) + length (partOf S t T) → z ≡ length (partOf S s T) + length (partOf S t T) + 1
+      → (N : FlowNetwork) → length (N .links) ≡ 2176 → length (N .list) ≡ 2176 → (p : List Float) → length p ≡ 2046
+      → (need : Float) (R : List Bool) → store ≡ packed R → testIn n S T P need R s t ≡ atLeast need (flowRows N h' c' p k x y z .answer)
+  laid-test store s t i j h c lh lc {d} {k} {h'} {c'} w x y z ex ey ez N whole places p lp need R e =
+      let us = partOf S s T in
+      let vs = partOf S s P in
+      let ts = partOf S t T in
+      let ws = partOf S t P in
+      let f = fits-in s t i j in
+      let G = fit us vs ts ws n f in
+      let q = 2 * (length us + length ts + length us * length ts) in
+      let few = few-links (length us) (length ts) (G .left .few) (G .right .few) in
+      let done : d ≡ true =
+      w .0 ∙ ap (λ (b : Bool). b && (leb q (length h) && leb q (length c))) f ∙ ap (λ (b : Bool). b && leb q (length c)) (le-leb q (length h) (omega arith)) ∙ le-leb q (length c) (omega arith) in
+      let L = laid us vs ts ws n store h c w done in
+      let m = L .heads-in in
+      let g = L .heads-size in
+      sym (
+      ap (λ (v : ℕ). atLeast need (flowRows N h' c' p k v y z .answer)) ex
+      ∙ ap (λ (v : ℕ). atLeast need (flowRows N h' c' p k (length us + length ts + 2) v z .answer)) ey
+      ∙ ap (λ (v : ℕ). atLeast need (flowRows N h' c' p k (length us + length ts + 2) (length us + length ts) v .answer)) ez
+      ∙ ap (atLeast need) (rows-between store L N whole places p (omega arith) ∙ passed-in F store R e s t i j)
+      )

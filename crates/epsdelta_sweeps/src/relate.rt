@@ -3,7 +3,7 @@ use crate::marks::marks;
 use crate::plenty::plenty_of;
 use crate::rows::all_stand;
 use crate::rows::long_enough;
-use crate::sweeps::run;
+use crate::run::run;
 use numbers::ONE;
 use numbers::SLACK;
 ghost use mathlib.Core.Path.{_≡_};

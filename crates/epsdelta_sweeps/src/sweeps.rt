@@ -1,23 +1,67 @@
-// Sweeps over the pairs of a relation, until one without a strike.
+// Sweeps over the pairs of a relation, until one without a strike. They are left where a flow test is not known without a network, and resumed with its answer.
 use crate::changes::fade;
 use crate::changes::strike;
 use crate::changes::unchanged;
 use crate::plenty::plenty_between;
-use flow_direct::reach::flows_reach;
+use flow_core::rows::Answer;
+use flow_direct::reach::Ways;
+use flow_direct::reach::both_ways;
+use flow_direct::reach::enough;
+use flow_direct::reach::verdict;
+use flow_direct::settle::Verdict;
 use numbers::bit;
 ghost use mathlib.Core.Path.{_≡_};
 ghost use Prim.Native.Nat.{ℕ, _≤_, _<_, _+_, _*_, _-_};
-ghost use mathlib.Core.Bool.{Bool, false, _&&_};
+ghost use mathlib.Core.Bool.{Bool, true, false, _&&_};
 ghost use mathlib.Core.List.{List};
-ghost use lib.ListN.{length, getD};
+ghost use lib.Ieee.{Float};
+ghost use lib.ListN.{length};
 ghost use Rattle.numbers.specs.Bits.{packed};
-ghost use Rattle.epsdelta_theory.specs.Sweeps;
-ghost use Rattle.epsdelta_theory.proofs.TasksIn.{RowsFit, testIn, Makes, RunsTo};
-ghost use Rattle.epsdelta_theory.proofs.Unchanged.{Settled};
-ghost use Rattle.flow_duality.proofs.Plenty.{Plenty, Even, Kept};
+ghost use Rattle.epsdelta_theory.proofs.TasksIn.{RowsFit, testIn};
+ghost use Rattle.flow_duality.proofs.Plenty.{Plenty, Even};
+ghost use Rattle.flow_duality.proofs.Places.{Held, Moves, weight};
+ghost use Rattle.flow_direct.specs.Reaches.{atLeast};
 
-// Whether the flow test passes both ways.
-fn passes_both(
+// Where sweeps stand: the pair (s, t) whose turn it is, and whether the sweep has struck. With `asks` its flow test, the one back with `back`, is not known without a network.
+pub struct Place {
+    pub s: usize,
+    pub t: usize,
+    pub back: bool,
+    pub struck: bool,
+    pub asks: bool,
+}
+
+// What is known without a network of the flow test from s to t.
+fn judge(
+    starts: &[u32],
+    targets: &[u32],
+    probs: &[f64],
+    states: usize,
+    need: f64,
+    relation: &[u8],
+    s: usize,
+    t: usize,
+) -> Verdict
+    requires { ⌜ RowsFit states (now starts) (now targets) (now probs) × (s < states) × (t < states) ⌝ }
+    ensures { λ r. ⌜ (r .known ≡ true → (R : List Bool) → now (relation .entry) ≡ packed R → testIn states (now (starts .entry)) (now (targets .entry)) (now (probs .entry)) need R s t ≡ r .passes) ⌝ }
+{
+    let a = starts[s] as usize;
+    let b = starts[s + 1] as usize;
+    let c = starts[t] as usize;
+    let d = starts[t + 1] as usize;
+    verdict(
+        &targets[a..b],
+        &probs[a..b],
+        &targets[c..d],
+        &probs[c..d],
+        states,
+        relation,
+        need,
+    )
+}
+
+// What is known without a network of the flow tests from s to t and back: with `plenty` both pass.
+fn judge_both(
     starts: &[u32],
     targets: &[u32],
     probs: &[f64],
@@ -27,16 +71,18 @@ fn passes_both(
     relation: &[u8],
     s: usize,
     t: usize,
-) -> bool
+) -> Ways
     requires { ⌜ RowsFit states (now starts) (now targets) (now probs) × (s < states) × (t < states) × Plenty states (now starts) (now targets) (now probs) need plenty × Even states (now relation) ⌝ }
-    ensures { λ r. ⌜ ((R : List Bool) → now (relation .entry) ≡ packed R → r ≡ (testIn states (now (starts .entry)) (now (targets .entry)) (now (probs .entry)) need R s t && testIn states (now (starts .entry)) (now (targets .entry)) (now (probs .entry)) need R t s)) ⌝ }
+    ensures { λ r. ⌜ (r .known ≡ true → (R : List Bool) → now (relation .entry) ≡ packed R → (testIn states (now (starts .entry)) (now (targets .entry)) (now (probs .entry)) need R s t && testIn states (now (starts .entry)) (now (targets .entry)) (now (probs .entry)) need R t s) ≡ r .passes)
+        × (r .back ≡ true → (R : List Bool) → now (relation .entry) ≡ packed R → testIn states (now (starts .entry)) (now (targets .entry)) (now (probs .entry)) need R s t ≡ true)
+        × (r .plenty ≡ true → (R : List Bool) → now (relation .entry) ≡ packed R → (testIn states (now (starts .entry)) (now (targets .entry)) (now (probs .entry)) need R s t ≡ true) × (testIn states (now (starts .entry)) (now (targets .entry)) (now (probs .entry)) need R t s ≡ true)) ⌝ }
 {
     let a = starts[s] as usize;
     let b = starts[s + 1] as usize;
     let c = starts[t] as usize;
     let d = starts[t + 1] as usize;
     let here = plenty_between(a, b, c, d, plenty);
-    flows_reach(
+    both_ways(
         &targets[a..b],
         &probs[a..b],
         &targets[c..d],
@@ -48,29 +94,85 @@ fn passes_both(
     )
 }
 
-// The same, but without a run where nothing that the tests read was struck since they passed.
-fn still_passes(
+// How the flow test from t to s ended, the last of the pair's turn: where it failed, the pair is struck.
+fn tested_back(
+    states: usize,
+    relation: &mut [u8],
+    changed: &mut [u64],
+    s: usize,
+    t: usize,
+    struck: bool,
+    passes: bool,
+) -> Place
+    requires { ⌜ (states ≤ 2000) × (2 * states < length (now changed)) × (s < states) × (t < states) ⌝ }
+    ensures { λ r. ⌜ ((E : List Float) (S T : List ℕ) (P : List Float) (need plenty : Float) → RowsFit states S T P → Held states E S T P need plenty (now (relation .entry)) (now (changed .entry)) s t true true
+        → ((R : List Bool) → now (relation .entry) ≡ packed R → testIn states S T P need R t s ≡ passes)
+        → Moves states E S T P need plenty (now (relation .entry)) s t true struck true (weight states (now (relation .entry)) s t true struck) (now (relation .exit)) (now (changed .exit)) (r .s) (r .t) (r .back) (r .struck) (r .asks))
+        × (r .s ≡ s) × (r .t ≡ t + 1) × (r .back ≡ false) ⌝ }
+{
+    if passes {
+        return Place {
+            s: s,
+            t: t + 1,
+            back: false,
+            struck: struck,
+            asks: false,
+        };
+    }
+    strike(states, relation, changed, s, t);
+    Place {
+        s: s,
+        t: t + 1,
+        back: false,
+        struck: true,
+        asks: false,
+    }
+}
+
+// How the flow test from s to t ended: a pair that fails is struck, else the test back is judged.
+fn tested_forth(
     starts: &[u32],
     targets: &[u32],
     probs: &[f64],
     states: usize,
     need: f64,
-    plenty: f64,
-    relation: &[u8],
-    changed: &[u64],
+    relation: &mut [u8],
+    changed: &mut [u64],
     s: usize,
     t: usize,
-) -> bool
-    requires { ⌜ RowsFit states (now starts) (now targets) (now probs) × (2 * states < length (now changed)) × (s < states) × (t < states) × Settled states (now starts) (now targets) (now probs) need (now relation) (now changed) s t × Plenty states (now starts) (now targets) (now probs) need plenty × Even states (now relation) ⌝ }
-    ensures { λ r. ⌜ ((R : List Bool) → now (relation .entry) ≡ packed R → r ≡ (testIn states (now (starts .entry)) (now (targets .entry)) (now (probs .entry)) need R s t && testIn states (now (starts .entry)) (now (targets .entry)) (now (probs .entry)) need R t s)) ⌝ }
+    struck: bool,
+    passes: bool,
+) -> Place
+    requires { ⌜ RowsFit states (now starts) (now targets) (now probs) × (2 * states < length (now changed)) × (s < states) × (t < states) ⌝ }
+    ensures { λ r. ⌜ ((E : List Float) (plenty : Float) → Held states E (now (starts .entry)) (now (targets .entry)) (now (probs .entry)) need plenty (now (relation .entry)) (now (changed .entry)) s t false true
+        → ((R : List Bool) → now (relation .entry) ≡ packed R → testIn states (now (starts .entry)) (now (targets .entry)) (now (probs .entry)) need R s t ≡ passes)
+        → Moves states E (now (starts .entry)) (now (targets .entry)) (now (probs .entry)) need plenty (now (relation .entry)) s t false struck true (weight states (now (relation .entry)) s t false struck) (now (relation .exit)) (now (changed .exit)) (r .s) (r .t) (r .back) (r .struck) (r .asks))
+        × (r .asks ≡ false → (r .s ≡ s) × (r .t ≡ t + 1) × (r .back ≡ false)) ⌝ }
 {
-    if unchanged(starts, targets, states, changed, s, t) {
-        return true;
+    if !passes {
+        strike(states, relation, changed, s, t);
+        return Place {
+            s: s,
+            t: t + 1,
+            back: false,
+            struck: true,
+            asks: false,
+        };
     }
-    passes_both(starts, targets, probs, states, need, plenty, relation, s, t)
+    let v = judge(starts, targets, probs, states, need, relation, t, s);
+    if !v.known {
+        return Place {
+            s: s,
+            t: t,
+            back: true,
+            struck: struck,
+            asks: true,
+        };
+    }
+    tested_back(states, relation, changed, s, t, struck, v.passes)
 }
 
-// The turn of (s, t), and whether the sweep has struck then: a pair that stands is tested if s has an exit, and both orders are cleared where a test fails.
+// The turn of (s, t): a pair that stands is tested if s has an exit, unless nothing that its tests read was struck since they passed.
 fn turn(
     exits: &[f64],
     starts: &[u32],
@@ -84,35 +186,53 @@ fn turn(
     s: usize,
     t: usize,
     struck: bool,
-) -> bool
-    requires { ⌜ RowsFit states (now starts) (now targets) (now probs) × (states ≤ length (now exits)) × (s < t) × (t < states) × Kept states (now exits) (now starts) (now targets) (now probs) need plenty (now relation) (now changed) s t ⌝ }
-    ensures { λ r. ⌜ Makes states (now (exits .entry)) (now (starts .entry)) (now (targets .entry)) (now (probs .entry)) need (λ Q. Sweeps.turn Q s t) (now (relation .entry)) struck (now (relation .exit)) r × Kept states (now (exits .entry)) (now (starts .entry)) (now (targets .entry)) (now (probs .entry)) need plenty (now (relation .exit)) (now (changed .exit)) s (t + 1) ⌝ }
+) -> Place
+    requires { ⌜ RowsFit states (now starts) (now targets) (now probs) × (states ≤ length (now exits)) × (s < t) × (t < states) × Held states (now exits) (now starts) (now targets) (now probs) need plenty (now relation) (now changed) s t false false ⌝ }
+    ensures { λ r. ⌜ Moves states (now (exits .entry)) (now (starts .entry)) (now (targets .entry)) (now (probs .entry)) need plenty (now (relation .entry)) s t false struck false (weight states (now (relation .entry)) s t false struck + 1) (now (relation .exit)) (now (changed .exit)) (r .s) (r .t) (r .back) (r .struck) (r .asks) × (r .asks ≡ false → (r .s ≡ s) × (r .t ≡ t + 1) × (r .back ≡ false)) ⌝ }
 {
+    let next = Place {
+        s: s,
+        t: t + 1,
+        back: false,
+        struck: struck,
+        asks: false,
+    };
     if !bit(relation, s * states + t) {
-        return struck;
+        return next;
     }
     if exits[s] == 0.0 {
-        return struck;
+        return next;
     }
-    if still_passes(
-        starts,
-        targets,
-        probs,
-        states,
-        need,
-        plenty,
-        relation,
-        changed,
-        s,
-        t,
-    ) {
-        return struck;
+    if unchanged(starts, targets, states, changed, s, t) {
+        return next;
+    }
+    let v = judge_both(starts, targets, probs, states, need, plenty, relation, s, t);
+    if v.plenty {
+        return next;
+    }
+    if !v.known {
+        return Place {
+            s: s,
+            t: t,
+            back: v.back,
+            struck: struck,
+            asks: true,
+        };
+    }
+    if v.passes {
+        return next;
     }
     strike(states, relation, changed, s, t);
-    true
+    Place {
+        s: s,
+        t: t + 1,
+        back: false,
+        struck: true,
+        asks: false,
+    }
 }
 
-// The turns of s with every higher state.
+// The turns of s with t and every higher state, up to one that asks.
 fn sweep_row(
     exits: &[f64],
     starts: &[u32],
@@ -124,15 +244,16 @@ fn sweep_row(
     relation: &mut [u8],
     changed: &mut [u64],
     s: usize,
+    from: usize,
     before: bool,
-) -> bool
-    requires { ⌜ RowsFit states (now starts) (now targets) (now probs) × (states ≤ length (now exits)) × (s < states) × Kept states (now exits) (now starts) (now targets) (now probs) need plenty (now relation) (now changed) s (s + 1) ⌝ }
-    ensures { λ r. ⌜ Makes states (now (exits .entry)) (now (starts .entry)) (now (targets .entry)) (now (probs .entry)) need (λ Q. Sweeps.sweepRow Q (states - (s + 1)) s (s + 1)) (now (relation .entry)) before (now (relation .exit)) r × Kept states (now (exits .entry)) (now (starts .entry)) (now (targets .entry)) (now (probs .entry)) need plenty (now (relation .exit)) (now (changed .exit)) (s + 1) (s + 1 + 1) ⌝ }
+) -> Place
+    requires { ⌜ RowsFit states (now starts) (now targets) (now probs) × (states ≤ length (now exits)) × (s < from) × (from ≤ states) × Held states (now exits) (now starts) (now targets) (now probs) need plenty (now relation) (now changed) s from false false ⌝ }
+    ensures { λ r. ⌜ Moves states (now (exits .entry)) (now (starts .entry)) (now (targets .entry)) (now (probs .entry)) need plenty (now (relation .entry)) s from false before false (weight states (now (relation .entry)) s from false before + 1) (now (relation .exit)) (now (changed .exit)) (r .s) (r .t) (r .back) (r .struck) (r .asks) × (r .asks ≡ false → (r .s ≡ s + 1) × (r .t ≡ s + 1 + 1) × (r .back ≡ false)) ⌝ }
 {
     let mut struck = before;
-    let mut t = s + 1;
+    let mut t = from;
     while t < states {
-        struck = turn(
+        let p = turn(
             exits,
             starts,
             targets,
@@ -146,12 +267,22 @@ fn sweep_row(
             t,
             struck,
         );
+        if p.asks {
+            return p;
+        }
+        struck = p.struck;
         t += 1;
     }
-    struck
+    Place {
+        s: s + 1,
+        t: s + 1 + 1,
+        back: false,
+        struck: struck,
+        asks: false,
+    }
 }
 
-// A sweep over the pairs s < t in rising order, and whether it struck.
+// The rest of a sweep over the pairs s < t in rising order, up to a turn that asks.
 fn sweep(
     exits: &[f64],
     starts: &[u32],
@@ -162,14 +293,18 @@ fn sweep(
     plenty: f64,
     relation: &mut [u8],
     changed: &mut [u64],
-) -> bool
-    requires { ⌜ RowsFit states (now starts) (now targets) (now probs) × (states ≤ length (now exits)) × Kept states (now exits) (now starts) (now targets) (now probs) need plenty (now relation) (now changed) 0 1 ⌝ }
-    ensures { λ r. ⌜ Makes states (now (exits .entry)) (now (starts .entry)) (now (targets .entry)) (now (probs .entry)) need (λ Q. Sweeps.sweepRows Q states 0) (now (relation .entry)) false (now (relation .exit)) r × Kept states (now (exits .entry)) (now (starts .entry)) (now (targets .entry)) (now (probs .entry)) need plenty (now (relation .exit)) (now (changed .exit)) states (states + 1) ⌝ }
+    first: usize,
+    from: usize,
+    before: bool,
+) -> Place
+    requires { ⌜ RowsFit states (now starts) (now targets) (now probs) × (states ≤ length (now exits)) × (first < from) × (first < states → from ≤ states) × Held states (now exits) (now starts) (now targets) (now probs) need plenty (now relation) (now changed) first from false false ⌝ }
+    ensures { λ r. ⌜ Moves states (now (exits .entry)) (now (starts .entry)) (now (targets .entry)) (now (probs .entry)) need plenty (now (relation .entry)) first from false before false (weight states (now (relation .entry)) first from false before + 1) (now (relation .exit)) (now (changed .exit)) (r .s) (r .t) (r .back) (r .struck) (r .asks) × (r .asks ≡ false → (states ≤ r .s) × (states ≤ r .t) × (r .back ≡ false)) ⌝ }
 {
-    let mut struck = false;
-    let mut s: usize = 0;
+    let mut struck = before;
+    let mut s = first;
+    let mut t = from;
     while s < states {
-        struck = sweep_row(
+        let p = sweep_row(
             exits,
             starts,
             targets,
@@ -180,15 +315,27 @@ fn sweep(
             relation,
             changed,
             s,
+            t,
             struck,
         );
+        if p.asks {
+            return p;
+        }
+        struck = p.struck;
         s += 1;
+        t = s + 1;
     }
-    struck
+    Place {
+        s: s,
+        t: t,
+        back: false,
+        struck: struck,
+        asks: false,
+    }
 }
 
-// Sweeps until one without a strike, with words for strikes lent.
-fn run_in(
+// The rest of a sweep, and further ones until one without a strike, up to a turn that asks.
+pub(crate) fn advance(
     exits: &[f64],
     starts: &[u32],
     targets: &[u32],
@@ -198,15 +345,33 @@ fn run_in(
     plenty: f64,
     relation: &mut [u8],
     changed: &mut [u64],
-)
-    requires { ⌜ RowsFit states (now starts) (now targets) (now probs) × (states ≤ length (now exits)) × Plenty states (now starts) (now targets) (now probs) need plenty × Even states (now relation) ⌝ }
-    requires { ⌜ ((R : List Bool) × (now relation ≡ packed R) × (length R ≡ states * states)) ⌝ }
-    requires { ⌜ (2 * states < length (now changed)) × (getD (now changed) (2 * states) 0 ≡ 0) ⌝ }
-    ensures { λ r. ⌜ RunsTo states (now (exits .entry)) (now (starts .entry)) (now (targets .entry)) (now (probs .entry)) need (now (relation .entry)) (now (relation .exit)) ⌝ }
+    s: usize,
+    t: usize,
+    struck: bool,
+) -> Place
+    requires { ⌜ RowsFit states (now starts) (now targets) (now probs) × (states ≤ length (now exits)) × (s < t) × (s < states → t ≤ states) × Held states (now exits) (now starts) (now targets) (now probs) need plenty (now relation) (now changed) s t false false ⌝ }
+    ensures { λ r. ⌜ Moves states (now (exits .entry)) (now (starts .entry)) (now (targets .entry)) (now (probs .entry)) need plenty (now (relation .entry)) s t false struck false (weight states (now (relation .entry)) s t false struck + 1) (now (relation .exit)) (now (changed .exit)) (r .s) (r .t) (r .back) (r .struck) (r .asks) × (r .asks ≡ false → (r .struck ≡ false) × (states ≤ r .s) × (states ≤ r .t)) ⌝ }
 {
-    let mut struck = true;
-    while struck {
-        struck = sweep(
+    let mut p = sweep(
+        exits,
+        starts,
+        targets,
+        probs,
+        states,
+        need,
+        plenty,
+        relation,
+        changed,
+        s,
+        t,
+        struck,
+    );
+    while p.struck {
+        if p.asks {
+            return p;
+        }
+        fade(states, changed);
+        p = sweep(
             exits,
             starts,
             targets,
@@ -216,13 +381,55 @@ fn run_in(
             plenty,
             relation,
             changed,
+            0,
+            1,
+            false,
         );
-        fade(states, changed);
     }
+    p
 }
 
-// The same with words for 2,000 states.
-fn run_large(
+// How the test that a place asks for ended.
+fn tested(
+    starts: &[u32],
+    targets: &[u32],
+    probs: &[f64],
+    states: usize,
+    need: f64,
+    relation: &mut [u8],
+    changed: &mut [u64],
+    p: Place,
+    passes: bool,
+) -> Place
+    requires { ⌜ RowsFit states (now starts) (now targets) (now probs) × (2 * states < length (now changed)) × (p .s < states) × (p .t < states) ⌝ }
+    ensures { λ r. ⌜ ((E : List Float) (plenty : Float) → Held states E (now (starts .entry)) (now (targets .entry)) (now (probs .entry)) need plenty (now (relation .entry)) (now (changed .entry)) (p .s) (p .t) (p .back) true
+        → ((R : List Bool) → (now (relation .entry)) ≡ packed R → (p .back ≡ false → testIn states (now (starts .entry)) (now (targets .entry)) (now (probs .entry)) need R (p .s) (p .t) ≡ passes) × (p .back ≡ true → testIn states (now (starts .entry)) (now (targets .entry)) (now (probs .entry)) need R (p .t) (p .s) ≡ passes))
+        → Moves states E (now (starts .entry)) (now (targets .entry)) (now (probs .entry)) need plenty (now (relation .entry)) (p .s) (p .t) (p .back) (p .struck) true (weight states (now (relation .entry)) (p .s) (p .t) (p .back) (p .struck)) (now (relation .exit)) (now (changed .exit)) (r .s) (r .t) (r .back) (r .struck) (r .asks))
+        × (r .asks ≡ false → (r .s ≡ p .s) × (r .t ≡ p .t + 1) × (r .back ≡ false)) ⌝ }
+{
+    let s = p.s;
+    let t = p.t;
+    let struck = p.struck;
+    if p.back {
+        return tested_back(states, relation, changed, s, t, struck, passes);
+    }
+    tested_forth(
+        starts,
+        targets,
+        probs,
+        states,
+        need,
+        relation,
+        changed,
+        s,
+        t,
+        struck,
+        passes,
+    )
+}
+
+// The answer to the test that a place asks for, and the sweeps from there up to the next that asks.
+pub(crate) fn settle(
     exits: &[f64],
     starts: &[u32],
     targets: &[u32],
@@ -231,56 +438,32 @@ fn run_large(
     need: f64,
     plenty: f64,
     relation: &mut [u8],
-)
-    requires { ⌜ RowsFit states (now starts) (now targets) (now probs) × (states ≤ length (now exits)) × Plenty states (now starts) (now targets) (now probs) need plenty × Even states (now relation) ⌝ }
-    requires { ⌜ ((R : List Bool) × (now relation ≡ packed R) × (length R ≡ states * states)) ⌝ }
-    ensures { λ r. ⌜ RunsTo states (now (exits .entry)) (now (starts .entry)) (now (targets .entry)) (now (probs .entry)) need (now (relation .entry)) (now (relation .exit)) ⌝ }
+    changed: &mut [u64],
+    p: Place,
+    answer: Answer,
+) -> Place
+    requires { ⌜ RowsFit states (now starts) (now targets) (now probs) × (states ≤ length (now exits)) × Held states (now exits) (now starts) (now targets) (now probs) need plenty (now relation) (now changed) (p .s) (p .t) (p .back) true
+        × ((R : List Bool) → now relation ≡ packed R → (p .back ≡ false → testIn states (now starts) (now targets) (now probs) need R (p .s) (p .t) ≡ atLeast need answer) × (p .back ≡ true → testIn states (now starts) (now targets) (now probs) need R (p .t) (p .s) ≡ atLeast need answer)) ⌝ }
+    ensures { λ r. ⌜ Moves states (now (exits .entry)) (now (starts .entry)) (now (targets .entry)) (now (probs .entry)) need plenty (now (relation .entry)) (p .s) (p .t) (p .back) (p .struck) true (weight states (now (relation .entry)) (p .s) (p .t) (p .back) (p .struck)) (now (relation .exit)) (now (changed .exit)) (r .s) (r .t) (r .back) (r .struck) (r .asks) × (r .asks ≡ false → (r .struck ≡ false) × (states ≤ r .s) × (states ≤ r .t)) ⌝ }
 {
-    let mut changed = [0u64; 4001];
-    run_in(
-        exits,
+    let q = tested(
         starts,
         targets,
         probs,
         states,
         need,
-        plenty,
         relation,
-        &mut changed,
+        changed,
+        p,
+        enough(answer, need),
     );
-}
-
-// The same; 129 words are enough for the states of a card.
-pub(crate) fn run(
-    exits: &[f64],
-    starts: &[u32],
-    targets: &[u32],
-    probs: &[f64],
-    states: usize,
-    need: f64,
-    plenty: f64,
-    relation: &mut [u8],
-)
-    requires { ⌜ RowsFit states (now starts) (now targets) (now probs) × (states ≤ length (now exits)) × Plenty states (now starts) (now targets) (now probs) need plenty × Even states (now relation) ⌝ }
-    requires { ⌜ ((R : List Bool) × (now relation ≡ packed R) × (length R ≡ states * states)) ⌝ }
-    ensures { λ r. ⌜ RunsTo states (now (exits .entry)) (now (starts .entry)) (now (targets .entry)) (now (probs .entry)) need (now (relation .entry)) (now (relation .exit)) ⌝ }
-{
-    if states <= 64 {
-        let mut changed = [0u64; 129];
-        run_in(
-            exits,
-            starts,
-            targets,
-            probs,
-            states,
-            need,
-            plenty,
-            relation,
-            &mut changed,
-        );
-        return;
+    if q.asks {
+        return q;
     }
-    run_large(
+    let s = q.s;
+    let t = q.t;
+    let struck = q.struck;
+    advance(
         exits,
         starts,
         targets,
@@ -289,5 +472,9 @@ pub(crate) fn run(
         need,
         plenty,
         relation,
-    );
+        changed,
+        s,
+        t,
+        struck,
+    )
 }

@@ -57,10 +57,6 @@ pub record SweepsIn (Q : Task) (n : ℕ) (E : List Float) (S T : List ℕ) (P : 
 abbrev pub Stored : Run → List ℕ → Bool → Type 0
 Stored x store struck = (store ≡ packed (x .relation)) × (struck ≡ x .struck)
 
--- of whatever task the lists hold, and from whatever run is stored at first, what is stored then is what f makes of it
-abbrev pub Makes : ℕ → List Float → List ℕ → List ℕ → List Float → Float → (Task → Run → Run) → List ℕ → Bool → List ℕ → Bool → Type 0
-Makes n E S T P need f store₀ struck₀ store struck = (Q : Task) → SweepsIn Q n E S T P need → (x : Run) → Stored x store₀ struck₀ → Stored (f Q x) store struck
-
 -- from whatever relation the bytes are at first, sweeps until one without a strike end in these bytes
 abbrev pub RunsTo : ℕ → List Float → List ℕ → List ℕ → List Float → Float → List ℕ → List ℕ → Type 0
 RunsTo n E S T P need store₀ store =

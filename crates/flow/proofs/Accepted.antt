@@ -34,7 +34,7 @@ acceptsOn N s t = accepts (headsOf (N .count) (N .links)) (capsOf (N .count) (N 
 abbrev pub FiniteFrom : ℕ → FlowNetwork → Type 0
 FiniteFrom s N = (e : ℕ) → e < N .count → getD (headsOf (N .count) (N .links)) (rev e) 0 ≡ s → getD (capsOf (N .count) (N .links)) e nan ≢ inf false
 
-ends-fit : (H : List ℕ) (c : List Float) (n s t : ℕ) → s < n → t < n → s ≢ t → finiteFrom H c s ≡ true → endsFit H c n s t ≡ true
+pub ends-fit : (H : List ℕ) (c : List Float) (n s t : ℕ) → s < n → t < n → s ≢ t → finiteFrom H c s ≡ true → endsFit H c n s t ≡ true
 ends-fit H c n s t a b d f = rw (lt-ltb s n a, lt-ltb t n b, ne-eqb s t d) f
 
 -- ---- a network without links
@@ -60,7 +60,7 @@ made-accepted n s t few a b d =
 
 -- ---- a network with one more link
 
-spares : (tail s : ℕ) (x : Float) → (tail ≡ s → x ≢ inf false) → not (eqb tail s && eq x (inf false)) ≡ true
+pub spares : (tail s : ℕ) (x : Float) → (tail ≡ s → x ≢ inf false) → not (eqb tail s && eq x (inf false)) ≡ true
 spares tail s x h = pick (eqb tail s) (eq x (inf false)) refl refl
   where
     pick : (y z : Bool) → eqb tail s ≡ y → eq x (inf false) ≡ z → not (y && z) ≡ true
@@ -80,7 +80,7 @@ negation-fits (inf false) f = refl
 negation-fits (fin true m e) f = rw (eq-eqb (m * up e * down e) (m * up e * down e) refl)
 negation-fits (fin false m e) f = rw (eq-eqb (m * up e * down e) (m * up e * down e) refl)
 
-same-over : (m : ℕ) (xs l : List ℕ) → length xs ≡ m → sameRows m (over xs l) xs ≡ true
+pub same-over : (m : ℕ) (xs l : List ℕ) → length xs ≡ m → sameRows m (over xs l) xs ≡ true
 same-over m xs l q = every-of (λ i. eqb (getD (over xs l) i 0) (getD xs i 0)) m (λ i h. eq-eqb (getD (over xs l) i 0) (getD xs i 0) (List·getD-append xs (drop (length xs) l) 0 i (omega arith)))
 
 -- what is asked of a network that gets a link, and of the link

@@ -1,17 +1,18 @@
 -- One turn of the loops between links and rows.
-use mathlib.Core.Path.{_≡_, refl, ap, _∙_}
+use mathlib.Core.Path.{_≡_, refl, sym, ap, _∙_}
 use Prim.Native.Nat.{ℕ, zero, suc, _+_, _≤_, _<_}
 use mathlib.Core.List.{List, [], _∷_, _++_, map}
 use native.Mathlib.Omega.{arith}
 use native.Mathlib.Numerals.{add-one}
 use native.Mathlib.Nat.{le-of-suc-le-suc, not-suc-le-zero}
 use lib.ListN.{length, getD, set, take, drop, length-map}
-use lib.Seq.{take-at, length-take-le}
+use lib.Seq.{take-at, drop-at, length-take-le}
 use lib.Ieee.{Float, nan}
 use Rattle.flow.specs.declared.network.Link.{Link}
 use Rattle.flow.specs.Network.{headsOf, capsOf, costsOf, withCaps}
 use Rattle.flow_theory.proofs.ListRows.{Fitting}
 use Rattle.flow_theory.proofs.Lists.{over-end, at-map}
+use Rattle.numbers.specs.Lists.{over}
 use Rattle.numbers.proofs.Over.{over-step, over-length}
 
 -- what stands past the end of a list of links, as the checker has it
@@ -126,6 +127,14 @@ caps-length ls [] = refl
 caps-length [] (x ∷ cs) = refl
 caps-length (l ∷ ls) (x ∷ cs) = ap suc (caps-length ls cs)
 
+-- the capacities that were put in are the links' first
+pub caps-with : (ls : List Link) (xs : List Float) (n : ℕ) → length xs ≡ n → n ≤ length ls → capsOf n (withCaps ls xs) ≡ xs
+unfolding withCaps
+caps-with ls [] n e h = ap (λ (m : ℕ). capsOf m ls) (sym e)
+caps-with [] (x ∷ xs) n e h = absurd (omega arith)
+caps-with (l ∷ ls) (x ∷ xs) zero e h = absurd (omega arith)
+caps-with (l ∷ ls) (x ∷ xs) (suc n) e h = ap (λ (m : List Float). x ∷ m) (caps-with ls xs n (omega arith) (le-of-suc-le-suc h))
+
 -- ---- rows of any length, whose first i places are taken from the links
 
 abbrev pub fill : {A : Type 0} → (Link → A) → List Link → List A → ℕ → List A
@@ -140,3 +149,9 @@ module _ {A : Type 0} (f : Link → A) (ls : List Link) (r : List A) (i : ℕ) w
 
   pub fill-taken : i ≤ length ls → take i (fill f ls r i) ≡ take i (map f ls)
   fill-taken there = take-at (take i (map f ls)) (drop i r) i (length-take-le i (map f ls) (rw (length-map ls f) there))
+
+  pub fill-dropped : i ≤ length ls → drop i (fill f ls r i) ≡ drop i r
+  fill-dropped there = drop-at (take i (map f ls)) (drop i r) i (length-take-le i (map f ls) (rw (length-map ls f) there))
+
+  pub fill-over : i ≤ length ls → fill f ls r i ≡ over (take i (map f ls)) r
+  fill-over there = ap (λ (m : ℕ). take i (map f ls) ++ drop m r) (sym (length-take-le i (map f ls) (rw (length-map ls f) there)))

@@ -1,1 +1,2 @@
 pub mod Network
+pub mod Filled

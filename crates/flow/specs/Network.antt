@@ -57,6 +57,23 @@ flowIf false N source sink = ends (says.Refused 15) N
 abbrev pub flowThrough : FlowNetwork → ℕ → ℕ → Outcome
 flowThrough N source sink = flowIf (leb (N .count) 2176) N source sink
 
+-- how a run through rows ends: its answer, and the network and the rows of heads, capacities and costs that it leaves
+pub record Flown : Type 0 where
+  pub answer : Answer
+  pub network : FlowNetwork
+  pub heads : List ℕ
+  pub caps : List Float
+  pub costs : List Float
+
+abbrev pub flown : Answer → FlowNetwork → List ℕ → List Float → List Float → Flown
+flown a N H c p = record { answer = a; network = N; heads = H; caps = c; costs = p }
+
+-- the run on a network whose links stand in the front of rows meanwhile, with the capacities that it leaves
+abbrev pub flowIn : FlowNetwork → List ℕ → List Float → List Float → ℕ → ℕ → Flown
+flowIn N H c p source sink =
+    let o = flowThrough N source sink in
+    flown (o .answer) (o .network) (over (headsOf (N .count) (N .links)) H) (over (capsOf (N .count) (o .network .links)) c) (over (costsOf (N .count) (N .links)) p)
+
 -- a network of n nodes without links
 abbrev pub bare : ℕ → FlowNetwork
 bare n = record { links = replicate 2176 (record { head = 0; cap = nought; cost = nought }); count = 0; nodes = n; starts = replicate 67 0; list = replicate 2176 0 }

@@ -2,13 +2,13 @@
 use flow_check::check;
 use flow_core::rows;
 use flow_core::rows::Answer;
-ghost use Rattle.flow.specs.Network.{headsOf, capsOf, costsOf, ends, flowThrough, ClaimedOn, made, fitsOn, grown, leaves, added};
+ghost use Rattle.flow.specs.Network.{headsOf, capsOf, costsOf, ends, flowThrough, flown, flowIn, ClaimedOn, made, fitsOn, grown, leaves, added};
 ghost use Rattle.flow_theory.proofs.ListRows.{Indexable, Fitting};
 ghost use Rattle.flow_check.specs.Refusal.{networkFits};
 ghost use mathlib.Core.Path.{_≡_};
 ghost use mathlib.Core.Bool.{true};
 ghost use Prim.Native.Nat.{ℕ, _+_, _≤_};
-ghost use lib.ListN.{length, take};
+ghost use lib.ListN.{length, take, drop};
 ghost use Rattle.flow_core.specs.Outcome;
 
 // A link: the node that it leads to, the capacity left, and its cost for a unit.
@@ -196,7 +196,7 @@ fn run_rows(
     sink: usize,
 ) -> Answer
     requires { ⌜ (n ≤ length (now heads)) × (n ≤ length (now caps)) × (n ≤ length (now costs)) ⌝ }
-    ensures { λ r. ⌜ Outcome.ends r (take n (now (caps .exit))) ≡ Outcome.flowOn (take n (now (heads .entry))) (take n (now (caps .entry))) (take n (now (costs .entry))) (now (starts .entry)) (now (list .entry)) nodes source sink ⌝ }
+    ensures { λ r. ⌜ (Outcome.ends r (take n (now (caps .exit))) ≡ Outcome.flowOn (take n (now (heads .entry))) (take n (now (caps .entry))) (take n (now (costs .entry))) (now (starts .entry)) (now (list .entry)) nodes source sink) × (drop n (now (caps .exit)) ≡ drop n (now (caps .entry))) ⌝ }
 {
     rows::max_flow_rows(
         &heads[..n],
@@ -211,7 +211,7 @@ fn run_rows(
 }
 
 // The run on a network through lent rows, in which heads, capacities and costs of its links stand meanwhile.
-fn max_flow_in(
+pub(crate) fn max_flow_in(
     net: &mut FlowNetwork,
     heads: &mut [u32],
     caps: &mut [f64],
@@ -220,7 +220,7 @@ fn max_flow_in(
     sink: usize,
 ) -> Answer
     requires { ⌜ (now net .count ≤ 2176) × (now net .count ≤ length (now heads)) × (now net .count ≤ length (now caps)) × (now net .count ≤ length (now costs)) ⌝ }
-    ensures { λ r. ⌜ ends r (now (net .exit)) ≡ flowThrough (now (net .entry)) source sink ⌝ }
+    ensures { λ r. ⌜ flown r (now (net .exit)) (now (heads .exit)) (now (caps .exit)) (now (costs .exit)) ≡ flowIn (now (net .entry)) (now (heads .entry)) (now (caps .entry)) (now (costs .entry)) source sink ⌝ }
 {
     let n = net.count;
     let mut i: usize = 0;

@@ -1,29 +1,20 @@
 -- Two rows that fit a flow test: their network is accepted, and its run is the one of the definition.
-use mathlib.Core.Path.{_≡_, refl, sym, ap, subst, _∙_}
-use Prim.Native.Nat.{ℕ, suc, _+_, _/_, _≤_, _<_}
-use mathlib.Core.Bool.{Bool, true, false, _&&_}
+use mathlib.Core.Path.{_≡_, refl, sym, ap, _∙_}
+use Prim.Native.Nat.{ℕ, suc, _+_, _/_}
+use mathlib.Core.Bool.{Bool, true, false}
 use mathlib.Core.List.{List, [], _∷_}
 use native.Mathlib.Omega.{arith}
 use native.Mathlib.Numerals.{add-one}
-use lib.Dec.{leb, leb→le}
 use lib.ListN.{length, take}
-use lib.Seq.{length-take-le}
 use lib.Ieee.{Float, le, ofBits}
 use Rattle.numbers.specs.Real.{nought, greatestWeight}
 use Rattle.numbers.specs.Lists.{all}
 use Rattle.numbers.specs.Bits.{packed}
 use Rattle.numbers.proofs.Bools.{t-of, and-t}
-use Rattle.flow_theory.specs.Claim.{FlowClaim}
 use Rattle.flow_theory.proofs.Accepted.{Accepted}
 use Rattle.flow_theory.specs.Rows.{network}
 use Rattle.flow_theory.specs.Run.{FlowRun, maxFlow}
-use Rattle.flow_theory.proofs.ListRows.{Indexable}
-use Rattle.flow_theory.proofs.RunRows.{Runnable, Ran}
-use Rattle.flow_theory.proofs.Outs.{network-nodes}
-use Rattle.flow_theory.proofs.Theorem.{accepted-good, accepted-caps, flow-run}
-use Rattle.flow_theory.specs.Network.{head}
-use Rattle.flow_check.proofs.Relists.{Relisted, enlisted}
-use Rattle.epsdelta_theory.specs.Jumps.{Jump, jumpsOf}
+use Rattle.epsdelta_theory.specs.Jumps.{jumpsOf}
 use Rattle.epsdelta_theory.specs.FlowTest.{Link, linksOf, heads, caps, networkBetween, runBetween}
 use Rattle.epsdelta_theory.proofs.FlowTests.{AllInRange, heads-length, between-accepted}
 use Rattle.epsdelta_theory.proofs.RowReads.{jumps-length}
@@ -35,15 +26,7 @@ use Rattle.flow_core.specs.Outcome.{settled}
 use Rattle.flow_core.specs.Test.{flowBetween}
 use Rattle.flow_core.specs.declared.rows.Answer.the-variants as says
 
--- the written part of a row is no longer than another row as long
-pub cut-room : (e : ℕ) (h h₀ l : List ℕ) → e ≤ length h → length h ≡ length h₀ → length h₀ ≤ length l → length (take e h) ≤ length l
-cut-room e h h₀ l a b d = let k = length-take-le e h a in omega arith
-
--- what `within` says
-pub both-few : (a b m : ℕ) → (leb a m && leb b m) ≡ true → (a ≤ m) × (b ≤ m)
-both-few a b m e = let (x, y) = and-t (leb a m) (leb b m) e in (leb→le a m (t-of x), leb→le b m (t-of y))
-
-pub refused : (us : List ℕ) (vs : List Float) (ts : List ℕ) (ws : List Float) (n : ℕ) → fits us vs ts ws n ≡ false → (R : List Bool) → says.Refused 15 ≡ flowBetween us vs ts ws n R
+refused : (us : List ℕ) (vs : List Float) (ts : List ℕ) (ws : List Float) (n : ℕ) → fits us vs ts ws n ≡ false → (R : List Bool) → says.Refused 15 ≡ flowBetween us vs ts ws n R
 refused us vs ts ws n f R = ap (λ (b : Bool). settled b (runBetween n R (jumpsOf us vs) (jumpsOf ts ws)) [] .answer) (sym f)
 
 in-range : (ts : List ℕ) (ws : List Float) → all rateFits ws ≡ true → AllInRange (jumpsOf ts ws)
@@ -54,30 +37,6 @@ in-range (t ∷ ts) (w ∷ ws) f =
     let (a, r) = and-t (rateFits w) (all rateFits ws) f in
     let (b, d) = and-t (le nought w) (le w greatestWeight) a in
     ((t-of b, t-of d), in-range ts ws r)
-
--- ---- the run over rows
-
--- an accepted network of written links can be run once its node lists are made
-pub runs-listed : (H : List ℕ) (c : List Float) (k s : ℕ) (st l : List ℕ) → Accepted (network H (s + 2) s (s + 1)) c k → length H ≤ length l → length st ≡ 67
-    → (b : Bool) (st' l' : List ℕ) → Relisted H (s + 2) st l b st' l' → Runnable (network H (s + 2) s (s + 1)) st' l' c
-unfolding head
-runs-listed H c k s st l A room places b st' l' e =
-    let v = network-nodes H (s + 2) in
-    let few : s + 2 ≤ 66 = rw (← network-nodes H (s + 2)) (A .few) in
-    let p = A .pairs in
-    let m = A .small in
-    let K : Indexable H (s + 2) = record { added = k; pairs = A .pairs; small = omega arith; heads-in = λ i h. subst (λ (x : ℕ). head (network H (s + 2) s (s + 1)) i < x) (network-nodes H (s + 2)) (A .heads-in i h) } in
-    record {
-      good = accepted-good (network H (s + 2) s (s + 1)) c k A;
-      laid = enlisted K few st l (omega arith) room b st' l' s (s + 1) e;
-      caps = accepted-caps (network H (s + 2) s (s + 1)) c k A;
-      sink-in = A .sink-in;
-      small = omega arith;
-    }
-
--- a run's report as an answer
-pub told : (r : FlowRun) (f : Float) (p q : ℕ) (d : List Float) → Ran r f p q d → says.Flow f p q ≡ settled true r [] .answer
-told r f p q d R = rw (R .flow-is, R .phases-is, R .pushes-is)
 
 module _ (us : List ℕ) (vs : List Float) (ts : List ℕ) (ws : List Float) (n : ℕ) (f : fits us vs ts ws n ≡ true) where
   abbrev fitting : Fit us vs ts ws n
@@ -97,10 +56,6 @@ module _ (us : List ℕ) (vs : List Float) (ts : List ℕ) (ws : List Float) (n 
       let a = lefts in
       let b = rights in
       between-accepted n R (jumpsOf us vs) (jumpsOf ts ws) (in-range us vs (fitting .left .range)) (in-range ts ws (fitting .right .range)) (omega arith) (omega arith)
-
-  -- what is claimed of the run
-  pub claimed : (R : List Bool) → FlowClaim (networkBetween n R (jumpsOf us vs) (jumpsOf ts ws)) (caps (linksOf n R (jumpsOf us vs) (jumpsOf ts ws))) (length (linksOf n R (jumpsOf us vs) (jumpsOf ts ws))) (runBetween n R (jumpsOf us vs) (jumpsOf ts ws))
-  claimed R = flow-run (networkBetween n R (jumpsOf us vs) (jumpsOf ts ws)) (caps (linksOf n R (jumpsOf us vs) (jumpsOf ts ws))) (length (linksOf n R (jumpsOf us vs) (jumpsOf ts ws))) (between R)
 
 module _ {us : List ℕ} {vs : List Float} {ts : List ℕ} {ws : List Float} {n : ℕ} (store : List ℕ) {h : List ℕ} {k : ℕ} {h' : List ℕ} {c' : List Float} (L : Laid us vs ts ws n (relationOf store) h k h' c') where
   sources : length us + length ts ≡ length (jumpsOf us vs) + length (jumpsOf ts ws)

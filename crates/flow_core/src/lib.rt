@@ -3,4 +3,3 @@ mod levels; // levels.rt: the levels of a phase
 mod augment; // augment.rt: one path, and the push along it
 mod run; // run.rt: phases, and the whole run
 pub mod rows; // rows.rt: the flow run over lent rows
-pub mod test; // test.rt: the flow test between two rows of jumps

@@ -1,7 +1,7 @@
 -- The flow test of two rows that fit: what its start is, and what an answer says of it.
 use mathlib.Core.Path.{_≡_, refl, sym, ap, _∙_}
 use Prim.Native.Nat.{ℕ, _+_, _*_}
-use mathlib.Core.Bool.{Bool, true, false, _&&_, _||_}
+use mathlib.Core.Bool.{Bool, true, false, _&&_}
 use mathlib.Core.List.{List, []}
 use lib.Dec.{leb}
 use lib.Ieee.{Float, le}
@@ -21,7 +21,7 @@ use Rattle.flow_links.proofs.LinkWrites.{entry}
 use Rattle.flow_links.proofs.Fitting.{fit}
 use Rattle.flow_core.specs.Outcome.{settled}
 use Rattle.flow_core.proofs.Tests.{lefts, rights, between}
-use Rattle.flow_direct.specs.Reaches.{reaches, bothReach, plentyOrBoth, atLeast}
+use Rattle.flow_direct.specs.Reaches.{reaches, bothReach, atLeast}
 
 abbrev rowsOf : List ℕ → List Float → List ℕ → List Float → ℕ → List ℕ → Rows
 rowsOf us vs ts ws n store = record { states = n; relation = relationOf store; ps = jumpsOf us vs; pt = jumpsOf ts ws }
@@ -50,26 +50,15 @@ module _ (us : List ℕ) (vs : List Float) (ts : List ℕ) (ws : List Float) (n 
     pub known-reaches : (need : Float) {known passes : Bool} → Told us vs ts ws n store need known passes → known ≡ true → passes ≡ reaches us vs ts ws n (relationOf store) need
     known-reaches need T z = T z (rowsOf us vs ts ws n store) begins ∙ ap (λ (b : Bool). b && le need ((runBetween n (relationOf store) (jumpsOf us vs) (jumpsOf ts ws)) .total)) (sym f)
 
+  -- rows that do not fit
+  pub none-reaches : (need : Float) → fits us vs ts ws n ≡ false → false ≡ reaches us vs ts ws n (relationOf store) need
+  none-reaches need f = ap (λ (b : Bool). b && le need ((runBetween n (relationOf store) (jumpsOf us vs) (jumpsOf ts ws)) .total)) (sym f)
+
 -- ---- both ways
-
--- without plenty, both have to be enough
-pub not-plenty : {a b r : Bool} → a ≡ false → r ≡ b → r ≡ (a || b)
-not-plenty {b = b} h e = e ∙ ap (λ (x : Bool). x || b) (sym h)
-
-pub is-plenty : (a b : Bool) → a ≡ true → true ≡ (a || b)
-is-plenty a b h = ap (λ (x : Bool). x || b) (sym h)
 
 -- rows that do not fit
 pub none-both : (us : List ℕ) (vs : List Float) (ts : List ℕ) (ws : List Float) (n : ℕ) (R : List Bool) (need : Float) → fits us vs ts ws n ≡ false → false ≡ bothReach us vs ts ws n R need
 none-both us vs ts ws n R need f = ap (λ (b : Bool). (b && le need ((runBetween n R (jumpsOf us vs) (jumpsOf ts ws)) .total)) && reaches ts ws us vs n R need) (sym f)
-
--- nor is their flow plenty
-pub none-plenty : (us : List ℕ) (vs : List Float) (ts : List ℕ) (ws : List Float) (n : ℕ) (R : List Bool) (need plenty : Float) → fits us vs ts ws n ≡ false → false ≡ plentyOrBoth us vs ts ws n R need plenty
-none-plenty us vs ts ws n R need plenty f = not-plenty (sym (pick (le need plenty))) (none-both us vs ts ws n R need f)
-  where
-    pick : (b : Bool) → false ≡ (b && reaches us vs ts ws n R plenty)
-    pick true = ap (λ (b : Bool). b && le plenty ((runBetween n R (jumpsOf us vs) (jumpsOf ts ws)) .total)) (sym f)
-    pick false = refl
 
 -- rows that fit one way fit the other
 pub fits-back : (us : List ℕ) (vs : List Float) (ts : List ℕ) (ws : List Float) (n : ℕ) → fits us vs ts ws n ≡ true → fits ts ws us vs n ≡ true

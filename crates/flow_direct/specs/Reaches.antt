@@ -1,6 +1,6 @@
 -- Whether the flow of a flow test is enough.
 use Prim.Native.Nat.{ℕ}
-use mathlib.Core.Bool.{Bool, false, _&&_, _||_}
+use mathlib.Core.Bool.{Bool, false, _&&_}
 use mathlib.Core.List.{List}
 use lib.Ieee.{Float, le}
 use Rattle.epsdelta_theory.specs.Jumps.{jumpsOf}
@@ -16,10 +16,6 @@ reaches us vs ts ws n R need = fits us vs ts ws n && le need ((runBetween n R (j
 -- the flows of the runs from the one row to the other and back are
 abbrev pub bothReach : List ℕ → List Float → List ℕ → List Float → ℕ → List Bool → Float → Bool
 bothReach us vs ts ws n R need = reaches us vs ts ws n R need && reaches ts ws us vs n R need
-
--- the one to the other is plenty, which is no less than what is needed, or both are enough
-abbrev pub plentyOrBoth : List ℕ → List Float → List ℕ → List Float → ℕ → List Bool → Float → Float → Bool
-plentyOrBoth us vs ts ws n R need plenty = (le need plenty && reaches us vs ts ws n R plenty) || bothReach us vs ts ws n R need
 
 -- the same of an answer; a refusal is no flow
 abbrev pub atLeast : Float → Answer → Bool

@@ -4,21 +4,20 @@ use crate::give::give_rows;
 use crate::settle::Verdict;
 use crate::settle::search_on;
 use flow_core::rows::Answer;
-use flow_core::test::flow_between;
 use flow_links::fits::rows_fit;
 ghost use mathlib.Core.Path.{_≡_};
-ghost use mathlib.Core.Bool.{true, _&&_};
+ghost use mathlib.Core.Bool.{true, false};
 ghost use Prim.Native.Nat.{ℕ, _≤_, _<_, _*_};
 ghost use lib.ListN.{length, getD};
-ghost use lib.Ieee.{nan, le};
+ghost use lib.Ieee.{nan};
 ghost use Rattle.numbers.specs.Real.{nought};
 ghost use Rattle.epsdelta_theory.specs.Relation.{relationOf};
 ghost use Rattle.flow_links.specs.Fits.{fits};
 ghost use Rattle.flow_routes.proofs.Reaching.{Told};
-ghost use Rattle.flow_direct.specs.Reaches.{atLeast, reaches, plentyOrBoth};
+ghost use Rattle.flow_direct.specs.Reaches.{atLeast, reaches, bothReach};
 
 // Whether an answer is a flow that is enough.
-fn enough(answer: Answer, need: f64) -> bool
+pub fn enough(answer: Answer, need: f64) -> bool
     ensures { λ r. ⌜ r ≡ atLeast need answer ⌝ }
 {
     match answer {
@@ -206,8 +205,9 @@ fn reach(
     )
 }
 
-// Whether the flow between two rows that fit is at least what is needed.
-fn flow_reaches(
+// Whether the flow between two rows of jumps against a relation is at least what is needed, where that is known without a network: bit u * states + v says whether v is related with u.
+// It is not where a row has over 31 targets, or not one rate from 0 to 2^40 for each, or where the relation is over more than 2,000 states.
+pub fn verdict(
     left_targets: &[u32],
     left_rates: &[f64],
     right_targets: &[u32],
@@ -215,9 +215,75 @@ fn flow_reaches(
     states: usize,
     relation: &[u8],
     need: f64,
+) -> Verdict
+    ensures { λ r. ⌜ (r .known ≡ true → r .passes ≡ reaches (now («left_targets» .entry)) (now («left_rates» .entry)) (now («right_targets» .entry)) (now («right_rates» .entry)) states (relationOf (now (relation .entry))) need) ⌝ }
+{
+    if !rows_fit(left_targets, left_rates, right_targets, right_rates, states) {
+        return Verdict {
+            known: true,
+            passes: false,
+        };
+    }
+    reach(
+        left_targets,
+        left_rates,
+        right_targets,
+        right_rates,
+        states,
+        relation,
+        need,
+    )
+}
+
+// True only if plenty is no less than what is needed, and the flow between two rows that fit is known to be at least that.
+fn reaches_plenty(
+    left_targets: &[u32],
+    left_rates: &[f64],
+    right_targets: &[u32],
+    right_rates: &[f64],
+    states: usize,
+    relation: &[u8],
+    need: f64,
+    plenty: f64,
 ) -> bool
     requires { ⌜ fits (now «left_targets») (now «left_rates») (now «right_targets») (now «right_rates») states ≡ true ⌝ }
-    ensures { λ r. ⌜ r ≡ reaches (now («left_targets» .entry)) (now («left_rates» .entry)) (now («right_targets» .entry)) (now («right_rates» .entry)) states (relationOf (now (relation .entry))) need ⌝ }
+    ensures { λ r. ⌜ (r ≡ true → reaches (now («left_targets» .entry)) (now («left_rates» .entry)) (now («right_targets» .entry)) (now («right_rates» .entry)) states (relationOf (now (relation .entry))) plenty ≡ true) ⌝ }
+{
+    if need <= plenty {
+        let v = reach(
+            left_targets,
+            left_rates,
+            right_targets,
+            right_rates,
+            states,
+            relation,
+            plenty,
+        );
+        return v.known && v.passes;
+    }
+    false
+}
+
+// What is known without a network of the flow tests between two rows, from the one to the other and back: whether both pass. With `back` the first does, and with `plenty` its flow is at least what is called so.
+pub struct Ways {
+    pub known: bool,
+    pub passes: bool,
+    pub back: bool,
+    pub plenty: bool,
+}
+
+// The same both ways of rows that fit. The flow back is looked at only where the other is known to be enough.
+fn each_way(
+    left_targets: &[u32],
+    left_rates: &[f64],
+    right_targets: &[u32],
+    right_rates: &[f64],
+    states: usize,
+    relation: &[u8],
+    need: f64,
+) -> Ways
+    requires { ⌜ fits (now «left_targets») (now «left_rates») (now «right_targets») (now «right_rates») states ≡ true ⌝ }
+    ensures { λ r. ⌜ (r .known ≡ true → r .passes ≡ bothReach (now («left_targets» .entry)) (now («left_rates» .entry)) (now («right_targets» .entry)) (now («right_rates» .entry)) states (relationOf (now (relation .entry))) need) × (r .back ≡ true → reaches (now («left_targets» .entry)) (now («left_rates» .entry)) (now («right_targets» .entry)) (now («right_rates» .entry)) states (relationOf (now (relation .entry))) need ≡ true) × (r .plenty ≡ false) ⌝ }
 {
     let v = reach(
         left_targets,
@@ -228,53 +294,41 @@ fn flow_reaches(
         relation,
         need,
     );
-    if v.known {
-        return v.passes;
+    if !v.known {
+        return Ways {
+            known: false,
+            passes: false,
+            back: false,
+            plenty: false,
+        };
     }
-    enough(
-        flow_between(
-            left_targets,
-            left_rates,
-            right_targets,
-            right_rates,
-            states,
-            relation,
-        ),
+    if !v.passes {
+        return Ways {
+            known: true,
+            passes: false,
+            back: false,
+            plenty: false,
+        };
+    }
+    let w = reach(
+        right_targets,
+        right_rates,
+        left_targets,
+        left_rates,
+        states,
+        relation,
         need,
-    )
-}
-
-// Whether plenty is no less than what is needed, and the flow between two rows that fit is at least that.
-fn plenty_reaches(
-    left_targets: &[u32],
-    left_rates: &[f64],
-    right_targets: &[u32],
-    right_rates: &[f64],
-    states: usize,
-    relation: &[u8],
-    need: f64,
-    plenty: f64,
-) -> bool
-    requires { ⌜ fits (now «left_targets») (now «left_rates») (now «right_targets») (now «right_rates») states ≡ true ⌝ }
-    ensures { λ r. ⌜ r ≡ (le need plenty && reaches (now («left_targets» .entry)) (now («left_rates» .entry)) (now («right_targets» .entry)) (now («right_rates» .entry)) states (relationOf (now (relation .entry))) plenty) ⌝ }
-{
-    if need <= plenty {
-        return flow_reaches(
-            left_targets,
-            left_rates,
-            right_targets,
-            right_rates,
-            states,
-            relation,
-            plenty,
-        );
+    );
+    Ways {
+        known: w.known,
+        passes: w.passes,
+        back: true,
+        plenty: false,
     }
-    false
 }
 
-// Whether the flows between two rows of jumps against a relation, from the one to the other and back, are at least what is needed: bit u * states + v says whether v is related with u. Where the one to the other is plenty, the one back is not asked for.
-// They are not where a row has over 31 targets, or not one rate from 0 to 2^40 for each, or where the relation is over more than 2,000 states. The one back is asked for only where the other is enough.
-pub fn flows_reach(
+// The same both ways, with one check of the rows, unless the flow from the one to the other is known to be plenty.
+pub fn both_ways(
     left_targets: &[u32],
     left_rates: &[f64],
     right_targets: &[u32],
@@ -283,13 +337,19 @@ pub fn flows_reach(
     relation: &[u8],
     need: f64,
     plenty: f64,
-) -> bool
-    ensures { λ r. ⌜ r ≡ plentyOrBoth (now («left_targets» .entry)) (now («left_rates» .entry)) (now («right_targets» .entry)) (now («right_rates» .entry)) states (relationOf (now (relation .entry))) need plenty ⌝ }
+) -> Ways
+    ensures { λ r. ⌜ (r .known ≡ true → r .passes ≡ bothReach (now («left_targets» .entry)) (now («left_rates» .entry)) (now («right_targets» .entry)) (now («right_rates» .entry)) states (relationOf (now (relation .entry))) need) × (r .back ≡ true → reaches (now («left_targets» .entry)) (now («left_rates» .entry)) (now («right_targets» .entry)) (now («right_rates» .entry)) states (relationOf (now (relation .entry))) need ≡ true)
+        × (r .plenty ≡ true → reaches (now («left_targets» .entry)) (now («left_rates» .entry)) (now («right_targets» .entry)) (now («right_rates» .entry)) states (relationOf (now (relation .entry))) plenty ≡ true) ⌝ }
 {
     if !rows_fit(left_targets, left_rates, right_targets, right_rates, states) {
-        return false;
+        return Ways {
+            known: true,
+            passes: false,
+            back: false,
+            plenty: false,
+        };
     }
-    if plenty_reaches(
+    if reaches_plenty(
         left_targets,
         left_rates,
         right_targets,
@@ -299,24 +359,18 @@ pub fn flows_reach(
         need,
         plenty,
     ) {
-        return true;
+        return Ways {
+            known: false,
+            passes: false,
+            back: false,
+            plenty: true,
+        };
     }
-    if !flow_reaches(
+    each_way(
         left_targets,
         left_rates,
         right_targets,
         right_rates,
-        states,
-        relation,
-        need,
-    ) {
-        return false;
-    }
-    flow_reaches(
-        right_targets,
-        right_rates,
-        left_targets,
-        left_rates,
         states,
         relation,
         need,

@@ -8,3 +8,4 @@ pub mod Starts
 pub mod Networks
 pub mod Duality
 pub mod Plenty
+pub mod Places

@@ -17,7 +17,6 @@ use Rattle.epsdelta_theory.specs.Claim.{Symmetric}
 use Rattle.epsdelta_theory.proofs.Pairs.{packed-holds, packed-cleared, clear-there, clear-back, clear-other, pair-cases}
 use Rattle.epsdelta_theory.proofs.RowReads.{jumps-length}
 use Rattle.epsdelta_theory.proofs.TasksIn.{rowIn, RowsFit, testIn}
-use Rattle.epsdelta_theory.proofs.Unchanged.{Noted, noted-row, noted-again}
 use Rattle.flow_duality.specs.Spare.{rowMost, isShare, spare}
 use Rattle.flow_duality.proofs.Networks.{Share, Shares, share-of}
 use Rattle.flow_duality.proofs.Duality.{Mutual, passes-both}
@@ -133,34 +132,7 @@ clear-symmetric n R s t hs ht E u v hu hv = pick (pair-cases u v s t) (pair-case
     pick (inr f) (inl (p, q)) = rw (p, q) (clear-back n R s t ∙ sym (clear-there n R s t))
     pick (inr f) (inr g) = clear-other n R s t u v hs ht hv f g ∙ E u v hu hv ∙ sym (clear-other n R s t v u hs ht hu (λ p q. g q p) (λ p q. f q p))
 
--- ---- what is kept from turn to turn
-
--- what is noted, a symmetric relation, and how much is plenty
-pub record Kept (n : ℕ) (E : List Float) (S T : List ℕ) (P : List Float) (need plenty : Float) (store C : List ℕ) (s t : ℕ) : Type 0 where
-  pub noted : Noted n E S T P need store C s t
-  pub even : Even n store
-  pub enough : Plenty n S T P need plenty
-
-module _ {n : ℕ} {E : List Float} {S T : List ℕ} {P : List Float} {need plenty : Float} (F : RowsFit n S T P) {store C : List ℕ} {s t : ℕ} (K : Kept n E S T P need plenty store C s t) where
-  -- without a strike
-  pub kept-on : {t' : ℕ} → Noted n E S T P need store C s t' → Kept n E S T P need plenty store C s t'
-  kept-on N = record { noted = N; even = K .even; enough = K .enough }
-
-  pub kept-strike : {store' C' : List ℕ} {t' : ℕ} → s < n → t < n → store' ≡ cleared (cleared store (s * n + t)) (t * n + s) → Noted n E S T P need store' C' s t' → Kept n E S T P need plenty store' C' s t'
-  kept-strike {store'} hs ht e N =
-      let R = K .noted .relation in
-      record {
-        noted = N;
-        even = symmetric-even n store' (clear n R s t)
-            (e ∙ ap (λ (l : List ℕ). cleared (cleared l (s * n + t)) (t * n + s)) (K .noted .bytes) ∙ packed-cleared n R s t)
-            (clear-symmetric n R s t hs ht (even-symmetric n store R (K .noted .bytes) (K .even)));
-        enough = K .enough;
-      }
-
-  -- from the end of a row to the next
-  pub kept-row : n ≤ t → Kept n E S T P need plenty store C (s + 1) (s + 1 + 1)
-  kept-row e = record { noted = noted-row F (K .noted) e; even = K .even; enough = K .enough }
-
-  -- from the end of a sweep to the next
-  pub kept-again : n ≤ s → (C' : List ℕ) → length C' ≡ length C → ((u : ℕ) → u < n → getD C' (2 * u + 1) 0 ≡ getD C (2 * u) 0) → Kept n E S T P need plenty store C' 0 1
-  kept-again e C' z f = record { noted = noted-again F (K .noted) e C' z f; even = K .even; enough = K .enough }
+-- both orders of a pair are cleared
+pub even-strike : {n : ℕ} {store store' : List ℕ} (R : List Bool) → store ≡ packed R → (s t : ℕ) → s < n → t < n → store' ≡ cleared (cleared store (s * n + t)) (t * n + s) → Even n store → Even n store'
+even-strike {n} {store} {store'} R p s t hs ht e E =
+    symmetric-even n store' (clear n R s t) (e ∙ ap (λ (l : List ℕ). cleared (cleared l (s * n + t)) (t * n + s)) p ∙ packed-cleared n R s t) (clear-symmetric n R s t hs ht (even-symmetric n store R p E))

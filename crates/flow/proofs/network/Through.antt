@@ -46,7 +46,8 @@ use Rattle.flow_core.specs.declared.rows.Answer.{Answer}
 use Rattle.flow_core.proofs.rows.Answer as S
 use Rattle.flow_core.proofs.rows.Answer.Laws as S′
 use Rattle.flow.specs.declared.network.FlowNetwork.{FlowNetwork}
-use Rattle.flow.specs.Network.{ends, flowThrough}
+use Rattle.flow.specs.Network.{ends, flowThrough, flown, flowIn}
+use Rattle.flow.proofs.Running.{through-is}
 use Rattle.flow.proofs.network.FlowNetwork as N
 use Rattle.flow.proofs.network.max_flow_in as inner
 use Rattle.flow.proofs.network.max_flow_in.Symbol.{name as #max-flow-in}
@@ -218,11 +219,11 @@ module _ {M : Type 1} (𝓤 : URA M) (H : Heap 𝓤) (A : Atoms 𝓤) (W : Given
         pick ! (λ r.
         split ! $
         move ! (1 ∷ []) $
-        use1 W (some (λ (zs : Lasts). ‵ (lasts inner.ended (lts-of α₀ α₁ α₂ α₃) (args-of δ₀ δ₁ δ₂ δ₃) zs) ⊛ raw (fact 𝓤 (ends r (zs .0) ≡ flowThrough h s t)))) (id⊢ 𝓤 _) $
+        use1 W (some (λ (zs : Lasts). ‵ (lasts inner.ended (lts-of α₀ α₁ α₂ α₃) (args-of δ₀ δ₁ δ₂ δ₃) zs) ⊛ raw (fact 𝓤 (flown r (zs .0) (zs .1 .0) (zs .1 .1 .0) (zs .1 .1 .1 .0) ≡ flowIn h hs cs ps s t)))) (id⊢ 𝓤 _) $
         pick ! (λ zs.
         split ! $
         move ! (1 ∷ []) $
-        heard ! (ends r (zs .0) ≡ flowThrough h s t) (λ told.
+        heard ! (flown r (zs .0) (zs .1 .0) (zs .1 .1 .0) (zs .1 .1 .1 .0) ≡ flowIn h hs cs ps s t) (λ told.
         fsplit ! $
         move ! (1 ∷ []) $
         fsplit ! $
@@ -330,4 +331,4 @@ module _ {M : Type 1} (𝓤 : URA M) (H : Heap 𝓤) (A : Atoms 𝓤) (W : Given
         free1 ! $
         free0 ! $
         keep ! (0 ∷ 1 ∷ 8 ∷ []) $
-        by ! (exits r v is (zs .0) told)))))))))))))))))
+        by ! (exits r v is (zs .0) (through-is h s t hs cs ps told))))))))))))))))))

@@ -332,7 +332,7 @@ module _ {M : Type 1} (𝓤 : URA M) (H : Heap 𝓤) (A : Atoms 𝓤) (W : Given
     exits r v is z same told =
         qed W (Leaving z) ∵
         suffices ! _ (ends-at 𝓤 H A f.ended stayed (f.clauses 𝓤 H A at-mem run) W (((κ, (κ₁, (κ₂, (κ₃, tt)))), (q, (q₁, (q₂, (q₃, tt)))), tt, a, at), tt) v r (after z, (heads₁, (z, (costs₁, (tt, (tt, tt)))))) (tt, (heads-length, (same ∙ caps-length₁, (costs-length, (tt, (tt, tt))))))) $
-        says ! (flow-is h s t hs cs ps (asked .0) len r z told) $
+        says ! (flow-is h s t hs cs ps (asked .0) len r z told (omega (arith, same, caps-length₁, asked .2))) $
         nothing ! $
         move ! (12 ∷ 0 ∷ []) $
         join ! $

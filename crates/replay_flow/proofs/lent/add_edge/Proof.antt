@@ -50,7 +50,7 @@ use Rattle.flow.proofs.network.Made as R
 use Rattle.flow.proofs.network.Made.Laws as R′
 use Rattle.flow.proofs.network.FlowNetwork as N
 use Rattle.flow.proofs.network.FlowNetwork.Laws as N′
-use Rattle.replay_flow.proofs.Lending.{value, lies-in, lies-out}
+use Rattle.flow.proofs.Local.{value, lies-in, lies-out}
 use Rattle.flow.proofs.network.add_edge as step
 use Rattle.flow.proofs.network.add_edge.Symbol as step-def
 use Rattle.flow.proofs.network.add_edge.Symbol.{name as #flow·add-edge}

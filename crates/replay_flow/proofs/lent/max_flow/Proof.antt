@@ -51,7 +51,7 @@ use Rattle.replay_flow.proofs.lent.Ran as R
 use Rattle.replay_flow.proofs.lent.Ran.Laws as R′
 use Rattle.flow.proofs.network.FlowNetwork as N
 use Rattle.flow.proofs.network.FlowNetwork.Laws as N′
-use Rattle.replay_flow.proofs.Lending.{value, lies-in, lies-out}
+use Rattle.flow.proofs.Local.{value, lies-in, lies-out}
 use Rattle.flow.proofs.network.max_flow as step
 use Rattle.flow.proofs.network.max_flow.Symbol as step-def
 use Rattle.flow.proofs.network.max_flow.Symbol.{name as #flow·max-flow}
