@@ -419,7 +419,7 @@ uint32_t tanqesha_distance(size_t left_states, size_t left_entries, uint32_t lef
                            uint32_t *places, size_t places_length, double *masses, size_t masses_length,
                            struct tanqesha_contribution *records, size_t records_length,
                            double *value, double *error_bound, double *discount,
-                           size_t *pairs_explored, size_t *contributions, size_t *rounds);
+                           size_t *pairs, size_t *listed, size_t *rounds);
 
 /* ---- exports_bisim: distances of models */
 
@@ -456,7 +456,7 @@ uint32_t tanqesha_bisim_distance(size_t left_states, size_t left_edges, size_t l
                                  uint32_t *places, size_t places_length, double *masses, size_t masses_length,
                                  struct tanqesha_contribution *records, size_t records_length,
                                  double *value, double *error_bound, double *discount,
-                                 size_t *pairs_explored, size_t *contributions, size_t *rounds);
+                                 size_t *pairs, size_t *listed, size_t *rounds);
 
 #ifdef __cplusplus
 }

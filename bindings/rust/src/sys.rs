@@ -343,7 +343,7 @@ entries! {
         lefts: [mut u32], rights: [mut u32], index: [mut u64], places: [mut u32], masses: [mut f64],
         records: [mut PairContribution],
         value: &mut f64, error_bound: &mut f64, discount: &mut f64,
-        pairs_explored: &mut usize, contributions: &mut usize, rounds: &mut usize
+        pairs: &mut usize, listed: &mut usize, rounds: &mut usize
     ) -> u32;
 }
 
@@ -362,6 +362,6 @@ entries! {
         lefts: [mut u32], rights: [mut u32], index: [mut u64], places: [mut u32], masses: [mut f64],
         records: [mut PairContribution],
         value: &mut f64, error_bound: &mut f64, discount: &mut f64,
-        pairs_explored: &mut usize, contributions: &mut usize, rounds: &mut usize
+        pairs: &mut usize, listed: &mut usize, rounds: &mut usize
     ) -> u32;
 }

@@ -43,9 +43,9 @@ options rounds = record { tolerance = fin false 4722366482869645 (negsuc 71); «
 abbrev nothing : PairContribution
 nothing = record { left = record { 0 = 0 }; right = record { 0 = 0 }; gap = nought; occupancy = nought; contribution = nought }
 
--- two lists of pairs, room for one share, and 64 records
+-- three lists of pairs, room for one share, and 64 records
 abbrev memory : Lent
-memory = lent (replicate 4096 0 ∷ replicate 4096 0 ∷ []) (0 ∷ []) (nought ∷ []) (replicate 64 nothing)
+memory = lent (replicate 4096 0 ∷ replicate 4096 0 ∷ replicate 4096 0 ∷ []) (0 ∷ []) (nought ∷ []) (replicate 64 nothing)
 
 abbrev ended : Float → ℕ → Outcome
 ended γ rounds = distance shape (single nought) shape (single one) γ (options rounds) memory

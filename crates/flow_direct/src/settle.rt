@@ -28,8 +28,6 @@ pub struct Verdict {
 
 const HIGHEST: usize = 8; // the highest label of the source that is tried
 
-const TRIES: usize = 4000; // tries after which the search gives up
-
 // What a step leads to: no flow more after a cut; after a push the flow may be enough; else the search goes on.
 fn after_step(step: Step, s: usize, total: f64, need: f64) -> Attempt
     ensures { λ r. ⌜ Judged need s total (step .pushed) (step .cut) (step .amount) (r .s) (r .total) (r .on) (r .known) (r .passes) ⌝ }
@@ -116,6 +114,19 @@ fn try_once(
     after_step(step, s, total, need)
 }
 
+// After how many tries the search gives up: between rows of over 14 targets a run on a network is soon the quicker way.
+fn tries_of(m: usize, n: usize) -> usize
+    ensures { λ r. ⌜ r ≤ 100 ⌝ }
+{
+    if m > 14 {
+        return 4;
+    }
+    if n > 14 {
+        return 4;
+    }
+    100
+}
+
 // Tries until one ends the search.
 fn settle(
     left_targets: &[u32],
@@ -135,8 +146,9 @@ fn settle(
 {
     let mut s: usize = 2;
     let mut total = before;
+    let most = tries_of(left_targets.len(), right_targets.len());
     let mut tries: usize = 0;
-    while tries < TRIES {
+    while tries < most {
         let a = try_once(
             left_targets,
             right_targets,

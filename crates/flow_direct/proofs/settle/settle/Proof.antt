@@ -9,16 +9,19 @@ use Rattle.flow_routes.proofs.Coding.{room-sized}
 use Rattle.flow_routes.proofs.Pathing.{Settling, settling-begins, settled-unknown}
 
 abbrev Inv-loop : tie.InvT-loop
-Inv-loop left-targets right-targets states relation lefts₀ rights₀ flows₀ left-labels₀ right-labels₀ before need s₀ total₀ tries₀ lefts rights flows left-labels right-labels s total tries = Settling left-targets right-targets states relation need lefts₀ rights₀ flows₀ left-labels₀ right-labels₀ before lefts rights flows left-labels right-labels s total
+Inv-loop left-targets right-targets states relation lefts₀ rights₀ flows₀ left-labels₀ right-labels₀ before need s₀ total₀ most tries₀ lefts rights flows left-labels right-labels s total tries = Settling left-targets right-targets states relation need lefts₀ rights₀ flows₀ left-labels₀ right-labels₀ before lefts rights flows left-labels right-labels s total
 
 abbrev μ-loop : tie.MeasureT-loop
-μ-loop left-targets right-targets states relation lefts₀ rights₀ flows₀ left-labels₀ right-labels₀ before need s₀ total₀ tries₀ lefts rights flows left-labels right-labels s total tries = 4000 - tries
+μ-loop left-targets right-targets states relation lefts₀ rights₀ flows₀ left-labels₀ right-labels₀ before need s₀ total₀ most tries₀ lefts rights flows left-labels right-labels s total tries = most - tries
+
+tries-of-requires : tie.Need-tries-of-requires Inv-loop μ-loop
+tries-of-requires c κs = search needs
 
 loop-holds : tie.Need-loop-holds Inv-loop μ-loop
 loop-holds c = settling-begins _ _ _ _ _ _ _ _ _ _ _
 
 try-once-requires : tie.Need-try-once-requires Inv-loop μ-loop
-try-once-requires c κs = let I = c .before .before .before .before .before .before .loop .inv in (room-sized (c .before .before .before .before .before .before .before .before .before .before .before .before .before .before .before .pre .0) (I .sized), (let a = I .size-l in let b = c .before .before .before .before .before .before .before .before .before .before .before .before .before .before .before .pre .1 in omega arith), (let a = I .size-r in let b = c .before .before .before .before .before .before .before .before .before .before .before .before .before .before .before .pre .2 in omega arith), I .some, I .few)
+try-once-requires c κs = let I = c .before .before .before .before .before .before .loop .inv in (room-sized (c .before .before .before .before .before .before .before .before .before .before .before .before .before .before .before .before .pre .0) (I .sized), (let a = I .size-l in let b = c .before .before .before .before .before .before .before .before .before .before .before .before .before .before .before .before .pre .1 in omega arith), (let a = I .size-r in let b = c .before .before .before .before .before .before .before .before .before .before .before .before .before .before .before .before .pre .2 in omega arith), I .some, I .few)
 
 same-length : tie.Need-same-length Inv-loop μ-loop
 same-length c = search needs
@@ -71,6 +74,7 @@ settle-spec =
     (tie.spec
     Inv-loop
     μ-loop
+    tries-of-requires
     loop-holds
     try-once-requires
     same-length
