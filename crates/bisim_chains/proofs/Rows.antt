@@ -19,7 +19,7 @@ use Rattle.bisim_core.proofs.Accepted.{Accepted}
 use Rattle.epsdelta_theory.specs.Jumps.{Jump, jumpsOf, targets, rates, addRate, addEdges}
 use Rattle.epsdelta_theory.proofs.Targets.{From, edges-few}
 use Rattle.epsdelta_theory.proofs.Rows.{EdgesOf, model-length, model-at, row-edges}
-use Rattle.parts.specs.Laid.{Laid}
+use Rattle.epsdelta_theory.proofs.RowsIn.{LaidJumps}
 use Rattle.parts.proofs.Laid.{laid-jumps, laid-grown, targets-length, rates-length}
 use Rattle.chain_theory.specs.Chain.{exitRate, stay, staying, dividedEdge, chainRow, chainRows}
 use Rattle.chain_theory.proofs.Chains.{rows-length, rows-at}
@@ -34,8 +34,8 @@ rate-grows t w js =
     let T = over (targets js) [] in
     let P = over (rates js) [] in
     let ks = addRate t w (jumpsOf (take m T) (take m P)) in
-    let L : Laid js m [] [] T P = record { count = refl; in-targets = refl; in-rates = refl } in
-    let N : Laid ks (length ks) T P (over (targets ks) T) (over (rates ks) P) = record { count = refl; in-targets = refl; in-rates = refl } in
+    let L : LaidJumps js m [] [] T P = record { count = refl; in-targets = refl; in-rates = refl } in
+    let N : LaidJumps ks (length ks) T P (over (targets ks) T) (over (rates ks) P) = record { count = refl; in-targets = refl; in-rates = refl } in
     let a = over-long (targets js) [] in
     let b = over-long (rates js) [] in
     let c = targets-length js in

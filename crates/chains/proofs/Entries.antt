@@ -15,7 +15,7 @@ use Rattle.bisim_core.specs.Data.{Edge, Columns, columns}
 use Rattle.bisim_core.specs.Model.{edgeAt}
 use Rattle.epsdelta_theory.specs.Jumps.{Jump, jumpsOf, addRate, addEdge, addEdges}
 use Rattle.chain_theory.specs.Chain.{exitRate, dividedEdge, stay, staying, chainRow}
-use Rattle.parts.specs.Laid.{Laid}
+use Rattle.epsdelta_theory.proofs.RowsIn.{LaidJumps}
 use Rattle.parts.proofs.Laid.{laid-none, laid-grown, laid-more}
 
 -- ---- the edges still to come, from i up to b
@@ -57,7 +57,7 @@ pub record Adding (ET : List ℕ) (EW : List Float) (a b s : ℕ) (q : Float) (T
   pub t-size : length T ≡ length T₀
   pub p-size : length P ≡ length P₀
   pub made : List Jump
-  pub lies : Laid made m T₀ P₀ T P
+  pub lies : LaidJumps made m T₀ P₀ T P
   pub same : (D O L : List ℕ) → Rest (columns D O L ET EW) q s i b made ≡ Rest (columns D O L ET EW) q s a b []
 
 pub adding : (ET : List ℕ) (EW : List Float) (a b s : ℕ) (q : Float) (T₀ : List ℕ) (P₀ : List Float) → a ≤ b → Adding ET EW a b s q T₀ P₀ T₀ P₀ 0 a
@@ -81,7 +81,7 @@ module _ {ET : List ℕ} {EW : List Float} {a b s : ℕ} {q : Float} {T₀ : Lis
   room x y = let f = I .few in let g = I .from in let u = I .t-size in let v = I .p-size in (omega arith, omega arith)
 
   pub turn-add : b - a ≤ length T₀ → b - a ≤ length P₀ → (getD ET i 0 ≡ s → ⊥) → (T₁ : List ℕ) (P₁ : List Float) (m₁ : ℕ) → length T₁ ≡ length T → length P₁ ≡ length P
-      → (m < length T → m < length P → Laid (addRate (getD ET i 0) (div binary64 (getD EW i nan) q) (jumpsOf (take m T) (take m P))) m₁ T P T₁ P₁)
+      → (m < length T → m < length P → LaidJumps (addRate (getD ET i 0) (div binary64 (getD EW i nan) q) (jumpsOf (take m T) (take m P))) m₁ T P T₁ P₁)
       → (T' : List ℕ) (P' : List Float) (m' : ℕ) → T' ≡ T₁ → P' ≡ P₁ → m' ≡ m₁ → Adding ET EW a b s q T₀ P₀ T' P' m' (i + 1)
   turn-add j k e T₁ P₁ m₁ u p n T' P' m' x y z =
       let (l, o) = room j k in
@@ -102,9 +102,9 @@ module _ {ET : List ℕ} {EW : List Float} {a b s : ℕ} {q : Float} {T₀ : Lis
 
 -- all are made
 pub added : {ET : List ℕ} {EW : List Float} {a b s : ℕ} {q : Float} {T₀ : List ℕ} {P₀ : List Float} {T : List ℕ} {P : List Float} {m i : ℕ} → Adding ET EW a b s q T₀ P₀ T P m i → i ≡ b
-    → (D O L : List ℕ) → Laid (Rest (columns D O L ET EW) q s a b []) m T₀ P₀ T P
+    → (D O L : List ℕ) → LaidJumps (Rest (columns D O L ET EW) q s a b []) m T₀ P₀ T P
 added {ET} {EW} {a} {b} {s} {q} {T₀} {P₀} {T} {P} {m} {i} I e D O L =
-    subst (λ (js : List Jump). Laid js m T₀ P₀ T P) (rest-end (columns D O L ET EW) q s i b (I .made) e ∙ I .same D O L) (I .lies)
+    subst (λ (js : List Jump). LaidJumps js m T₀ P₀ T P) (rest-end (columns D O L ET EW) q s i b (I .made) e ∙ I .same D O L) (I .lies)
 
 -- ---- what is left to stay
 

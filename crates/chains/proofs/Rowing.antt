@@ -14,7 +14,7 @@ use Rattle.bisim_core.specs.Model.{edgeAt, row}
 use Rattle.epsdelta_theory.specs.Jumps.{Jump, targets, rates}
 use Rattle.epsdelta_theory.proofs.RowsIn.{Readable}
 use Rattle.epsdelta_theory.proofs.RowReads.{starts-up}
-use Rattle.parts.specs.Laid.{Laid}
+use Rattle.epsdelta_theory.proofs.RowsIn.{LaidJumps}
 use Rattle.parts.proofs.Lent.{part, back, part-length, back-length}
 use Rattle.chain_theory.specs.Chain.{chainRow}
 use Rattle.chain_theory.specs.Columns.{startsFrom, joined}
@@ -79,7 +79,7 @@ module _ {n : ℕ} {O ET : List ℕ} {EW : List Float} {q : Float} {S₀ T₀ : 
   within a b p r m l = let o = R .rise s h in let u = ends in let k = I .room in let c = R .edges-few in let d = R .few in omega arith
 
   pub turn : (a b : ℕ) → a ≡ getD O s 0 → b ≡ getD O (s + 1) 0 → (m : ℕ) (T' : List ℕ) (P' : List Float)
-      → (m ≤ b - a + 1) × ((D Q L : List ℕ) → Laid (chainRow q s (map (edgeAt (columns D Q L ET EW) s) (span a (b - a)))) m (part end T) (part end P) T' P')
+      → (m ≤ b - a + 1) × ((D Q L : List ℕ) → LaidJumps (chainRow q s (map (edgeAt (columns D Q L ET EW) s) (span a (b - a)))) m (part end T) (part end P) T' P')
       → length T' ≡ length (part end T) → length P' ≡ length (part end P)
       → Rowing n O ET EW q S₀ T₀ P₀ (set S (s + 1) (end + m)) (back end T T') (back end P P') (end + m) (s + 1)
   unfolding row

@@ -13,10 +13,9 @@ ghost use Rattle.bisim_core.specs.Model;
 ghost use Rattle.bisim_core.specs.Model.{edgeAt};
 ghost use Rattle.epsdelta_theory.specs.Jumps.{Jump, addEdges, rates};
 ghost use Rattle.epsdelta_theory.specs.Jumps;
-ghost use Rattle.epsdelta_theory.proofs.RowsIn.{Readable};
+ghost use Rattle.epsdelta_theory.proofs.RowsIn.{Readable, LaidJumps};
 ghost use Rattle.chain_theory.specs.Chain.{dividedEdge, chainRow};
 ghost use Rattle.chain_theory.specs.Columns.{startsFrom, joined};
-ghost use Rattle.parts.specs.Laid.{Laid};
 
 // The entries of state s but its own, from its edges from..to, each weight divided by the rate. How many they are.
 fn add_edges(
@@ -30,7 +29,7 @@ fn add_edges(
     probs: &mut [f64],
 ) -> usize
     requires { ⌜ (from ≤ to) × (to ≤ length (now «edge_targets»)) × (to ≤ length (now «edge_weights»)) × (to - from ≤ length (now targets)) × (to - from ≤ length (now probs)) ⌝ }
-    ensures { λ r. ⌜ (r ≤ to - from) × (((D O L : List ℕ) → Laid (addEdges 0 (map (dividedEdge rate) (map (edgeAt (columns D O L (now («edge_targets» .entry)) (now («edge_weights» .entry))) s) (span from (to - from)))) []) r (now (targets .entry)) (now (probs .entry)) (now (targets .exit)) (now (probs .exit)))) ⌝ }
+    ensures { λ r. ⌜ (r ≤ to - from) × (((D O L : List ℕ) → LaidJumps (addEdges 0 (map (dividedEdge rate) (map (edgeAt (columns D O L (now («edge_targets» .entry)) (now («edge_weights» .entry))) s) (span from (to - from)))) []) r (now (targets .entry)) (now (probs .entry)) (now (targets .exit)) (now (probs .exit)))) ⌝ }
 {
     let mut m = 0;
     let mut i = from;
@@ -56,7 +55,7 @@ fn make_row(
     probs: &mut [f64],
 ) -> usize
     requires { ⌜ (from ≤ to) × (to ≤ length (now «edge_targets»)) × (to ≤ length (now «edge_weights»)) × (to - from < length (now targets)) × (to - from < length (now probs)) × (s < 2000) ⌝ }
-    ensures { λ r. ⌜ (r ≤ to - from + 1) × (((D O L : List ℕ) → Laid (chainRow rate s (map (edgeAt (columns D O L (now («edge_targets» .entry)) (now («edge_weights» .entry))) s) (span from (to - from)))) r (now (targets .entry)) (now (probs .entry)) (now (targets .exit)) (now (probs .exit)))) ⌝ }
+    ensures { λ r. ⌜ (r ≤ to - from + 1) × (((D O L : List ℕ) → LaidJumps (chainRow rate s (map (edgeAt (columns D O L (now («edge_targets» .entry)) (now («edge_weights» .entry))) s) (span from (to - from)))) r (now (targets .entry)) (now (probs .entry)) (now (targets .exit)) (now (probs .exit)))) ⌝ }
 {
     let m = add_edges(
         edge_targets,

@@ -19,19 +19,19 @@ use Rattle.bisim_core.specs.Data.{Columns}
 use Rattle.bisim_core.specs.declared.wlts.Shape.{Shape}
 use Rattle.bisim_core.specs.Model.{large, unfit, weightsOutside, crowded, model}
 use Rattle.bisim_core.proofs.Accepted.{Accepted}
-use Rattle.epsdelta_theory.specs.Jumps.{Jumps, union, jumpsOf, noRow, Laid}
+use Rattle.epsdelta_theory.specs.Jumps.{Jumps, union, jumpsOf, noRow}
 use Rattle.epsdelta_theory.specs.Refusal.{tolerancesOutside, modelsRefusal, laterRefusal, relationRefusal, epsdeltaRefusal}
 use Rattle.epsdelta_theory.specs.Epsdelta.{given, givenRows, epsdelta}
 use Rattle.epsdelta_theory.proofs.Unrefused.{models-passed}
 use Rattle.epsdelta_theory.proofs.FlowTests.{AllInRange}
 use Rattle.epsdelta_theory.proofs.Rows.{RowOf, model-length, union-length, union-rows}
-use Rattle.epsdelta_theory.proofs.RowsIn.{HoldsTo}
+use Rattle.epsdelta_theory.proofs.RowsIn.{HoldsTo, Laid}
 use Rattle.epsdelta_theory.proofs.RowReads.{row-in, row-few}
 use Rattle.epsdelta_theory.proofs.Layings.{laid-holds}
 use Rattle.epsdelta_jumps.specs.Union as joins
 use Rattle.epsdelta_jumps.specs.declared.jumps.Joined.{Joined}
 use Rattle.epsdelta_jumps.specs.declared.jumps.Joined.the-variants.{Rows, Refused, Short}
-use Rattle.epsdelta_sweeps.specs.Rows.{entries, rowsIn, rowStands}
+use Rattle.flow_links.proofs.RowsRead.{entries, rowsIn, rowStands}
 use Rattle.epsdelta_sweeps.proofs.Reading.{held-rows}
 use Rattle.flow_links.specs.Fits.{rowFits}
 use Rattle.epsdelta.specs.Outcome.{Outcome, settled, outcomeUnless, outcome}

@@ -18,7 +18,7 @@ use Rattle.epsdelta_theory.specs.Jumps.{Jumps}
 use Rattle.epsdelta_theory.specs.Relation.{relationBytes}
 use Rattle.epsdelta_theory.specs.Refusal.{short, laterRefusal}
 use Rattle.epsdelta_theory.specs.Epsdelta.{givenRows, epsdelta}
-use Rattle.epsdelta_sweeps.specs.Rows.{rowsIn, rowStands, readable, relationIn, written}
+use Rattle.flow_links.proofs.RowsRead.{rowsIn, rowStands, readable, relationIn, written}
 use Rattle.epsdelta.specs.Outcome.{ends, settled}
 use Rattle.epsdelta.specs.declared.relation.Ended.the-variants.{Related, Refused}
 

@@ -19,7 +19,7 @@ ghost use Rattle.epsdelta_theory.specs.Refusal.{tolerancesOutside, laterRefusal
 ghost use Rattle.epsdelta_theory.specs.Claim.{Sound};
 ghost use Rattle.epsdelta_theory.specs.Epsdelta.{given, givenRows, epsdelta};
 ghost use Rattle.epsdelta_jumps.specs.Union;
-ghost use Rattle.epsdelta_sweeps.specs.Rows.{rowsIn, rowStands};
+ghost use Rattle.flow_links.proofs.RowsRead.{rowsIn, rowStands};
 ghost use Rattle.epsdelta.specs.Outcome.{ends, settled, outcomeUnless, outcome};
 
 // The relation is in the bytes, or the number of the first check that fails.

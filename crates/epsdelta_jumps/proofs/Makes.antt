@@ -10,9 +10,9 @@ use Rattle.numbers.specs.Lists.{span}
 use Rattle.bisim_core.specs.Data.{columns}
 use Rattle.bisim_core.specs.Model as models
 use Rattle.bisim_core.specs.Model.{edgeAt}
-use Rattle.epsdelta_theory.specs.Jumps.{Row, Jumps, noRow, row, allJumps, startsFrom}
+use Rattle.epsdelta_theory.specs.Jumps.{Row, Jumps, noRow, row}
 use Rattle.epsdelta_theory.proofs.RowReads.{starts-up}
-use Rattle.epsdelta_theory.proofs.RowsIn.{Readable, LaidTo, Filled}
+use Rattle.epsdelta_theory.proofs.RowsIn.{Readable, allJumps, startsFrom, LaidTo, Filled}
 use Rattle.epsdelta_theory.proofs.Layings.{laid-next}
 
 -- ---- the loop

@@ -17,10 +17,10 @@ use Rattle.bisim_core.specs.declared.wlts.Shape.{Shape}
 use Rattle.bisim_core.specs.Model.{begins, model, modelRefusal, large, unfit, weightsOutside, crowded}
 use Rattle.bisim_core.specs.Model as models
 use Rattle.bisim_core.proofs.Accepted.{Accepted}
-use Rattle.epsdelta_theory.specs.Jumps.{Jumps, noRow, row, union, Laid}
+use Rattle.epsdelta_theory.specs.Jumps.{Jumps, noRow, row, union}
 use Rattle.epsdelta_theory.specs.Refusal.{modelsRefusal}
 use Rattle.epsdelta_theory.proofs.Rows.{model-length, model-at, union-length, union-left, union-right}
-use Rattle.epsdelta_theory.proofs.RowsIn.{Readable, LaidTo}
+use Rattle.epsdelta_theory.proofs.RowsIn.{Readable, Laid, LaidTo}
 use Rattle.epsdelta_theory.proofs.Unrefused.{models-passed}
 use Rattle.epsdelta_jumps.specs.Union.{settled, joined}
 use Rattle.epsdelta_jumps.specs.declared.jumps.Joined.the-variants.{Rows, Refused, Short}

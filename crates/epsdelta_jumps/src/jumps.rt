@@ -11,6 +11,7 @@ ghost use lib.ListN.{length};
 ghost use Rattle.bisim_core.specs.Data.{columns};
 ghost use Rattle.bisim_core.specs.Model.{model};
 ghost use Rattle.epsdelta_theory.specs.Jumps;
+ghost use Rattle.epsdelta_theory.proofs.RowsIn.{Laid};
 ghost use Rattle.epsdelta_jumps.specs.Union;
 
 // The lists hold the rows, or the number of the first check that fails, or that a list lent is short.
@@ -75,7 +76,7 @@ pub fn union(
     probs: &mut [f64],
 ) -> Joined
     ensures { λ r. ⌜ (r ≡ Union.joined left (columns (now («left_values» .entry)) (now («left_offsets» .entry)) (now («left_labels» .entry)) (now («left_targets» .entry)) (now («left_weights» .entry))) right (columns (now («right_values» .entry)) (now («right_offsets» .entry)) (now («right_labels» .entry)) (now («right_targets» .entry)) (now («right_weights» .entry))) (ltb (length (now (exits .entry))) (left .states + right .states) || (leb (length (now (starts .entry))) (left .states + right .states) || (ltb (length (now (targets .entry))) (left .edges + right .edges) || ltb (length (now (probs .entry))) (left .edges + right .edges)))))
-        × (r ≡ Joined.Rows → Jumps.Laid (Jumps.union (model left (columns (now («left_values» .entry)) (now («left_offsets» .entry)) (now («left_labels» .entry)) (now («left_targets» .entry)) (now («left_weights» .entry)))) (model right (columns (now («right_values» .entry)) (now («right_offsets» .entry)) (now («right_labels» .entry)) (now («right_targets» .entry)) (now («right_weights» .entry))))) (now (exits .entry)) (now (starts .entry)) (now (targets .entry)) (now (probs .entry)) (now (exits .exit)) (now (starts .exit)) (now (targets .exit)) (now (probs .exit))) × (r ≢ Joined.Rows → (now (exits .exit) ≡ now (exits .entry)) × (now (starts .exit) ≡ now (starts .entry)) × (now (targets .exit) ≡ now (targets .entry)) × (now (probs .exit) ≡ now (probs .entry))) ⌝ }
+        × (r ≡ Joined.Rows → Laid (Jumps.union (model left (columns (now («left_values» .entry)) (now («left_offsets» .entry)) (now («left_labels» .entry)) (now («left_targets» .entry)) (now («left_weights» .entry)))) (model right (columns (now («right_values» .entry)) (now («right_offsets» .entry)) (now («right_labels» .entry)) (now («right_targets» .entry)) (now («right_weights» .entry))))) (now (exits .entry)) (now (starts .entry)) (now (targets .entry)) (now (probs .entry)) (now (exits .exit)) (now (starts .exit)) (now (targets .exit)) (now (probs .exit))) × (r ≢ Joined.Rows → (now (exits .exit) ≡ now (exits .entry)) × (now (starts .exit) ≡ now (starts .entry)) × (now (targets .exit) ≡ now (targets .entry)) × (now (probs .exit) ≡ now (probs .entry))) ⌝ }
 {
     let of_left = model_refusal(
         left,

@@ -29,7 +29,7 @@ use Rattle.epsdelta_theory.proofs.RowsIn.{HoldsTo}
 use Rattle.epsdelta_theory.proofs.Runs.{run-bytes}
 use Rattle.flow_duality.proofs.Plenty.{Formed, Even, symmetric-even}
 use Rattle.flow_links.specs.Fits.{rateFits, rowFits}
-use Rattle.epsdelta_sweeps.specs.Rows.{entries, rowAt, rowsIn, rowStands, readable}
+use Rattle.flow_links.proofs.RowsRead.{entries, rowAt, rowsIn, rowStands, readable}
 use Rattle.flow_duality.proofs.Places.{Bytes}
 
 -- ---- marks

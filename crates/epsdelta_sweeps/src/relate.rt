@@ -13,7 +13,7 @@ ghost use Rattle.numbers.specs.Bits.{packed};
 ghost use Rattle.epsdelta_theory.specs.Relation.{relationBytes};
 ghost use Rattle.epsdelta_theory.specs.FlowTest;
 ghost use Rattle.epsdelta_theory.proofs.TasksIn.{RowsFit};
-ghost use Rattle.epsdelta_sweeps.specs.Rows.{readable, relationIn, written};
+ghost use Rattle.flow_links.proofs.RowsRead.{readable, relationIn, written};
 
 // What a flow has to come to: (1 - ε) - 1e-9.
 fn needed(epsilon: f64) -> f64

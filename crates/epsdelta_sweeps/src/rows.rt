@@ -7,7 +7,7 @@ ghost use lib.Dec.{leb, ltb};
 ghost use lib.ListN.{length};
 ghost use Rattle.numbers.specs.Lists.{every};
 ghost use Rattle.epsdelta_theory.specs.Relation.{relationBytes};
-ghost use Rattle.epsdelta_sweeps.specs.Rows.{rowStands};
+ghost use Rattle.flow_links.proofs.RowsRead.{rowStands};
 
 // Whether the jumps of state s are there, and a flow test takes its row.
 fn stands(starts: &[u32], targets: &[u32], probs: &[f64], s: usize) -> bool

@@ -8,8 +8,8 @@ use lib.Ieee.{Float, nan}
 use lib.ListN.{length, getD, take, drop, set, length-append, length-map, take-append-drop, List·getD-append}
 use lib.Seq.{slice, take-suc, take-at, take-take, length-take-le, length-slice, take-append-add, drop-append-add, drop-drop}
 use Rattle.numbers.specs.Lists.{over}
-use Rattle.epsdelta_theory.specs.Jumps.{Jump, Jumps, Row, jumpsOf, noRow, targets, rates, exits, allJumps, startsFrom, Laid}
-use Rattle.epsdelta_theory.proofs.RowsIn.{LaidTo, Holds, Filled}
+use Rattle.epsdelta_theory.specs.Jumps.{Jump, Jumps, Row, jumpsOf, noRow, targets, rates}
+use Rattle.epsdelta_theory.proofs.RowsIn.{exits, allJumps, startsFrom, Laid, LaidTo, Holds, Filled}
 use Rattle.epsdelta_theory.proofs.RowReads.{jumps-targets, jumps-rates, jumps-length}
 
 -- ---- over what a list held

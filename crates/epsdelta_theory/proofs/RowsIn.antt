@@ -2,12 +2,13 @@
 use mathlib.Core.Path.{_≡_}
 use Prim.Native.Nat.{ℕ, zero, suc, _+_, _≤_, _<_}
 use mathlib.Core.Bool.{true, false}
-use mathlib.Core.List.{List, [], _∷_}
+use mathlib.Core.List.{List, [], _∷_, _++_, map}
 use lib.Dec.{ltb}
 use lib.Ieee.{Float, nan}
 use lib.ListN.{length, getD, take, drop, set}
 use lib.Seq.{slice}
-use Rattle.epsdelta_theory.specs.Jumps.{Jumps, Row, jumpsOf, noRow, Laid}
+use Rattle.numbers.specs.Lists.{over}
+use Rattle.epsdelta_theory.specs.Jumps.{Jump, Jumps, Row, jumpsOf, noRow, targets, rates}
 
 -- how many targets stand before the first that is not below t
 unfoldable pub rank : ℕ → List ℕ → ℕ
@@ -52,6 +53,27 @@ pub record HoldsTo (J : Jumps) (n : ℕ) (exits : List Float) (starts targets : 
 abbrev pub Holds : Jumps → List Float → List ℕ → List ℕ → List Float → Type 0
 Holds J exits starts targets probs = HoldsTo J (length J) exits starts targets probs
 
+-- the exit rates
+abbrev pub exits : Jumps → List Float
+exits J = map (λ (r : Row). r .exit) J
+
+-- all jumps
+unfoldable pub allJumps : Jumps → List Jump
+allJumps [] = []
+allJumps (r ∷ J) = r .prob ++ allJumps J
+
+-- how many jumps stand before those of each state, and before the end, if there are a before the first
+unfoldable pub startsFrom : ℕ → Jumps → List ℕ
+startsFrom a [] = a ∷ []
+startsFrom a (r ∷ J) = a ∷ startsFrom (a + length (r .prob)) J
+
+-- four lists with the rows over what they held before: exit rates, starts, targets and divided rates
+pub record Laid (J : Jumps) (exits₀ : List Float) (starts₀ targets₀ : List ℕ) (probs₀ exits' : List Float) (starts' targets' : List ℕ) (probs' : List Float) : Type 0 where
+  pub exits-are : exits' ≡ over (exits J) exits₀
+  pub starts-are : starts' ≡ over (startsFrom 0 J) starts₀
+  pub targets-are : targets' ≡ over (targets (allJumps J)) targets₀
+  pub probs-are : probs' ≡ over (rates (allJumps J)) probs₀
+
 -- the first n rows over what the lists held
 abbrev pub LaidTo : Jumps → ℕ → List Float → List ℕ → List ℕ → List Float → List Float → List ℕ → List ℕ → List Float → Type 0
 LaidTo J n exits₀ starts₀ targets₀ probs₀ exits starts targets probs = Laid (take n J) exits₀ starts₀ targets₀ probs₀ exits starts targets probs
@@ -65,3 +87,9 @@ pub record Filled (R : Row) (k at r : ℕ) (exits : List Float) (targets : List 
   pub prob : jumpsOf (slice at r targets') (slice at r probs') ≡ R .prob
   pub targets-past : drop r targets' ≡ drop r targets
   pub probs-past : drop r probs' ≡ drop r probs
+
+-- m jumps over the front of two lists, their targets in one and their rates in the other
+pub record LaidJumps (js : List Jump) (m : ℕ) (targets₀ : List ℕ) (rates₀ : List Float) (targets' : List ℕ) (rates' : List Float) : Type 0 where
+  pub count : m ≡ length js
+  pub in-targets : targets' ≡ over (targets js) targets₀
+  pub in-rates : rates' ≡ over (rates js) rates₀

@@ -1,13 +1,11 @@
 -- Two models side by side: the exit rate and the jumps of every state, as `Jumps::union` of epsdelta.rs has them.
 use Prim.Native.Nat.{ℕ, _+_}
-use mathlib.Core.Path.{_≡_}
 use mathlib.Core.Bool.{Bool, true, false}
 use mathlib.Core.List.{List, [], _∷_, _++_, map}
 use lib.ListN.{length, getD}
 use lib.Dec.{eqb, ltb}
 use lib.Ieee.{Float, binary64, add, div}
 use Rattle.numbers.specs.Real.{nought, sum}
-use Rattle.numbers.specs.Lists.{over}
 use Rattle.bisim_core.specs.Data.{Edge}
 
 -- a jump target, and the rate at which it is jumped to, or that rate divided by the exit rate
@@ -91,26 +89,3 @@ exit J s = (getD J s noRow) .exit
 -- its jumps
 unfoldable pub prob : Jumps → ℕ → List Jump
 prob J s = (getD J s noRow) .prob
-
--- ---- the rows one after the other
-
--- the exit rates
-abbrev pub exits : Jumps → List Float
-exits J = map (λ (r : Row). r .exit) J
-
--- all jumps
-unfoldable pub allJumps : Jumps → List Jump
-allJumps [] = []
-allJumps (r ∷ J) = r .prob ++ allJumps J
-
--- how many jumps stand before those of each state, and before the end, if there are a before the first
-unfoldable pub startsFrom : ℕ → Jumps → List ℕ
-startsFrom a [] = a ∷ []
-startsFrom a (r ∷ J) = a ∷ startsFrom (a + length (r .prob)) J
-
--- four lists with the rows over what they held before: exit rates, starts, targets and divided rates
-pub record Laid (J : Jumps) (exits₀ : List Float) (starts₀ targets₀ : List ℕ) (probs₀ exits' : List Float) (starts' targets' : List ℕ) (probs' : List Float) : Type 0 where
-  pub exits-are : exits' ≡ over (exits J) exits₀
-  pub starts-are : starts' ≡ over (startsFrom 0 J) starts₀
-  pub targets-are : targets' ≡ over (targets (allJumps J)) targets₀
-  pub probs-are : probs' ≡ over (rates (allJumps J)) probs₀

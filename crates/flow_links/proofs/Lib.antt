@@ -1,2 +1,3 @@
 pub mod LinkWrites
 pub mod Fitting
+pub mod RowsRead

@@ -10,8 +10,8 @@ use lib.ListN.{length, take, drop, length-append, length-drop, length-map, take-
 use lib.Seq.{take-at, drop-at, length-take-le, drop-append-add, drop-drop}
 use Rattle.numbers.specs.Lists.{over}
 use Rattle.epsdelta_theory.specs.Jumps.{Jump, jumpsOf, targets, rates, addHere, addRate}
+use Rattle.epsdelta_theory.proofs.RowsIn.{LaidJumps}
 use Rattle.epsdelta_theory.proofs.RowReads.{jumps-targets, jumps-rates, jumps-length}
-use Rattle.parts.specs.Laid.{Laid}
 
 pub targets-length : (js : List Jump) → length (targets js) ≡ length js
 targets-length js = length-map js (λ (j : Jump). j .target)
@@ -52,7 +52,7 @@ grown t w (j ∷ js) = pick (grown t w js) (ltb (j .target) t) (eqb (j .target) 
 
 -- ---- read back
 
-module _ {js : List Jump} {m : ℕ} {T₀ : List ℕ} {P₀ : List Float} {T : List ℕ} {P : List Float} (L : Laid js m T₀ P₀ T P) where
+module _ {js : List Jump} {m : ℕ} {T₀ : List ℕ} {P₀ : List Float} {T : List ℕ} {P : List Float} (L : LaidJumps js m T₀ P₀ T P) where
   front-targets : take m T ≡ targets js
   front-targets = ap (take m) (L .in-targets) ∙ take-at (targets js) (drop (length (targets js)) T₀) m (targets-length js ∙ sym (L .count))
 
@@ -72,7 +72,7 @@ module _ {js : List Jump} {m : ℕ} {T₀ : List ℕ} {P₀ : List Float} {T : L
       )
 
 -- the other way: the jumps that the first m entries are, and what is kept behind them
-pub laid-by : {js : List Jump} {m : ℕ} {T₀ : List ℕ} {P₀ : List Float} {T : List ℕ} {P : List Float} → m ≤ length T → m ≤ length P → jumpsOf (take m T) (take m P) ≡ js → drop m T ≡ drop m T₀ → drop m P ≡ drop m P₀ → Laid js m T₀ P₀ T P
+pub laid-by : {js : List Jump} {m : ℕ} {T₀ : List ℕ} {P₀ : List Float} {T : List ℕ} {P : List Float} → m ≤ length T → m ≤ length P → jumpsOf (take m T) (take m P) ≡ js → drop m T ≡ drop m T₀ → drop m P ≡ drop m P₀ → LaidJumps js m T₀ P₀ T P
 laid-by {js} {m} {T₀} {P₀} {T} {P} h k e f g =
     let a = length-take-le m T h in
     let b = length-take-le m P k in
@@ -86,16 +86,16 @@ laid-by {js} {m} {T₀} {P₀} {T} {P} h k e f g =
     }
 
 -- none
-pub laid-none : (T : List ℕ) (P : List Float) → Laid [] 0 T P T P
+pub laid-none : (T : List ℕ) (P : List Float) → LaidJumps [] 0 T P T P
 laid-none T P = record { count = refl; in-targets = refl; in-rates = refl }
 
 -- the same jumps
-pub laid-same : {js ks : List Jump} {m : ℕ} {T₀ : List ℕ} {P₀ : List Float} {T : List ℕ} {P : List Float} → js ≡ ks → Laid js m T₀ P₀ T P → Laid ks m T₀ P₀ T P
+pub laid-same : {js ks : List Jump} {m : ℕ} {T₀ : List ℕ} {P₀ : List Float} {T : List ℕ} {P : List Float} → js ≡ ks → LaidJumps js m T₀ P₀ T P → LaidJumps ks m T₀ P₀ T P
 laid-same {js} {ks} {m} {T₀} {P₀} {T} {P} e L = record { count = L .count ∙ ap length e; in-targets = L .in-targets ∙ ap (λ (l : List Jump). over (targets l) T₀) e; in-rates = L .in-rates ∙ ap (λ (l : List Jump). over (rates l) P₀) e }
 
 -- ---- one more
 
-module _ (t : ℕ) (w : Float) (m : ℕ) {r : ℕ} {T : List ℕ} {P : List Float} {T' : List ℕ} {P' : List Float} (N : Laid (addRate t w (jumpsOf (take m T) (take m P))) r T P T' P') where
+module _ (t : ℕ) (w : Float) (m : ℕ) {r : ℕ} {T : List ℕ} {P : List Float} {T' : List ℕ} {P' : List Float} (N : LaidJumps (addRate t w (jumpsOf (take m T) (take m P))) r T P T' P') where
   -- at most one more
   pub laid-grown : m ≤ length T → m ≤ length P → (m ≤ r) × (r ≤ m + 1)
   laid-grown h k =
@@ -107,7 +107,7 @@ module _ (t : ℕ) (w : Float) (m : ℕ) {r : ℕ} {T : List ℕ} {P : List Floa
       (omega arith, omega arith)
 
   -- among jumps that are laid out over the front of other lists
-  pub laid-more : {js : List Jump} {T₀ : List ℕ} {P₀ : List Float} → Laid js m T₀ P₀ T P → Laid (addRate t w js) r T₀ P₀ T' P'
+  pub laid-more : {js : List Jump} {T₀ : List ℕ} {P₀ : List Float} → LaidJumps js m T₀ P₀ T P → LaidJumps (addRate t w js) r T₀ P₀ T' P'
   laid-more {js} {T₀} {P₀} L =
       let M = laid-same (ap (addRate t w) (laid-jumps L)) N in
       let (x, y) = grown t w js in

@@ -1,2 +1,1 @@
 pub mod Earlier
-pub mod Laid

@@ -11,7 +11,7 @@ use Rattle.numbers.specs.Lists.{every}
 use Rattle.numbers.specs.Bits.{packed}
 use Rattle.numbers.proofs.Bools.{and-second}
 use Rattle.epsdelta_theory.specs.Relation.{relationBytes}
-use Rattle.epsdelta_sweeps.specs.Rows.{rowStands, relationIn}
+use Rattle.flow_links.proofs.RowsRead.{rowStands, relationIn}
 use Rattle.epsdelta_sweeps.proofs.Marking.{square-low}
 use Rattle.epsdelta_sweeps.proofs.Turns.{first-fails}
 use Rattle.epsdelta_sweeps.proofs.Reading.{lengths-first, lengths-known, rows-known, related-bytes}

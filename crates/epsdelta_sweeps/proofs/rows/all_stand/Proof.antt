@@ -6,7 +6,7 @@ use native.Mathlib.Omega.{arith}
 use borrow.Author.Tests.{not-true, not-false}
 use Rattle.numbers.specs.Lists.{every}
 use Rattle.numbers.proofs.Alls.{every-none, every-next, every-not}
-use Rattle.epsdelta_sweeps.specs.Rows.{rowStands}
+use Rattle.flow_links.proofs.RowsRead.{rowStands}
 use borrow.Author.Needs.{needs}
 use Rattle.epsdelta_sweeps.proofs.rows.all_stand.Statement.{statement}
 use Rattle.epsdelta_sweeps.proofs.rows.all_stand.Tie as tie

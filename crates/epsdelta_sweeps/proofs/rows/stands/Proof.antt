@@ -8,7 +8,7 @@ use lib.ListN.{getD, take, drop}
 use borrow.Author.Tests.{le-leb, lt-leb}
 use Rattle.numbers.proofs.Bools.{and-second}
 use Rattle.flow_links.specs.Fits.{rowFits}
-use Rattle.epsdelta_sweeps.specs.Rows.{entries}
+use Rattle.flow_links.proofs.RowsRead.{entries}
 use Rattle.epsdelta_sweeps.proofs.Turns.{part, first-fails}
 use borrow.Author.Needs.{needs}
 use Rattle.epsdelta_sweeps.proofs.rows.stands.Statement.{statement}

@@ -1,4 +1,4 @@
--- Rows that stand in lists: an exit rate for each state, where its jumps start, and the targets and divided rates of all jumps.
+-- Rows that stand in lists: an exit rate for each state, where its jumps start, and the targets and divided rates of all jumps. The words of the contracts of the code that relates them.
 use Prim.Native.Nat.{ℕ, _+_}
 use mathlib.Core.Bool.{Bool, true, false, _&&_}
 use mathlib.Core.List.{List, map}
