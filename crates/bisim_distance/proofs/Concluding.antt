@@ -15,12 +15,11 @@ use Rattle.distance_theory.specs.declared.MetricOptions.{MetricOptions}
 use Rattle.distance_theory.specs.declared.PairContribution.{PairContribution}
 use Rattle.distance_theory.specs.declared.Measured.{Measured}
 use Rattle.distance_theory.specs.declared.Measured.the-variants as says
-use Rattle.distance_words.specs.Told.{row}
+use Rattle.distance_words.specs.Told.{row, ranAs}
 use Rattle.distance_contributions.specs.Row.{Stored, written}
 use Rattle.distance_contributions.proofs.Records.{listed-written}
 use Rattle.distance_words.specs.declared.told.Told.{Told}
 use Rattle.distance_words.specs.Told.{toldIf, toldOf}
-use Rattle.distance_words.proofs.Run.{ranAs}
 use Rattle.distance.specs.Measuring.{answerOf, Handed, handed, handOut, memory}
 use Rattle.distance.proofs.Concluding.{none-written, run-few, run-counts}
 use Rattle.bisim_checks.proofs.Passed.{Passed, passed}

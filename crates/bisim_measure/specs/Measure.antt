@@ -10,8 +10,7 @@ use Rattle.chain_theory.specs.Columns.{ChainColumns}
 use Rattle.distance_theory.specs.Refusal.{bisimRefusal}
 use Rattle.distance_theory.specs.Outcome.{bisimRun, blank, zeros, noughts}
 use Rattle.distance_theory.specs.declared.MetricOptions.{MetricOptions}
-use Rattle.distance_words.proofs.Run.{Ran, ranAs}
-use Rattle.distance_words.specs.Told.{refusedWith, toldOf}
+use Rattle.distance_words.specs.Told.{refusedWith, toldOf, Ran, ranAs}
 use Rattle.distance_words.specs.declared.told.Told.{Told}
 
 -- what is told with the lists of pairs and the coupling store, and the lists lent for the chains

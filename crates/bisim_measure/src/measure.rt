@@ -14,7 +14,8 @@ ghost use mathlib.Core.Path.{_≡_};
 ghost use Rattle.bisim_core.specs.Data.{columns};
 ghost use Rattle.chain_theory.specs.Columns.{chainColumns};
 ghost use Rattle.distance_theory.specs.Outcome.{blank};
-ghost use Rattle.distance_words.proofs.Run.{ranAs, ranOf};
+ghost use Rattle.distance_words.specs.Told.{ranAs};
+ghost use Rattle.distance_words.proofs.Run.{ranOf};
 ghost use Rattle.bisim_measure.specs.Measure.{measuring, bisimMeasure};
 
 // Every entry of a chain's lists is 0.

@@ -28,12 +28,12 @@ use Rattle.distance_theory.specs.declared.PairContribution.{PairContribution}
 use Rattle.distance_theory.specs.declared.Measured.{Measured}
 use Rattle.distance_theory.specs.declared.Measured.the-variants as says
 use Rattle.distance_theory.proofs.Inside.{row-proper, proper-few}
-use Rattle.distance_words.specs.Told.{row}
+use Rattle.distance_words.specs.Told.{row, Ran, ranAs}
 use Rattle.distance_contributions.specs.Row.{Stored, stored, storedIf, written}
 use Rattle.distance_contributions.proofs.Records.{listed-written}
 use Rattle.distance_words.specs.declared.told.Told.{Told}
 use Rattle.distance_words.specs.Told.{refusedWith, toldIf, toldOf}
-use Rattle.distance_words.proofs.Run.{fits, roomy, runnable, Ran, ranAs, ranIf, ranOf}
+use Rattle.distance_words.proofs.Run.{fits, roomy, runnable, ranIf, ranOf}
 use Rattle.distance_run.proofs.Running.{fits-of}
 use Rattle.distance.specs.Measuring.{measuredIf, measuredOf, answerIf, answerOf, Handed, handed, handOut, memory}
 

@@ -13,8 +13,7 @@ use Rattle.distance_theory.specs.declared.Measured.{Measured}
 use Rattle.distance_theory.specs.declared.Measured.the-variants as says
 use Rattle.distance_contributions.specs.Row.{written}
 use Rattle.distance_words.specs.declared.told.Told.{Told}
-use Rattle.distance_words.specs.Told.{refusedWith, toldOf}
-use Rattle.distance_words.proofs.Run.{Ran, ranAs}
+use Rattle.distance_words.specs.Told.{refusedWith, toldOf, Ran, ranAs}
 
 -- the run, and the lists all zero; a refusal of the arguments leaves them as they were
 abbrev pub measuredIf : ℕ → Told → List ℕ → List ℕ → List ℕ → List ℕ → List Float → Ran

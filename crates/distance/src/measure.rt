@@ -11,7 +11,7 @@ use distance_words::told::Told;
 use distance_words::told::refused;
 ghost use mathlib.Core.Path.{_≡_};
 ghost use Rattle.chain_theory.specs.Columns.{chainColumns};
-ghost use Rattle.distance_words.proofs.Run.{ranAs};
+ghost use Rattle.distance_words.specs.Told.{ranAs};
 ghost use Rattle.distance.specs.Measuring.{measuredOf, answerOf};
 
 // The run of two chains, once the checks of the arguments have passed: scratch is all zero then. A refusal of theirs leaves it as it was.

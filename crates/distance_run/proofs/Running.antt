@@ -23,10 +23,10 @@ use Rattle.distance_theory.specs.declared.MetricOptions.{MetricOptions}
 use Rattle.distance_theory.proofs.Discovery.{Discovery, discovered, listed, listedIf, discover}
 use Rattle.distance_theory.proofs.Inside.{row-at}
 use Rattle.distance_rounds.proofs.Started.{bare}
-use Rattle.distance_words.specs.Told.{refusedWith, toldOf}
+use Rattle.distance_words.specs.Told.{refusedWith, toldOf, Ran, ranAs}
 use Rattle.distance_words.proofs.Found.{foundOf}
 use Rattle.distance_words.specs.declared.told.Told.{Told}
-use Rattle.distance_words.proofs.Run.{slim, fits, roomy, runnable, Ran, ranAs, ranIf, ranOf}
+use Rattle.distance_words.proofs.Run.{slim, fits, roomy, runnable, ranIf, ranOf}
 use Rattle.distance_run.proofs.Explored.{explored-told}
 
 -- ---- one chain

@@ -19,8 +19,8 @@ ghost use Rattle.numbers.specs.Lists.{every};
 ghost use Rattle.chain_theory.specs.Columns.{chainColumns, chainOf};
 ghost use Rattle.distance_theory.specs.Outcome;
 ghost use Rattle.distance_theory.proofs.Discovery.{discovered, discover};
-ghost use Rattle.distance_words.specs.Told.{toldOf};
-ghost use Rattle.distance_words.proofs.Run.{ranAs, ranOf};
+ghost use Rattle.distance_words.specs.Told.{toldOf, ranAs};
+ghost use Rattle.distance_words.proofs.Run.{ranOf};
 ghost use Rattle.distance_words.proofs.Run;
 
 fn wide(x: u32) -> usize

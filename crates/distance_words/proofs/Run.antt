@@ -13,7 +13,7 @@ use Rattle.distance_theory.specs.Pairs.{most}
 use Rattle.distance_theory.specs.declared.MetricOptions.{MetricOptions}
 use Rattle.distance_theory.specs.Outcome.{run, zeros, noughts}
 use Rattle.distance_words.specs.declared.told.Told.{Told}
-use Rattle.distance_words.specs.Told.{refusedWith, toldOf}
+use Rattle.distance_words.specs.Told.{refusedWith, toldOf, Ran, ranAs}
 
 -- rows of at most 32 entries
 abbrev pub slim : ChainShape → ChainColumns → Bool
@@ -30,18 +30,6 @@ roomy l r c = leb most l && (leb most r && leb most c)
 -- two such chains, room for the pairs, and at most 64 contributions asked for
 abbrev pub runnable : ChainShape → ChainColumns → ChainShape → ChainColumns → ℕ → ℕ → ℕ → ℕ → Bool
 runnable HL CL HR CR top l r c = fits HL CL && (fits HR CR && (leb top 64 && roomy l r c))
-
--- what is told, and the lists that were lent: left and right states and codes of the pairs, and the coupling store
-pub record Ran : Type 0 where
-  pub told : Told
-  pub lefts : List ℕ
-  pub rights : List ℕ
-  pub codes : List ℕ
-  pub places : List ℕ
-  pub masses : List Float
-
-abbrev pub ranAs : Told → List ℕ → List ℕ → List ℕ → List ℕ → List Float → Ran
-ranAs t l r c p m = record { told = t; lefts = l; rights = r; codes = c; places = p; masses = m }
 
 -- a run leaves the lists all zero; what can't be run is refused, with the lists as they were
 abbrev pub ranIf : Bool → Told → List ℕ → List ℕ → List ℕ → List ℕ → List Float → Ran

@@ -2,6 +2,7 @@
 use Prim.Native.Nat.{ℕ, zero, suc}
 use mathlib.Core.List.{List, []}
 use lib.ListN.{replicate}
+use lib.Ieee.{Float}
 use Rattle.numbers.specs.Real.{nought}
 use Rattle.numbers.specs.Lists.{over}
 use Rattle.distance_theory.specs.declared.PairContribution.{PairContribution}
@@ -28,3 +29,15 @@ toldIf (suc r) R = refusedWith (suc r)
 
 abbrev pub toldOf : Run → Told
 toldOf R = toldIf (R .refusal) R
+
+-- what is told, and the lists that were lent: left and right states and index of the pairs, and the coupling store
+pub record Ran : Type 0 where
+  pub told : Told
+  pub lefts : List ℕ
+  pub rights : List ℕ
+  pub codes : List ℕ
+  pub places : List ℕ
+  pub masses : List Float
+
+abbrev pub ranAs : Told → List ℕ → List ℕ → List ℕ → List ℕ → List Float → Ran
+ranAs t l r c p m = record { told = t; lefts = l; rights = r; codes = c; places = p; masses = m }

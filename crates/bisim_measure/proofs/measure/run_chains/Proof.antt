@@ -1,7 +1,7 @@
 -- The run, and the lists of both chains cleared.
 use mathlib.Core.Path.{_≡_}
 use Rattle.chain_theory.specs.Columns.{ChainColumns}
-use Rattle.distance_words.proofs.Run.{Ran}
+use Rattle.distance_words.specs.Told.{Ran}
 use Rattle.bisim_measure.specs.Measure.{measuring}
 use borrow.Author.Needs.{needs}
 use Rattle.bisim_measure.proofs.measure.run_chains.Statement.{statement}
