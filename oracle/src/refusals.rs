@@ -53,7 +53,7 @@ pub const MAX_MASS: f64 = (1_u64 << 40) as f64;
 /// 16: by how much the totals may differ, for each unit of the first, or of 1.
 pub const TOTALS_APART: f64 = 1e-9;
 
-// The entries, with the checks of their rows in the table of REQUIREMENTS.md.
+// The entries, with the checks that each makes, in order.
 
 /// `intern`: 3 (a 257th distinct label), 4 (a label value listed twice), 7 (list full).
 pub fn intern_refusal(a: &InternArgs) -> u32 {

@@ -17,7 +17,7 @@ use Rattle.bisim_core.specs.Data.{Edge, Transitions, Columns, columns}
 use Rattle.build_theory.specs.Edges.{edges, offsets}
 use Rattle.bisim_core.specs.declared.wlts.Initial.{Initial}
 use Rattle.build_theory.specs.Checks.{labelsOf, oversized, outside, unweighed, crowded, missing, refusal}
-use Rattle.build_theory.specs.Plan.{Lists, lists, weightOf, laid, shortest, Ending, ending, outcome, planned}
+use Rattle.build_theory.proofs.Plan.{Lists, lists, weightOf, laid, shortest, Ending, ending, outcome, planned}
 use Rattle.build_theory.proofs.Steps.{rank, Rising, edgesIn, Writable, Written}
 use Rattle.bisim_edges.specs.declared.planner.Planned as answers
 use Rattle.bisim_edges.specs.declared.planner.Planned.the-variants as answer

@@ -9,7 +9,7 @@ use lib.ListN.{length, getD, drop, length-map, List·getD-append}
 use lib.Seq.{ext-getD}
 use Rattle.numbers.specs.Lists.{over}
 use Rattle.bisim_core.specs.Data.{Edge}
-use Rattle.build_theory.specs.Plan.{weightOf}
+use Rattle.build_theory.proofs.Plan.{weightOf}
 use Rattle.build_theory.proofs.Steps.{edgeIn, edgesIn, rank, Rising}
 use Rattle.build_theory.proofs.Rows.{edges-length, edges-at}
 use Rattle.build_theory.proofs.Ranks.{AllE, Small, Strict}

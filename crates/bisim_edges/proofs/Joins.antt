@@ -18,7 +18,7 @@ use Rattle.numbers.proofs.Bools.{and-t}
 use Rattle.bisim_core.specs.Data.{Edge}
 use Rattle.build_theory.specs.Edges.{same, taken, ended, runs, join, keep, nonzero}
 use Rattle.build_theory.proofs.Orders.{whole}
-use Rattle.build_theory.specs.Plan.{weightOf}
+use Rattle.build_theory.proofs.Plan.{weightOf}
 use Rattle.build_theory.proofs.Steps.{edgeIn, edgeOf, rank, stored, grown, Pushed, Keys, joined, Joined}
 
 -- ---- triples

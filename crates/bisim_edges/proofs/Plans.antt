@@ -20,7 +20,7 @@ use Rattle.build_theory.specs.Edges.{join, nonzero, edges, numberedAt}
 use Rattle.bisim_core.specs.declared.wlts.Initial.{Initial}
 use Rattle.bisim_core.proofs.Distinct.{intern-has, distinct-length}
 use Rattle.build_theory.specs.Checks.{labelsOf, oversized, outside, unweighed, crowded, reach, missing, refusal}
-use Rattle.build_theory.specs.Plan.{Lists, lists, weightOf, laid, shortest, ending, outcome, planned}
+use Rattle.build_theory.proofs.Plan.{Lists, lists, weightOf, laid, shortest, ending, outcome, planned}
 use Rattle.build_theory.proofs.Steps.{Interned, Keys, Sorted, Arrangeable, Arranged, rank, joined, Joined}
 use Rattle.bisim_edges.specs.declared.planner.Planned.{Planned}
 use Rattle.bisim_edges.specs.declared.planner.Planned.the-variants.{Edges, Refused}

@@ -15,7 +15,7 @@ ghost use Prim.Native.Nat.{ℕ, _≤_, _<_};
 ghost use lib.Dec.{ltb};
 ghost use lib.ListN.{length, getD};
 ghost use Rattle.bisim_core.specs.Data.{transitions};
-ghost use Rattle.build_theory.specs.Plan.{lists, ending, planned};
+ghost use Rattle.build_theory.proofs.Plan.{lists, ending, planned};
 ghost use Rattle.build_theory.proofs.Steps.{Arrangeable, Arranged, rank};
 ghost use Rattle.bisim_edges.specs.declared.planner.Planned.the-variants.{Edges, Refused};
 

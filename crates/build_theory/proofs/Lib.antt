@@ -1,3 +1,4 @@
+pub mod Plan
 pub mod Steps
 pub mod Fronts
 pub mod Rows

@@ -16,7 +16,7 @@ use Rattle.bisim_core.specs.Edges.{crowdedIn}
 use Rattle.build_theory.specs.Edges.{join, nonzero, sortEdges}
 use Rattle.bisim_core.specs.declared.wlts.Initial.{Initial}
 use Rattle.build_theory.specs.Checks.{outside, unweighed, crowded, reach}
-use Rattle.build_theory.specs.Plan.{weightOf}
+use Rattle.build_theory.proofs.Plan.{weightOf}
 
 -- ---- the labels given, interned into a store: r of them, or more than it holds; their ids go into a list
 

@@ -1,3 +1,2 @@
 pub mod Edges
 pub mod Checks
-pub mod Plan

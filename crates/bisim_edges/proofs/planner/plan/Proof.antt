@@ -2,7 +2,7 @@
 use native.Mathlib.Omega.{arith}
 use lib.ListN.{getD-replicate}
 use Rattle.bisim_core.specs.Data.{transitions}
-use Rattle.build_theory.specs.Plan.{lists}
+use Rattle.build_theory.proofs.Plan.{lists}
 use Rattle.bisim_edges.proofs.Plans.{too-many}
 use borrow.Author.Needs.{needs}
 use Rattle.bisim_edges.proofs.planner.plan.Statement.{statement}

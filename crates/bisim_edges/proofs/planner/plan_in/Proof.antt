@@ -4,7 +4,7 @@ use mathlib.Core.Bool.{_||_}
 use lib.Dec.{ltb}
 use Rattle.bisim_core.specs.Data.{transitions}
 use Rattle.build_theory.specs.Checks.{missing}
-use Rattle.build_theory.specs.Plan.{lists, shortest}
+use Rattle.build_theory.proofs.Plan.{lists, shortest}
 use Rattle.bisim_edges.proofs.Plans.{Asked, arrangeable, refused, labels-fit, joinable, done}
 use borrow.Author.Needs.{needs}
 use Rattle.bisim_edges.proofs.planner.plan_in.Statement.{statement}

@@ -1,4 +1,4 @@
--- The edges of transitions as `plan` hands them on: three lists, and how it ends. An edge's source, label id and target stand in one number, whichever way they are numbered.
+-- The words of `plan`: the edges of transitions as it hands them on, in three lists, and how it ends. An edge's source, label id and target stand in one number, whichever way they are numbered.
 use Prim.Native.Nat.{ℕ, zero, suc, min}
 use mathlib.Core.Bool.{Bool, _||_}
 use mathlib.Core.List.{List, map}
