@@ -16,9 +16,9 @@ use Rattle.numbers.proofs.Bools.{and-second}
 use Rattle.numbers.proofs.Members.{in-at}
 use Rattle.numbers.proofs.Refuses.{none}
 use Rattle.numbers.proofs.Spans.{span-length}
-use Rattle.epsdelta_theory.specs.Jumps.{Jump, Jumps, Row, noRow, targets, rates, exits, allJumps}
-use Rattle.epsdelta_theory.specs.Jumps as jumps
-use Rattle.epsdelta_theory.proofs.RowsIn.{Holds}
+use Rattle.epsdelta_theory.specs.Jumps.{Jump, Jumps, Row, noRow, targets, rates}
+use Rattle.epsdelta_theory.proofs.RowsIn as jumps
+use Rattle.epsdelta_theory.proofs.RowsIn.{exits, allJumps, Holds}
 use Rattle.epsdelta_theory.proofs.RowReads.{row-length}
 use Rattle.epsdelta_theory.proofs.Rows.{at-map-span}
 use Rattle.epsdelta_theory.proofs.Layings.{laid-holds}
