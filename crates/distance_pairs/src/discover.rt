@@ -1,9 +1,9 @@
 // Discovery: the pairs that follow a pair are met one after the other, from a first pair on.
 use crate::index::code;
 use crate::index::goes_by;
-use crate::index::insert;
+use crate::index::is_at;
 use crate::index::key;
-use crate::index::place_of;
+use crate::index::push;
 use bisim_core::ids::StateId;
 use chain_check::shape::misshapen;
 use chain_theory::ChainShape;
@@ -29,15 +29,16 @@ fn meet(x: u32, y: u32, lefts: &mut [u32], rights: &mut [u32], codes: &mut [u64]
     requires { ⌜ Lists n (now lefts) (now rights) (now codes) ⌝ }
     ensures { λ r. ⌜ (r ≤ 4097) × Takes (pair x y ∷ []) n (now (lefts .entry)) (now (rights .entry)) (now (codes .entry)) r (now (lefts .exit)) (now (rights .exit)) (now (codes .exit)) ⌝ }
 {
-    if place_of(&codes[..n], StateId(x), StateId(y)) < n {
+    let pair = key(x, y);
+    let at = goes_by(&codes[..n], pair);
+    if is_at(&codes[..n], at, pair) {
         return n;
     }
     if n >= 4096 {
         return n + 1;
     }
     let c = code(x, y, n);
-    let at = goes_by(&codes[..n], key(x, y) + 1);
-    insert(codes, at, n, c);
+    push(&mut codes[at..], n - at, c);
     lefts[n] = x;
     rights[n] = y;
     n + 1

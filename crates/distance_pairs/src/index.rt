@@ -1,7 +1,7 @@
 // The index of the pairs: each pair with its number as one code, the codes rising, searched by halves.
 use bisim_core::ids::StateId;
 ghost use mathlib.Core.Path.{_≡_};
-ghost use Prim.Native.Nat.{_+_, _-_, _≤_, _<_};
+ghost use Prim.Native.Nat.{_≤_, _<_};
 ghost use lib.ListN.{length};
 ghost use Rattle.epsdelta_theory.proofs.RowsIn;
 ghost use Rattle.distance_theory.specs.Pairs.{pair};
@@ -30,20 +30,18 @@ pub(crate) fn code(x: u32, y: u32, n: usize) -> u64
     key(x, y) * 4096 + n as u64
 }
 
-// A code put in at a place; those from there up to m move on by one.
-pub(crate) fn insert(codes: &mut [u64], at: usize, m: usize, code: u64)
-    requires { ⌜ (at ≤ m) × (m < length (now codes)) ⌝ }
-    ensures { λ r. ⌜ now (codes .exit) ≡ RowsIn.put at (m - at) (now (codes .entry)) code ⌝ }
+// A code put in at the front; the k codes from there on move on by one, the last of them first, as when memory is moved.
+pub(crate) fn push(codes: &mut [u64], k: usize, code: u64)
+    requires { ⌜ k < length (now codes) ⌝ }
+    ensures { λ r. ⌜ now (codes .exit) ≡ RowsIn.pushed k (now (codes .entry)) code ⌝ }
 {
-    let mut moved = code;
-    let mut i = at;
-    while i < m {
-        let next = codes[i];
+    let mut i = k;
+    while i > 0 {
+        let moved = codes[i - 1];
         codes[i] = moved;
-        moved = next;
-        i += 1;
+        i -= 1;
     }
-    codes[m] = moved;
+    codes[0] = code;
 }
 
 // 1 where a code is below those of a key, else 0. The sign of a difference, and no branch, which half of the time would be foretold wrongly.
@@ -67,6 +65,17 @@ pub(crate) fn goes_by(list: &[u64], key: u64) -> usize
         n = n / 2;
     }
     lo
+}
+
+// Whether there is a code at a place, and it is one of a key.
+pub(crate) fn is_at(list: &[u64], at: usize, key: u64) -> bool
+    ensures { λ r. ⌜ r ≡ Index.isAt (now (list .entry)) at key ⌝ }
+{
+    if at < list.len() {
+        let code = list[at];
+        return code / 4096 == key;
+    }
+    false
 }
 
 // The number of a pair of states, by the codes of all pairs; how many these are if it is none of them.

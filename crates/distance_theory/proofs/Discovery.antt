@@ -12,12 +12,12 @@ use lib.ListN.{length, getD, set, take, drop, length-append, length-drop, length
 use lib.Seq.{slice, take-all, take-suc, take-at, take-append-le, length-slice, drop-append-add, drop-drop}
 use Rattle.numbers.specs.Lists.{In, over}
 use Rattle.numbers.specs.Sort.{insert}
-use borrow.Author.Tests.{leb-true, not-true, not-false}
+use borrow.Author.Tests.{ltb-true, ltb-false, leb-true, not-true, not-false}
 use Rattle.numbers.proofs.Bools.{and-t}
 use Rattle.numbers.proofs.Members.{in-at, in-left, in-right, in-snoc, apart-snoc}
 use Rattle.numbers.proofs.Sorts.{insert-here, insert-past}
 use Rattle.epsdelta_theory.specs.Jumps.{Jump, targets}
-use Rattle.epsdelta_theory.proofs.RowsIn.{pushed, put}
+use Rattle.epsdelta_theory.proofs.RowsIn.{pushed}
 use Rattle.epsdelta_theory.proofs.RowReads.{starts-up, jumps-targets}
 use Rattle.chain_theory.specs.Chain.{Chain}
 use Rattle.chain_theory.specs.Columns.{ChainColumns, begins, chainOf}
@@ -28,7 +28,7 @@ use Rattle.distance_theory.specs.Pairs.{Pair, pair, pairAt, place, most,
 use Rattle.distance_theory.proofs.Crossings.{map-at}
 use Rattle.distance_theory.proofs.Explore.{place-in, Sane, meet-known, meet-new, meetAll-full, follow, explore-on, explore-end, explore-full}
 use Rattle.distance_theory.proofs.Inside.{Sound, Of, AllOf, successors-of, row-at, chain-sound}
-use Rattle.distance_theory.proofs.Index.{key, code, index, keyed, lookUp, look-up-is, Splits, goes-in, index-length, index-more}
+use Rattle.distance_theory.proofs.Index.{key, code, index, keyed, isAt, Splits, goes-in, is-known, index-length, index-more}
 
 -- ---- the lists
 
@@ -140,18 +140,37 @@ pushed-is k [] c h = absurd (not-suc-le-zero h)
 pushed-is zero (y ∷ l) c h = refl
 pushed-is (suc k) (y ∷ l) c h = ap (λ (r : List ℕ). c ∷ r) (pushed-is k l y (le-of-suc-le-suc h))
 
-put-insert : (t n k m : ℕ) (l : List ℕ) → n + k ≡ m → m < length l → Splits (take m l) t n → put n k l t ≡ insert t (take m l) ++ drop (suc m) l
-unfolding put insert
-put-insert t n k m [] s h S = absurd (not-suc-le-zero h)
-put-insert t zero k zero (x ∷ l) s h S = ap (λ (j : ℕ). pushed j (x ∷ l) t) (let e : k ≡ 0 = omega arith in e) ∙ pushed-is 0 (x ∷ l) t h
-put-insert t zero k (suc m) (x ∷ l) s h S =
+push-insert : (t n k m : ℕ) (l : List ℕ) → n + k ≡ m → m < length l → Splits (take m l) t n → take n l ++ pushed k (drop n l) t ≡ insert t (take m l) ++ drop (suc m) l
+unfolding insert
+push-insert t n k m [] s h S = absurd (not-suc-le-zero h)
+push-insert t zero k zero (x ∷ l) s h S = ap (λ (j : ℕ). pushed j (x ∷ l) t) (let e : k ≡ 0 = omega arith in e) ∙ pushed-is 0 (x ∷ l) t h
+push-insert t zero k (suc m) (x ∷ l) s h S =
     ap (λ (j : ℕ). pushed j (x ∷ l) t) (let e : k ≡ suc m = omega arith in e) ∙ pushed-is (suc m) (x ∷ l) t h
     ∙ ap (λ (r : List ℕ). r ++ drop (suc m) l) (sym (insert-here t x (take m l) (S .behind 0 (omega arith) (omega arith))))
-put-insert t (suc n) k zero (x ∷ l) s h S = absurd (omega arith)
-put-insert t (suc n) k (suc m) (x ∷ l) s h S =
+push-insert t (suc n) k zero (x ∷ l) s h S = absurd (omega arith)
+push-insert t (suc n) k (suc m) (x ∷ l) s h S =
     let R : Splits (take m l) t n = record { within = le-of-suc-le-suc (S .within); before = λ i j. S .before (suc i) (omega arith); behind = λ i j q. S .behind (suc i) (omega arith) (omega arith) } in
-    ap (λ (r : List ℕ). x ∷ r) (put-insert t n k m l (omega arith) (le-of-suc-le-suc h) R)
+    ap (λ (r : List ℕ). x ∷ r) (push-insert t n k m l (omega arith) (le-of-suc-le-suc h) R)
     ∙ ap (λ (r : List ℕ). r ++ drop (suc m) l) (sym (insert-past t x (take m l) (S .before 0 (omega arith))))
+
+-- what stands behind the first k moves on: then k are left to move
+push-back : (k : ℕ) (l : List ℕ) (c : ℕ) → suc k < length l → pushed k (set l (suc k) (getD l k 0)) c ≡ pushed (suc k) l c
+unfolding pushed
+push-back k [] c h = absurd (not-suc-le-zero h)
+push-back k (y ∷ []) c h = absurd (omega arith)
+push-back zero (y ∷ (z ∷ l)) c h = refl
+push-back (suc k) (y ∷ (z ∷ l)) c h = ap (λ (r : List ℕ). c ∷ r) (push-back k (z ∷ l) y (le-of-suc-le-suc h))
+
+-- the loop of `push`, from the last on
+pub push-turn : (i : ℕ) (l : List ℕ) (c : ℕ) → 0 < i → i < length l → pushed (i - 1) (set l i (getD l (i - 1) 0)) c ≡ pushed i l c
+push-turn zero l c h k = absurd (not-suc-le-zero h)
+push-turn (suc i) l c h k = ap (λ (j : ℕ). pushed j (set l (suc i) (getD l j 0)) c) (let e : suc i - 1 ≡ i = omega arith in e) ∙ push-back i l c k
+
+pub push-end : (i : ℕ) (l : List ℕ) (c : ℕ) → i ≤ 0 → set l 0 c ≡ pushed i l c
+unfolding pushed
+push-end zero [] c h = refl
+push-end zero (y ∷ l) c h = refl
+push-end (suc i) l c h = absurd (not-suc-le-zero h)
 
 -- ---- some pairs met
 
@@ -205,82 +224,96 @@ module _ (x y n : ℕ) (l r c : List ℕ) (L : Lists n l r c) where
       let t : take most found ≡ found = take-all most found (omega arith) in
       (t, ap (take n) (N .codes-are ∙ ap (λ (ps : List Pair). over (index ps) c₀) t) ∙ take-at (index found) _ n (index-length found ∙ sym k))
 
-  looked : (a b : ℕ) (found : List Pair) (l₀ r₀ c₀ : List ℕ) → b ≤ 2048 → Noted a b found l₀ r₀ c₀ n l r c → lookUp (take n c) (pair x y) ≡ place (pair x y) found
-  looked a b found l₀ r₀ c₀ h N =
-      let f = L .few in let k = N .count-is in
-      ap (λ (z : List ℕ). lookUp z (pair x y)) (front a b found l₀ r₀ c₀ N .1)
-      ∙ look-up-is a found (N .sane .0) (λ p i. let o = N .low p i in let u = o .1 in (o .0, omega arith)) (omega arith) (pair x y)
+  -- the codes of its key go to place at
+  module _ (k at : ℕ) (ek : k ≡ key (pair x y)) (ea : at ≡ keyed (take n c) k) where
+    looked : (a b : ℕ) (found : List Pair) (l₀ r₀ c₀ : List ℕ) → b ≤ 2048 → AllOf a b (pair x y ∷ []) → Noted a b found l₀ r₀ c₀ n l r c → isAt (take n c) at k ≡ ltb (place (pair x y) found) (length found)
+    looked a b found l₀ r₀ c₀ h w N =
+        let f = L .few in let s = N .count-is in
+        let o = w (pair x y) (inl refl) .1 in
+        ap₂ (isAt (take n c)) (ea ∙ ap (keyed (take n c)) ek) ek
+        ∙ ap (λ (z : List ℕ). isAt z (keyed z (key (pair x y))) (key (pair x y))) (front a b found l₀ r₀ c₀ N .1)
+        ∙ is-known a found (N .sane .0) (λ p i. let q = N .low p i in let u = q .1 in (q .0, omega arith)) (omega arith) (pair x y) (omega arith)
 
-  -- it is known
-  pub takes-known : lookUp (take n c) (pair x y) < n → Takes (pair x y ∷ []) n l r c n l r c
-  takes-known q a b found l₀ r₀ c₀ h w N =
-      let k = N .count-is in let e = looked a b found l₀ r₀ c₀ h N in
-      subst⁻¹ (λ (z : List Pair). Noted a b z l₀ r₀ c₀ n l r c) (meet-one (pair x y) found ∙ meet-known (pair x y) found (omega arith)) N
+    -- it is known
+    pub takes-known : isAt (take n c) at k ≡ true → Takes (pair x y ∷ []) n l r c n l r c
+    takes-known q a b found l₀ r₀ c₀ h w N =
+        subst⁻¹ (λ (z : List Pair). Noted a b z l₀ r₀ c₀ n l r c) (meet-one (pair x y) found ∙ meet-known (pair x y) found (ltb-true (place (pair x y) found) (length found) (sym (looked a b found l₀ r₀ c₀ h w N) ∙ q))) N
 
-  module _ (q : n ≤ lookUp (take n c) (pair x y)) where
-    new : (a b : ℕ) (found : List Pair) (l₀ r₀ c₀ : List ℕ) → b ≤ 2048 → Noted a b found l₀ r₀ c₀ n l r c → meetAll (pair x y ∷ []) found ≡ found ++ (pair x y ∷ [])
-    new a b found l₀ r₀ c₀ h N =
-        let f = L .few in let k = N .count-is in let e = looked a b found l₀ r₀ c₀ h N in
-        meet-one (pair x y) found ∙ meet-new (pair x y) found (omega arith) (omega arith)
+    module _ (q : isAt (take n c) at k ≡ false) where
+      -- it is none of those found
+      absent : (a b : ℕ) (found : List Pair) (l₀ r₀ c₀ : List ℕ) → b ≤ 2048 → AllOf a b (pair x y ∷ []) → Noted a b found l₀ r₀ c₀ n l r c → length found ≤ place (pair x y) found
+      absent a b found l₀ r₀ c₀ h w N = ltb-false (place (pair x y) found) (length found) (sym (looked a b found l₀ r₀ c₀ h w N) ∙ q)
 
-    grown : (a b : ℕ) (found : List Pair) (l₀ r₀ c₀ : List ℕ) → b ≤ 2048 → Noted a b found l₀ r₀ c₀ n l r c → Sane (found ++ (pair x y ∷ []))
-    grown a b found l₀ r₀ c₀ h N =
-        let f = L .few in let k = N .count-is in let e = looked a b found l₀ r₀ c₀ h N in
-        (apart-snoc found (pair x y) (N .sane .0) (λ i. let j = place-in (pair x y) found i in omega arith), (let z = length-append found (pair x y ∷ []) in omega arith))
+      new : (a b : ℕ) (found : List Pair) (l₀ r₀ c₀ : List ℕ) → b ≤ 2048 → AllOf a b (pair x y ∷ []) → Noted a b found l₀ r₀ c₀ n l r c → meetAll (pair x y ∷ []) found ≡ found ++ (pair x y ∷ [])
+      new a b found l₀ r₀ c₀ h w N =
+          let f = L .few in let s = N .count-is in let e = absent a b found l₀ r₀ c₀ h w N in
+          meet-one (pair x y) found ∙ meet-new (pair x y) found (omega arith) (omega arith)
 
-    -- it is pair 4,097
-    pub takes-last : most ≤ n → Takes (pair x y ∷ []) n l r c (n + 1) l r c
-    takes-last m a b found l₀ r₀ c₀ h w N =
-        let f = L .few in let k = N .count-is in
-        let z = length-append found (pair x y ∷ []) in
-        let t : take most (found ++ (pair x y ∷ [])) ≡ take most found = take-append-le most found (pair x y ∷ []) (omega arith) in
-        subst⁻¹ (λ (z : List Pair). Noted a b z l₀ r₀ c₀ (n + 1) l r c) (new a b found l₀ r₀ c₀ h N)
-        (record {
-          count-is = omega arith;
-          lefts-are = N .lefts-are ∙ ap (λ (ps : List Pair). over (lefts ps) l₀) (sym t);
-          rights-are = N .rights-are ∙ ap (λ (ps : List Pair). over (rights ps) r₀) (sym t);
-          codes-are = N .codes-are ∙ ap (λ (ps : List Pair). over (index ps) c₀) (sym t);
-          sane = grown a b found l₀ r₀ c₀ h N;
-          low = meet-low a b (pair x y) found (w (pair x y) (inl refl)) (N .low);
-        })
+      grown : (a b : ℕ) (found : List Pair) (l₀ r₀ c₀ : List ℕ) → b ≤ 2048 → AllOf a b (pair x y ∷ []) → Noted a b found l₀ r₀ c₀ n l r c → Sane (found ++ (pair x y ∷ []))
+      grown a b found l₀ r₀ c₀ h w N =
+          let f = L .few in let s = N .count-is in let e = absent a b found l₀ r₀ c₀ h w N in
+          (apart-snoc found (pair x y) (N .sane .0) (λ i. let j = place-in (pair x y) found i in omega arith), (let z = length-append found (pair x y ∷ []) in omega arith))
 
-    -- it is noted
-    pub takes-new : n < most → (at : ℕ) (c' : List ℕ) → at ≡ keyed (take n c) (key (pair x y) + 1) → c' ≡ put at (n - at) c (code (pair x y) n) → Takes (pair x y ∷ []) n l r c (n + 1) (set l n x) (set r n y) c'
-    takes-new m at c' ea ec a b found l₀ r₀ c₀ h w N =
-        let k = N .count-is in
-        let z = length-append found (pair x y ∷ []) in
-        let (t, i) = front a b found l₀ r₀ c₀ N in
-        let t' : take most (found ++ (pair x y ∷ [])) ≡ found ++ (pair x y ∷ []) = take-all most (found ++ (pair x y ∷ [])) (omega arith) in
-        subst⁻¹ (λ (z : List Pair). Noted a b z l₀ r₀ c₀ (n + 1) (set l n x) (set r n y) c') (new a b found l₀ r₀ c₀ h N)
-        (record {
-          count-is = omega arith;
-          lefts-are = over-next (lefts found) l₀ l x n (N .lefts-are ∙ ap (λ (ps : List Pair). over (lefts ps) l₀) t) (length-map found (λ (p : Pair). p .left) ∙ sym k) m (L .lefts-long)
-              ∙ ap (λ (s : List ℕ). over s l₀) (sym (ap lefts t' ∙ map-append (λ (p : Pair). p .left) found (pair x y ∷ [])));
-          rights-are = over-next (rights found) r₀ r y n (N .rights-are ∙ ap (λ (ps : List Pair). over (rights ps) r₀) t) (length-map found (λ (p : Pair). p .right) ∙ sym k) m (L .rights-long)
-              ∙ ap (λ (s : List ℕ). over s r₀) (sym (ap rights t' ∙ map-append (λ (p : Pair). p .right) found (pair x y ∷ [])));
-          codes-are = coded found c₀ k (N .codes-are ∙ ap (λ (ps : List Pair). over (index ps) c₀) t) i ∙ ap (λ (ps : List Pair). over (index ps) c₀) (sym t');
-          sane = grown a b found l₀ r₀ c₀ h N;
-          low = meet-low a b (pair x y) found (w (pair x y) (inl refl)) (N .low);
-        })
-      where
-        coded : (found : List Pair) (c₀ : List ℕ) → n ≡ length found → c ≡ over (index found) c₀ → take n c ≡ index found → c' ≡ over (index (found ++ (pair x y ∷ []))) c₀
-        coded found c₀ k e i =
-            let s : Splits (take n c) (code (pair x y) n) at = subst⁻¹ (λ (z : List ℕ). Splits z (code (pair x y) n) at) i (subst⁻¹ (Splits (index found) (code (pair x y) n)) (ea ∙ ap (λ (z : List ℕ). keyed z (key (pair x y) + 1)) i) (goes-in found (pair x y) n k m)) in
-            let u = s .within in
-            let v = length-take n c in
-            let g = L .codes-long in
-            ec ∙ put-insert (code (pair x y) n) at (n - at) n c (omega arith) (omega arith) s
-            ∙ ap₂ (λ (p q : List ℕ). p ++ q) (ap (insert (code (pair x y) n)) i ∙ ap (λ (j : ℕ). insert (code (pair x y) j) (index found)) k ∙ sym (index-more found (pair x y)))
-            (ap (drop (suc n)) e ∙ tail)
-          where
-            tail : drop (suc n) (over (index found) c₀) ≡ drop (length (index (found ++ (pair x y ∷ [])))) c₀
-            tail =
-                let p = index-length found in
-                let q = index-length (found ++ (pair x y ∷ [])) in
-                let z = length-append found (pair x y ∷ []) in
-                ap (λ (j : ℕ). drop j (over (index found) c₀)) (let e : suc n ≡ length (index found) + 1 = omega arith in e)
-                ∙ drop-append-add (index found) (drop (length (index found)) c₀) 1 ∙ drop-drop 1 (length (index found)) c₀
-                ∙ ap (λ (j : ℕ). drop j c₀) (let e : length (index found) + 1 ≡ length (index (found ++ (pair x y ∷ []))) = omega arith in e)
+      -- it is pair 4,097
+      pub takes-last : most ≤ n → Takes (pair x y ∷ []) n l r c (n + 1) l r c
+      takes-last m a b found l₀ r₀ c₀ h w N =
+          let f = L .few in let s = N .count-is in
+          let z = length-append found (pair x y ∷ []) in
+          let t : take most (found ++ (pair x y ∷ [])) ≡ take most found = take-append-le most found (pair x y ∷ []) (omega arith) in
+          subst⁻¹ (λ (z : List Pair). Noted a b z l₀ r₀ c₀ (n + 1) l r c) (new a b found l₀ r₀ c₀ h w N)
+          (record {
+            count-is = omega arith;
+            lefts-are = N .lefts-are ∙ ap (λ (ps : List Pair). over (lefts ps) l₀) (sym t);
+            rights-are = N .rights-are ∙ ap (λ (ps : List Pair). over (rights ps) r₀) (sym t);
+            codes-are = N .codes-are ∙ ap (λ (ps : List Pair). over (index ps) c₀) (sym t);
+            sane = grown a b found l₀ r₀ c₀ h w N;
+            low = meet-low a b (pair x y) found (w (pair x y) (inl refl)) (N .low);
+          })
+
+      -- it is noted
+      pub takes-new : n < most → (c' : List ℕ) → c' ≡ take at c ++ pushed (n - at) (drop at c) (code (pair x y) n) → Takes (pair x y ∷ []) n l r c (n + 1) (set l n x) (set r n y) c'
+      takes-new m c' ec a b found l₀ r₀ c₀ h w N =
+          let s = N .count-is in
+          let z = length-append found (pair x y ∷ []) in
+          let (t, i) = front a b found l₀ r₀ c₀ N in
+          let t' : take most (found ++ (pair x y ∷ [])) ≡ found ++ (pair x y ∷ []) = take-all most (found ++ (pair x y ∷ [])) (omega arith) in
+          subst⁻¹ (λ (z : List Pair). Noted a b z l₀ r₀ c₀ (n + 1) (set l n x) (set r n y) c') (new a b found l₀ r₀ c₀ h w N)
+          (record {
+            count-is = omega arith;
+            lefts-are = over-next (lefts found) l₀ l x n (N .lefts-are ∙ ap (λ (ps : List Pair). over (lefts ps) l₀) t) (length-map found (λ (p : Pair). p .left) ∙ sym s) m (L .lefts-long)
+                ∙ ap (λ (s : List ℕ). over s l₀) (sym (ap lefts t' ∙ map-append (λ (p : Pair). p .left) found (pair x y ∷ [])));
+            rights-are = over-next (rights found) r₀ r y n (N .rights-are ∙ ap (λ (ps : List Pair). over (rights ps) r₀) t) (length-map found (λ (p : Pair). p .right) ∙ sym s) m (L .rights-long)
+                ∙ ap (λ (s : List ℕ). over s r₀) (sym (ap rights t' ∙ map-append (λ (p : Pair). p .right) found (pair x y ∷ [])));
+            codes-are = coded found c₀ s (N .codes-are ∙ ap (λ (ps : List Pair). over (index ps) c₀) t) i (splits a b found l₀ r₀ c₀ h w N i) ∙ ap (λ (ps : List Pair). over (index ps) c₀) (sym t');
+            sane = grown a b found l₀ r₀ c₀ h w N;
+            low = meet-low a b (pair x y) found (w (pair x y) (inl refl)) (N .low);
+          })
+        where
+          splits : (a b : ℕ) (found : List Pair) (l₀ r₀ c₀ : List ℕ) → b ≤ 2048 → AllOf a b (pair x y ∷ []) → Noted a b found l₀ r₀ c₀ n l r c → take n c ≡ index found → Splits (take n c) (code (pair x y) n) at
+          splits a b found l₀ r₀ c₀ h w N i =
+              let f = L .few in let s = N .count-is in
+              let e = absent a b found l₀ r₀ c₀ h w N in
+              let o = w (pair x y) (inl refl) .1 in
+              subst⁻¹ (λ (z : List ℕ). Splits z (code (pair x y) n) at) i (subst⁻¹ (Splits (index found) (code (pair x y) n)) (ea ∙ ap (keyed (take n c)) ek ∙ ap (λ (z : List ℕ). keyed z (key (pair x y))) i)
+              (goes-in a found (N .sane .0) (λ p j. let v = N .low p j in let u = v .1 in (v .0, omega arith)) (omega arith) (pair x y) n m (omega arith) (λ j. let v = place-in (pair x y) found j in omega arith)))
+
+          coded : (found : List Pair) (c₀ : List ℕ) → n ≡ length found → c ≡ over (index found) c₀ → take n c ≡ index found → Splits (take n c) (code (pair x y) n) at → c' ≡ over (index (found ++ (pair x y ∷ []))) c₀
+          coded found c₀ v e i s =
+              let u = s .within in
+              let w = length-take n c in
+              let g = L .codes-long in
+              ec ∙ push-insert (code (pair x y) n) at (n - at) n c (omega arith) (omega arith) s
+              ∙ ap₂ (λ (p q : List ℕ). p ++ q) (ap (insert (code (pair x y) n)) i ∙ ap (λ (j : ℕ). insert (code (pair x y) j) (index found)) v ∙ sym (index-more found (pair x y)))
+              (ap (drop (suc n)) e ∙ tail)
+            where
+              tail : drop (suc n) (over (index found) c₀) ≡ drop (length (index (found ++ (pair x y ∷ [])))) c₀
+              tail =
+                  let p = index-length found in
+                  let q = index-length (found ++ (pair x y ∷ [])) in
+                  let z = length-append found (pair x y ∷ []) in
+                  ap (λ (j : ℕ). drop j (over (index found) c₀)) (let e : suc n ≡ length (index found) + 1 = omega arith in e)
+                  ∙ drop-append-add (index found) (drop (length (index found)) c₀) 1 ∙ drop-drop 1 (length (index found)) c₀
+                  ∙ ap (λ (j : ℕ). drop j c₀) (let e : length (index found) + 1 ≡ length (index (found ++ (pair x y ∷ []))) = omega arith in e)
 
 -- ---- pair after pair, and row after row
 

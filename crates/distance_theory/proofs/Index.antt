@@ -54,9 +54,9 @@ unfoldable pub keyed : List ℕ → ℕ → ℕ
 unfolding narrow
 keyed l k = narrow (length l) l k 0 (length l)
 
--- code c is that of pair p
-abbrev pub isOf : Pair → ℕ → Bool
-isOf p c = eqb (c / 4096) (key p)
+-- there is a code at place i, and it is one of key k
+abbrev pub isAt : List ℕ → ℕ → ℕ → Bool
+isAt l i k = ltb i (length l) && eqb (getD l i 0 / 4096) k
 
 abbrev pub numberIf : Bool → ℕ → ℕ → ℕ
 numberIf true c n = c % 4096
@@ -65,7 +65,7 @@ numberIf false c n = n
 -- the number of a pair: how many codes there are if none is its own
 unfoldable pub lookUp : List ℕ → Pair → ℕ
 unfolding keyed
-lookUp l p = let at = keyed l (key p) in numberIf (ltb (p .right) 2048 && (ltb at (length l) && isOf p (getD l at 0))) (getD l at 0) (length l)
+lookUp l p = let at = keyed l (key p) in numberIf (ltb (p .right) 2048 && isAt l at (key p)) (getD l at 0) (length l)
 
 -- ---- the search goes on, or ends
 
@@ -99,7 +99,7 @@ module _ (l : List ℕ) (k : ℕ) where
 
 module _ (l : List ℕ) (p : Pair) (k at : ℕ) (ek : k ≡ key p) (ea : at ≡ keyed l k) where
   abbrev answer : ℕ → ℕ
-  answer j = numberIf (ltb (p .right) 2048 && (ltb j (length l) && isOf p (getD l j 0))) (getD l j 0) (length l)
+  answer j = numberIf (ltb (p .right) 2048 && isAt l j (key p)) (getD l j 0) (length l)
 
   answered : answer at ≡ lookUp l p
   unfolding lookUp
@@ -121,7 +121,7 @@ look-high l p h = rw (le-ltb (p .right) 2048 h)
 -- an answer is small
 pub look-few : (l : List ℕ) (p : Pair) (n : ℕ) → length l ≤ n → 4096 ≤ n → lookUp l p ≤ n
 unfolding lookUp
-look-few l p n h k = pick (ltb (p .right) 2048 && (ltb (keyed l (key p)) (length l) && isOf p (getD l (keyed l (key p)) 0)))
+look-few l p n h k = pick (ltb (p .right) 2048 && isAt l (keyed l (key p)) (key p))
   where
     pick : (b : Bool) → numberIf b (getD l (keyed l (key p)) 0) (length l) ≤ n
     pick true = omega arith
@@ -256,18 +256,6 @@ index-in : (ps : List Pair) (j : ℕ) → j < length ps → In (code (pairAt ps 
 unfolding index
 index-in ps j h = in-sort (code (pairAt ps j) j) (codes 0 ps) (subst (λ (n : ℕ). In (code (pairAt ps j) n) (codes 0 ps)) (let e : 0 + j ≡ j = omega arith in e) (codes-in 0 ps j h))
 
--- where the code of one pair more goes: before those of the next key
-pub goes-in : (found : List Pair) (p : Pair) (n : ℕ) → n ≡ length found → n < most → Splits (index found) (code p n) (keyed (index found) (key p + 1))
-goes-in found p n e h =
-    let s = keyed-splits (index found) (key p + 1) (index-sorted found) in
-    let l = index-length found in
-    let w = s .within in
-    record {
-      within = w;
-      before = λ i a. let b = s .before i a in let (j, q, c) = index-coded found i (omega arith) in omega arith;
-      behind = λ i a g. let b = s .behind i a g in omega arith;
-    }
-
 -- ---- a look-up
 
 key-same : (p q : Pair) → p .right < 2048 → q .right < 2048 → key p ≡ key q → p ≡ q
@@ -293,6 +281,17 @@ module _ (m : ℕ) (found : List Pair) (a : Apart found) (w : AllOf m 2048 found
       let z : place p found ≡ j = ap (λ (x : Pair). place x found) (sym s) ∙ place-of found j a h in
       (subst (λ (x : Pair). In x found) s (in-at found j (pair 0 0) h), (let d = f in omega arith))
 
+  -- where the code of a pair more goes: before those of its key, and there are none
+  pub goes-in : (n : ℕ) → n < most → p .right < 2048 → (In p found → ⊥) → Splits (index found) (code p n) (spot found p)
+  goes-in n h r d =
+      let n = n-is in
+      record {
+        within = splits .within;
+        before = λ i j. let b = splits .before i j in omega arith;
+        behind = λ i j g. let b = splits .behind i j g in
+            let z : getD (index found) i 0 / 4096 ≢ key p = λ e. d (own (getD (index found) i 0) r (index-coded found i (omega arith)) e .0) in omega arith;
+      }
+
   known : In p found → lookUp (index found) p ≡ place p found
   unfolding lookUp
   known i =
@@ -316,9 +315,9 @@ module _ (m : ℕ) (found : List Pair) (a : Apart found) (w : AllOf m 2048 found
 
   unknown : (In p found → ⊥) → lookUp (index found) p ≡ place p found
   unfolding lookUp
-  unknown h = pick (ltb (p .right) 2048 && (ltb (spot found p) (length (index found)) && isOf p (getD (index found) (spot found p) 0))) refl
+  unknown h = pick (ltb (p .right) 2048 && isAt (index found) (spot found p) (key p)) refl
     where
-      pick : (b : Bool) → (ltb (p .right) 2048 && (ltb (spot found p) (length (index found)) && isOf p (getD (index found) (spot found p) 0))) ≡ b
+      pick : (b : Bool) → (ltb (p .right) 2048 && isAt (index found) (spot found p) (key p)) ≡ b
           → numberIf b (getD (index found) (spot found p) 0) (length (index found)) ≡ place p found
       pick true e =
           let (x, y) = and-t (ltb (p .right) 2048) _ e in
@@ -335,3 +334,19 @@ module _ (m : ℕ) (found : List Pair) (a : Apart found) (w : AllOf m 2048 found
       pick : (place p found < length found) ⊎ (length found ≤ place p found) → lookUp (index found) p ≡ place p found
       pick (inl h) = known (place-at p found h .0)
       pick (inr h) = unknown (λ i. let k = place-in p found i in omega arith)
+
+  -- what stands where the codes of its key go tells whether a pair is known
+  pub is-known : p .right < 2048 → isAt (index found) (spot found p) (key p) ≡ ltb (place p found) (length found)
+  unfolding lookUp
+  is-known r = pick (isAt (index found) (spot found p) (key p)) refl
+    where
+      pick : (b : Bool) → isAt (index found) (spot found p) (key p) ≡ b → isAt (index found) (spot found p) (key p) ≡ ltb (place p found) (length found)
+      pick true e =
+          let (y, z) = and-t (ltb (spot found p) (length (index found))) _ e in
+          let n = n-is in
+          let k : spot found p < length (index found) = ltb-true _ _ y in
+          e ∙ sym (lt-ltb (place p found) (length found) (place-in p found (own (getD (index found) (spot found p) 0) r (index-coded found (spot found p) (omega arith)) (eqb-true _ _ z) .0)))
+      pick false e =
+          let u : length (index found) ≡ place p found = rw (lt-ltb (p .right) 2048 r, e) at look-up-is in
+          let n = n-is in
+          e ∙ sym (le-ltb (place p found) (length found) (omega arith))
