@@ -30,7 +30,7 @@ pub(crate) fn code(x: u32, y: u32, n: usize) -> u64
     key(x, y) * 4096 + n as u64
 }
 
-// A code put in at the front; the k codes from there on move on by one, the last of them first, as when memory is moved.
+// A code put in at the front; the k codes from there on move on by one, the last of them first, which the compiler makes one move of memory.
 pub(crate) fn push(codes: &mut [u64], k: usize, code: u64)
     requires { ⌜ k < length (now codes) ⌝ }
     ensures { λ r. ⌜ now (codes .exit) ≡ RowsIn.pushed k (now (codes .entry)) code ⌝ }

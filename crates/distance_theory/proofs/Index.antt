@@ -284,7 +284,7 @@ module _ (m : ℕ) (found : List Pair) (a : Apart found) (w : AllOf m 2048 found
   -- where the code of a pair more goes: before those of its key, and there are none
   pub goes-in : (n : ℕ) → n < most → p .right < 2048 → (In p found → ⊥) → Splits (index found) (code p n) (spot found p)
   goes-in n h r d =
-      let n = n-is in
+      let l = n-is in
       record {
         within = splits .within;
         before = λ i j. let b = splits .before i j in omega arith;
