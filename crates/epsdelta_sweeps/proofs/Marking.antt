@@ -1,6 +1,6 @@
 -- The marks as code makes them: entry s * n + t is of the states s and t, a byte of eight entries, and the bytes one after the other.
 use mathlib.Core.Path.{_≡_, refl, sym, ap, subst, _∙_}
-use mathlib.Core.Logic.{_≢_}
+use mathlib.Core.Logic.{_≢_, _⊎_, inl, inr}
 use Prim.Native.Nat.{ℕ, zero, suc, _+_, _-_, _*_, _/_, _^_, _≤_, _<_, min, max}
 use mathlib.Core.Bool.{Bool, true, false, _&&_}
 use mathlib.Core.List.{List, [], _∷_, _++_, append-nil}
@@ -13,7 +13,7 @@ use lib.Pow.{pow-pos}
 use lib.Seq.{getD-take, getD-drop, drop-length}
 use borrow.Author.Tests.{ne-eqb}
 use Rattle.numbers.specs.Bits.{bits, packed}
-use Rattle.numbers.proofs.Bools.{one-if}
+use Rattle.numbers.proofs.Bools.{one-if, lt-or-ge}
 use Rattle.numbers.proofs.Over.{over, over-next, over-done}
 use Rattle.numbers.proofs.Packed.{packed-at, packed-length}
 use Rattle.epsdelta_theory.specs.Sweeps.{Task, marked, marks}
@@ -57,6 +57,13 @@ module _ (Q : Task) (n s t : ℕ) {C : List ℕ} {E : List Float} {ρ : Float} (
         let a : min s t ≡ t = omega arith in
         let b : max s t ≡ s = omega arith in
         e ∙ M .mark t s ht hs ∙ sym (ap (λ (x : ℕ). marked Q x s) a) ∙ sym (ap (λ (x : ℕ). marked Q (min s t) x) b) ∙ sym is
+
+    pub not-marked : getD C s 0 ≢ getD C t 0 → false ≡ getD (marks Q) (s * n + t) false
+    not-marked d = by-order (lt-or-ge s t)
+      where
+        by-order : (s < t) ⊎ (t ≤ s) → false ≡ getD (marks Q) (s * n + t) false
+        by-order (inl l) = lower-first l (classes-differ (getD C s 0) (getD C t 0) _ d)
+        by-order (inr l) = higher-first l (classes-differ (getD C t 0) (getD C s 0) _ (λ e. d (sym e)))
 
 -- there is a state if there is a byte
 pub some : (n k : ℕ) → k < relationBytes n → 0 < n
@@ -120,6 +127,14 @@ byte-next R first j byte h k e b d =
 
 pub byte-done : (l : List Bool) {j byte : ℕ} → j ≤ 0 → byte ≡ bits (drop j l) → byte ≡ bits l
 byte-done l {j} h e = let z : j ≡ 0 = omega arith in e ∙ ap (λ (x : ℕ). bits (drop x l)) z
+
+-- an entry of states whose classes differ leaves a byte of 0 so
+pub apart-next : (Q : Task) (n s t j : ℕ) {C : List ℕ} {E : List Float} {ρ : Float} → MarksIn Q n C E ρ → s < n → 0 < j → j ≤ 8 → t + (j - 1) < n → getD C s 0 ≢ getD C (t + (j - 1)) 0
+    → 0 ≡ bits (drop j (take 8 (drop (s * n + t) (marks Q)))) → 0 ≡ bits (drop (j - 1) (take 8 (drop (s * n + t) (marks Q))))
+apart-next Q n s t j M hs h k ht d e =
+    let i : s * n + (t + (j - 1)) ≡ s * n + t + (j - 1) = omega arith in
+    let f = not-marked Q n s (t + (j - 1)) M hs ht d ∙ ap (λ (x : ℕ). getD (marks Q) x false) i in
+    byte-next (marks Q) (s * n + t) j 0 h k e false f
 
 -- a byte with j entries still to come has room for them
 pub room-next : (j byte : ℕ) → 0 < j → (byte + 1) * 2 ^ j ≤ 256 → (2 * byte + 1 + 1) * 2 ^ (j - 1) ≤ 256

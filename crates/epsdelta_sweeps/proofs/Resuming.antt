@@ -368,6 +368,11 @@ module _ {n : ℕ} {E : List Float} {S T : List ℕ} {P : List Float} {need plen
         falls = turn-falls n store s t true struck (omega arith) k;
       }
 
+  -- both tests pass
+  pub both-pass : Held n E S T P need plenty store C s t false true → ((R : List Bool) → store ≡ packed R → (testIn n S T P need R s t ≡ true) × (testIn n S T P need R t s ≡ true))
+      → Moves n E S T P need plenty store s t false struck true (weight n store s t false struck) store C s (t + 1) false struck false
+  both-pass H p = let N = forth-passes H (λ R q. p R q .0) in moves-then N (omega arith) (back-passes (N .held) (λ R q. p R q .1))
+
   pub forth-fails : {store' C' : List ℕ} → Held n E S T P need plenty store C s t false true → Ends n S T P need store false s t → store' ≡ cleared (cleared store (s * n + t)) (t * n + s) → C' ≡ noted C s t
       → Moves n E S T P need plenty store s t false struck true (weight n store s t false struck) store' C' s (t + 1) false true false
   forth-fails {store'} H f e g =
@@ -400,8 +405,7 @@ module _ {n : ℕ} {E : List Float} {S T : List ℕ} {P : List Float} {need plen
       → Moves n E S T P need plenty store s t false struck false (weight n store s t false struck + 1) store C s (t + 1) false struck false
   turn-quiet l k H e h p =
       let M = turn-asks (omega arith) k H l e h in
-      let N = forth-passes (M .held) (λ R q. p R q .0) in
-      moves-then M (omega arith) (moves-then N (omega arith) (back-passes (N .held) (λ R q. p R q .1)))
+      moves-then M (omega arith) (both-pass (M .held) p)
 
   -- its test, or the one back where that passes, is asked for
   pub turn-waits : s < t → t < n → Held n E S T P need plenty store C s t false false → isZero (getD E s nan) ≡ false → bitAt store (s * n + t) ≡ true

@@ -1,7 +1,7 @@
 -- The flow test of two rows that stand in lists, as code makes it: of parts of the lists, against the bytes of a relation.
 use mathlib.Core.Path.{_≡_, sym, ap, _∙_}
-use Prim.Native.Nat.{ℕ, zero, suc, _+_, _-_, _*_, _<_}
-use mathlib.Core.Bool.{Bool, true, false, _&&_}
+use Prim.Native.Nat.{ℕ, zero, suc, _+_, _-_, _*_, _≤_, _<_}
+use mathlib.Core.Bool.{Bool, true, false, _&&_, false≢true}
 use mathlib.Core.List.{List, [], _∷_}
 use native.Mathlib.Omega.{arith}
 use lib.Dec.{leb, eqb}
@@ -14,6 +14,7 @@ use Rattle.numbers.proofs.Bools.{and-second}
 use Rattle.epsdelta_theory.specs.Jumps.{jumpsOf}
 use Rattle.epsdelta_theory.specs.FlowTest.{runBetween}
 use Rattle.epsdelta_theory.proofs.TasksIn.{rowIn, testIn, RowsFit}
+use Rattle.flow_duality.specs.Spare.{rowMost}
 use Rattle.flow_duality.proofs.Plenty.{Plenty, Between, Even, even-symmetric}
 use Rattle.flow_links.specs.Fits.{rowFits, fits}
 use Rattle.flow_links.proofs.Fitting.{all-fit, fit, few-links, Written, laid}
@@ -23,7 +24,7 @@ use Rattle.flow_core.proofs.Tests.{between-packed}
 use Rattle.flow_core.specs.Outcome.{settled}
 use Rattle.flow_theory.specs.Run.{allPushes}
 use Rattle.flow_core.specs.declared.rows.Answer.{Answer}
-use Rattle.flow_core.specs.declared.rows.Answer.the-variants.{Flow}
+use Rattle.flow_core.specs.declared.rows.Answer.the-variants.{Flow, Refused}
 use Rattle.flow_direct.specs.Reaches.{bothReach, reaches, atLeast}
 use Rattle.flow_direct.proofs.Beginning.{answer-reaches}
 use Rattle.flow.specs.declared.network.FlowNetwork.{FlowNetwork}
@@ -102,6 +103,16 @@ module _ {n : ℕ} {S T : List ℕ} {P : List Float} (F : RowsFit n S T P) where
   plenty-in need plenty K here store R z E s t B h k p =
       let (x, y, q) = B ((runBetween n R (rowIn S T P s) (rowIn S T P t)) .total) (sym (reached-in here store R z s t h k) ∙ p) in
       K R (even-symmetric n store R z E) s t h k x y q
+
+  -- so they do where an answer is plenty
+  pub ample-in : (need plenty : Float) → Plenty n S T P need plenty → (store : List ℕ) (R : List Bool) → store ≡ packed R → Even n store → (s t : ℕ) (r : Answer) → s < n → t < n
+      → (getD S (s + 1) 0 ≤ getD S s 0 + rowMost) × (getD S (t + 1) 0 ≤ getD S t 0 + rowMost) × (atLeast plenty r ≡ true) → testIn n S T P plenty R s t ≡ atLeast plenty r → (testIn n S T P need R s t ≡ true) × (testIn n S T P need R t s ≡ true)
+  ample-in need plenty K store R z E s t r h k (x, y, q) e = K R (even-symmetric n store R z E) s t h k x y (e ∙ q)
+
+-- an answer that is plenty between two rows is plenty, and they are short
+pub ample-is : (a b c d : ℕ) (plenty here : Float) (r : Answer) → Between a b c d plenty here → atLeast here r ≡ true → (b ≤ a + rowMost) × (d ≤ c + rowMost) × (atLeast plenty r ≡ true)
+ample-is a b c d plenty here (Flow f p q) B h = B f h
+ample-is a b c d plenty here (Refused k) B h = absurd (false≢true h)
 
 pub first-fails : (a b : Bool) → a ≡ false → false ≡ (a && b)
 first-fails a b h = ap (λ (x : Bool). x && b) (sym h)

@@ -2,7 +2,9 @@
 use epsdelta_theory::rates_close;
 ghost use mathlib.Core.Path.{_≡_};
 ghost use Prim.Native.Nat.{_≤_, _<_, _+_, _*_, _-_};
-ghost use mathlib.Core.Bool.{false};
+ghost use mathlib.Core.Bool.{true, false};
+ghost use mathlib.Core.List.{List};
+ghost use lib.Ieee.{Float};
 ghost use lib.ListN.{length, getD, take, drop};
 ghost use Rattle.numbers.specs.Bits.{bits, packed};
 ghost use Rattle.epsdelta_theory.specs.Relation.{relationBytes};
@@ -57,8 +59,29 @@ fn column_before(t: usize, states: usize) -> usize
     t - 1
 }
 
+// True only if row s has eight entries from column t on, and the states of all of them have another class than s.
+fn apart(classes: &[u32], states: usize, s: usize, t: usize) -> bool
+    requires { ⌜ (states ≤ length (now classes)) × (t < states) ⌝ }
+    ensures { λ r. ⌜ (r ≡ true → (E : List Float) (rho : Float) (Q : Task) → MarksIn Q states (now (classes .entry)) E rho → 0 ≡ bits (take 8 (drop (s * states + t) (Sweeps.marks Q)))) ⌝ }
+{
+    if states <= s {
+        return false;
+    }
+    if states - t < 8 {
+        return false;
+    }
+    let mut j: usize = 8;
+    while 0 < j {
+        j -= 1;
+        if classes[s] == classes[t + j] {
+            return false;
+        }
+    }
+    true
+}
+
 // The byte of the eight entries from `first` on, the last of them first.
-fn byte_at(classes: &[u32], exits: &[f64], rho: f64, states: usize, first: usize) -> u8
+fn byte_of(classes: &[u32], exits: &[f64], rho: f64, states: usize, first: usize) -> u8
     requires { ⌜ (0 < states) × (states ≤ length (now classes)) × (states ≤ length (now exits)) × (first ≤ 4000000) ⌝ }
     ensures { λ r. ⌜ ((Q : Task) → MarksIn Q states (now (classes .entry)) (now (exits .entry)) rho → r ≡ bits (take 8 (drop first (Sweeps.marks Q)))) ⌝ }
 {
@@ -76,6 +99,19 @@ fn byte_at(classes: &[u32], exits: &[f64], rho: f64, states: usize, first: usize
         }
     }
     byte
+}
+
+// The same, without a look at each entry where no class is shared.
+fn byte_at(classes: &[u32], exits: &[f64], rho: f64, states: usize, first: usize) -> u8
+    requires { ⌜ (0 < states) × (states ≤ length (now classes)) × (states ≤ length (now exits)) × (first ≤ 4000000) ⌝ }
+    ensures { λ r. ⌜ ((Q : Task) → MarksIn Q states (now (classes .entry)) (now (exits .entry)) rho → r ≡ bits (take 8 (drop first (Sweeps.marks Q)))) ⌝ }
+{
+    let s = first / states;
+    let t = first % states;
+    if apart(classes, states, s, t) {
+        return 0;
+    }
+    byte_of(classes, exits, rho, states, first)
 }
 
 // Writes the marks of all pairs, both orders; spare bits are zero.

@@ -10,8 +10,8 @@ ghost use Rattle.numbers.specs.Bits.{packed};
 ghost use Rattle.epsdelta_theory.proofs.TasksIn.{RowsFit, RunsTo};
 ghost use Rattle.flow_duality.proofs.Plenty.{Plenty, Even};
 
-// Sweeps until one without a strike, with words for strikes lent.
-fn run_in(
+// Sweeps until one without a strike, with words for the strikes of 64 states, which are enough for a card.
+fn run_small(
     exits: &[f64],
     starts: &[u32],
     targets: &[u32],
@@ -20,13 +20,12 @@ fn run_in(
     need: f64,
     plenty: f64,
     relation: &mut [u8],
-    changed: &mut [u64],
 )
-    requires { ⌜ RowsFit states (now starts) (now targets) (now probs) × (states ≤ length (now exits)) × Plenty states (now starts) (now targets) (now probs) need plenty × Even states (now relation) ⌝ }
+    requires { ⌜ (states ≤ 64) × RowsFit states (now starts) (now targets) (now probs) × (states ≤ length (now exits)) × Plenty states (now starts) (now targets) (now probs) need plenty × Even states (now relation) ⌝ }
     requires { ⌜ ((R : List Bool) × (now relation ≡ packed R) × (length R ≡ states * states)) ⌝ }
-    requires { ⌜ (2 * states < length (now changed)) × (getD (now changed) (2 * states) 0 ≡ 0) ⌝ }
     ensures { λ r. ⌜ RunsTo states (now (exits .entry)) (now (starts .entry)) (now (targets .entry)) (now (probs .entry)) need (now (relation .entry)) (now (relation .exit)) ⌝ }
 {
+    let mut changed = [0u64; 129];
     let p = advance(
         exits,
         starts,
@@ -36,7 +35,7 @@ fn run_in(
         need,
         plenty,
         relation,
-        changed,
+        &mut changed,
         0,
         1,
         false,
@@ -51,7 +50,7 @@ fn run_in(
             need,
             plenty,
             relation,
-            changed,
+            &mut changed,
             p,
         );
     }
@@ -73,7 +72,7 @@ fn run_large(
     ensures { λ r. ⌜ RunsTo states (now (exits .entry)) (now (starts .entry)) (now (targets .entry)) (now (probs .entry)) need (now (relation .entry)) (now (relation .exit)) ⌝ }
 {
     let mut changed = [0u64; 4001];
-    run_in(
+    let p = advance(
         exits,
         starts,
         targets,
@@ -83,10 +82,27 @@ fn run_large(
         plenty,
         relation,
         &mut changed,
+        0,
+        1,
+        false,
     );
+    if p.asks {
+        with_rows(
+            exits,
+            starts,
+            targets,
+            probs,
+            states,
+            need,
+            plenty,
+            relation,
+            &mut changed,
+            p,
+        );
+    }
 }
 
-// The same; 129 words are enough for the states of a card.
+// The same with words for as many states as there are.
 pub(crate) fn run(
     exits: &[f64],
     starts: &[u32],
@@ -102,8 +118,7 @@ pub(crate) fn run(
     ensures { λ r. ⌜ RunsTo states (now (exits .entry)) (now (starts .entry)) (now (targets .entry)) (now (probs .entry)) need (now (relation .entry)) (now (relation .exit)) ⌝ }
 {
     if states <= 64 {
-        let mut changed = [0u64; 129];
-        run_in(
+        run_small(
             exits,
             starts,
             targets,
@@ -112,7 +127,6 @@ pub(crate) fn run(
             need,
             plenty,
             relation,
-            &mut changed,
         );
         return;
     }

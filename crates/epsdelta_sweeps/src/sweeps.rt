@@ -15,9 +15,10 @@ ghost use Prim.Native.Nat.{ℕ, _≤_, _<_, _+_, _*_, _-_};
 ghost use mathlib.Core.Bool.{Bool, true, false, _&&_};
 ghost use mathlib.Core.List.{List};
 ghost use lib.Ieee.{Float};
-ghost use lib.ListN.{length};
+ghost use lib.ListN.{length, getD};
 ghost use Rattle.numbers.specs.Bits.{packed};
 ghost use Rattle.epsdelta_theory.proofs.TasksIn.{RowsFit, testIn};
+ghost use Rattle.flow_duality.specs.Spare.{rowMost};
 ghost use Rattle.flow_duality.proofs.Plenty.{Plenty, Even};
 ghost use Rattle.flow_duality.proofs.Places.{Held, Moves, weight};
 ghost use Rattle.flow_direct.specs.Reaches.{atLeast};
@@ -389,7 +390,19 @@ pub(crate) fn advance(
     p
 }
 
-// How the test that a place asks for ended.
+// True only if a flow from s to t is plenty: then the test back passes too.
+fn ample(starts: &[u32], plenty: f64, s: usize, t: usize, answer: Answer) -> bool
+    requires { ⌜ (s + 1 < length (now starts)) × (t + 1 < length (now starts)) × (getD (now starts) s 0 ≤ getD (now starts) (s + 1) 0) × (getD (now starts) t 0 ≤ getD (now starts) (t + 1) 0) ⌝ }
+    ensures { λ r. ⌜ (r ≡ true → (getD (now (starts .entry)) (s + 1) 0 ≤ getD (now (starts .entry)) s 0 + rowMost) × (getD (now (starts .entry)) (t + 1) 0 ≤ getD (now (starts .entry)) t 0 + rowMost) × (atLeast plenty answer ≡ true)) ⌝ }
+{
+    let a = starts[s] as usize;
+    let b = starts[s + 1] as usize;
+    let c = starts[t] as usize;
+    let d = starts[t + 1] as usize;
+    enough(answer, plenty_between(a, b, c, d, plenty))
+}
+
+// How the test that a place asks for ended; with `both` the test back passes too.
 fn tested(
     starts: &[u32],
     targets: &[u32],
@@ -400,10 +413,12 @@ fn tested(
     changed: &mut [u64],
     p: Place,
     passes: bool,
+    both: bool,
 ) -> Place
     requires { ⌜ RowsFit states (now starts) (now targets) (now probs) × (2 * states < length (now changed)) × (p .s < states) × (p .t < states) ⌝ }
     ensures { λ r. ⌜ ((E : List Float) (plenty : Float) → Held states E (now (starts .entry)) (now (targets .entry)) (now (probs .entry)) need plenty (now (relation .entry)) (now (changed .entry)) (p .s) (p .t) (p .back) true
         → ((R : List Bool) → (now (relation .entry)) ≡ packed R → (p .back ≡ false → testIn states (now (starts .entry)) (now (targets .entry)) (now (probs .entry)) need R (p .s) (p .t) ≡ passes) × (p .back ≡ true → testIn states (now (starts .entry)) (now (targets .entry)) (now (probs .entry)) need R (p .t) (p .s) ≡ passes))
+        → (both ≡ true → p .back ≡ false → (R : List Bool) → (now (relation .entry)) ≡ packed R → (testIn states (now (starts .entry)) (now (targets .entry)) (now (probs .entry)) need R (p .s) (p .t) ≡ true) × (testIn states (now (starts .entry)) (now (targets .entry)) (now (probs .entry)) need R (p .t) (p .s) ≡ true))
         → Moves states E (now (starts .entry)) (now (targets .entry)) (now (probs .entry)) need plenty (now (relation .entry)) (p .s) (p .t) (p .back) (p .struck) true (weight states (now (relation .entry)) (p .s) (p .t) (p .back) (p .struck)) (now (relation .exit)) (now (changed .exit)) (r .s) (r .t) (r .back) (r .struck) (r .asks))
         × (r .asks ≡ false → (r .s ≡ p .s) × (r .t ≡ p .t + 1) × (r .back ≡ false)) ⌝ }
 {
@@ -412,6 +427,15 @@ fn tested(
     let struck = p.struck;
     if p.back {
         return tested_back(states, relation, changed, s, t, struck, passes);
+    }
+    if both {
+        return Place {
+            s: s,
+            t: t + 1,
+            back: false,
+            struck: struck,
+            asks: false,
+        };
     }
     tested_forth(
         starts,
@@ -443,7 +467,7 @@ pub(crate) fn settle(
     answer: Answer,
 ) -> Place
     requires { ⌜ RowsFit states (now starts) (now targets) (now probs) × (states ≤ length (now exits)) × Held states (now exits) (now starts) (now targets) (now probs) need plenty (now relation) (now changed) (p .s) (p .t) (p .back) true
-        × ((R : List Bool) → now relation ≡ packed R → (p .back ≡ false → testIn states (now starts) (now targets) (now probs) need R (p .s) (p .t) ≡ atLeast need answer) × (p .back ≡ true → testIn states (now starts) (now targets) (now probs) need R (p .t) (p .s) ≡ atLeast need answer)) ⌝ }
+        × ((x : Float) (R : List Bool) → now relation ≡ packed R → (p .back ≡ false → testIn states (now starts) (now targets) (now probs) x R (p .s) (p .t) ≡ atLeast x answer) × (p .back ≡ true → testIn states (now starts) (now targets) (now probs) x R (p .t) (p .s) ≡ atLeast x answer)) ⌝ }
     ensures { λ r. ⌜ Moves states (now (exits .entry)) (now (starts .entry)) (now (targets .entry)) (now (probs .entry)) need plenty (now (relation .entry)) (p .s) (p .t) (p .back) (p .struck) true (weight states (now (relation .entry)) (p .s) (p .t) (p .back) (p .struck)) (now (relation .exit)) (now (changed .exit)) (r .s) (r .t) (r .back) (r .struck) (r .asks) × (r .asks ≡ false → (r .struck ≡ false) × (states ≤ r .s) × (states ≤ r .t)) ⌝ }
 {
     let q = tested(
@@ -456,6 +480,7 @@ pub(crate) fn settle(
         changed,
         p,
         enough(answer, need),
+        ample(starts, plenty, p.s, p.t, answer),
     );
     if q.asks {
         return q;

@@ -456,7 +456,7 @@ module _ {M : Type 1} (𝓤 : URA M) (H : Heap 𝓤) (A : Atoms 𝓤) (W : Given
     module _ (r : Answer) (v : Val) (is : Is S.the-row r (v ∷ [])) (told : Meant rl p r) where
       goes-settle : (x : Gh₂) → ent 𝓤 (⋆ 𝓤 H A (Handed₂ rl ch x)) (Settles 𝓤 H A at-mem run .pre (to-settle rl ch p r v x))
       goes-settle x =
-          qed W (Handed₂ rl ch x) ∵ says ! (asked .0, asked .1, asking (going .0) asks .held, told need) $ frame ! $ nothing ! $
+          qed W (Handed₂ rl ch x) ∵ says ! (asked .0, asked .1, asking (going .0) asks .held, told) $ frame ! $ nothing ! $
           owned ! S.the-row (Is S.the-row) ((EL.makes S.the-type S′.the-plain) 𝓤 H A) r (v ∷ []) is $ fjoin ! $ owned ! P.the-row (Is P.the-row) ((LL.makes P.the-type P′.the-plain) 𝓤 H A) p (placed p ∷ []) p-is $ fjoin ! $
           move ! (6 ∷ 0 ∷ []) $ fjoin ! $ move ! (5 ∷ 0 ∷ []) $ fjoin ! $ owned ! f64 (Is f64) (float-makes 𝓤 H A W binary64) plenty _ (refl, plenty-fits) $ fjoin ! $ owned ! f64 (Is f64) (float-makes 𝓤 H A W binary64) need _ (refl, need-fits) $ fjoin ! $
           owned ! usize (Is usize) (uint-makes 𝓤 H A W w64) states _ (refl, states-fit) $ fjoin ! $ move ! (4 ∷ 0 ∷ []) $ fjoin ! $ move ! (3 ∷ 0 ∷ []) $ fjoin ! $ move ! (2 ∷ 0 ∷ []) $ fjoin ! $ move ! (1 ∷ 0 ∷ []) $ fjoin ! $ done !

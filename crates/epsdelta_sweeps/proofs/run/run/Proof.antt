@@ -1,15 +1,10 @@
--- `run::run` meets its contract: 129 words are enough for 64 states, and others go to `run_large`.
-use native.Mathlib.Omega.{arith}
-use Rattle.epsdelta_sweeps.proofs.Noting.{first-words}
+-- `run::run` meets its contract: up to 64 states go to `run_small`, others to `run_large`.
 use borrow.Author.Needs.{needs}
 use Rattle.epsdelta_sweeps.proofs.run.run.Statement.{statement}
 use Rattle.epsdelta_sweeps.proofs.run.run.Tie as tie
 
-slice-aggregate-run-in : tie.Need-slice-aggregate-run-in
-slice-aggregate-run-in c = search needs
-
-run-in-requires : tie.Need-run-in-requires
-run-in-requires c κs = let h = c .before .before .if1 .taken in (c .before .before .before .before .before .before .before .before .pre .0, (c .before .before .before .before .before .before .before .before .pre .1, first-words (c .before .before .before .before .before .before .before .before .args .states) 129 (omega arith)))
+run-small-requires : tie.Need-run-small-requires
+run-small-requires c κs = let p = c .before .before .before .before .before .before .before .pre in ((c .before .if1 .taken, p .0 .0, p .0 .1, p .0 .2, p .0 .3), p .1)
 
 same-length : tie.Need-same-length
 same-length c = search needs
@@ -30,8 +25,7 @@ pub run-spec : {M : Type 1} → statement M
 run-spec =
     tie.close
     (tie.spec
-    slice-aggregate-run-in
-    run-in-requires
+    run-small-requires
     same-length
     returns
     run-large-requires
