@@ -1,9 +1,8 @@
-/* Tanqesha for C and C++: when are two queue models alike? The functions of the eight static libraries exports,
- * exports_flow, exports_relation, exports_card, exports_transport, exports_chains, exports_distance and exports_bisim.
+/* Tanqesha for C and C++: when are two queue models alike? The functions of the static library libexports.a.
  *
  * Each function is proved to give the answer of its definition for every input, to stay within the memory lent to it, and
- * to end; crates/NAME/src/lib.rt of the library has its contract. No function keeps anything between calls, allocates
- * memory or prints, so calls may be made from several threads at once, each on memory of its own.
+ * to end; crates/exports/src/ has its contract. No function keeps anything between calls, allocates memory or prints, so
+ * calls may be made from several threads at once, each on memory of its own.
  *
  * What the caller answers for:
  * - A slice is a pointer and its length in elements (x and x_length); as much memory must be there, readable or, without
@@ -87,7 +86,7 @@ enum tanqesha_refusal {
     TANQESHA_OCCUPANCY = 19
 };
 
-/* ---- exports: numbers */
+/* ---- numbers */
 
 /* Whether x is finite and at least 0. Never refuses. */
 bool tanqesha_is_valid(double x);
@@ -98,7 +97,7 @@ bool tanqesha_is_zero(double x);
 /* The sum of the items, left to right from 0. Never refuses. */
 double tanqesha_sum(const double *items, size_t items_length);
 
-/* ---- exports: labels. A list of label values, of which the first count are in use; a value's place is its id. */
+/* ---- labels. A list of label values, of which the first count are in use; a value's place is its id. */
 
 /* The id of a value and the number of labels then: a new value is written to labels[count].
  * Refusals: 3 count is over 256, or the value is new and 256 are in use; 4 the list is shorter than count, or has a value
@@ -114,7 +113,7 @@ uint32_t tanqesha_get(const uint32_t *labels, size_t labels_length, size_t count
  * Refusals: 3 count is over 256; 4 as above, or the id is not below count. */
 uint32_t tanqesha_resolve(const uint32_t *labels, size_t labels_length, size_t count, uint32_t id, uint32_t *value);
 
-/* ---- exports: models. A built model is handed in as its counts (states, edges, labels), its initial state (none if present
+/* ---- models. A built model is handed in as its counts (states, edges, labels), its initial state (none if present
  * is 0, else start), and its columns: the value of each label, where the edges of each state begin and the last ones end
  * (states + 1 offsets), and the label id, target and weight of each edge. Columns may be longer than the counts say. Every
  * function checks the model afresh. */
@@ -199,7 +198,7 @@ uint32_t tanqesha_label_id(size_t states, size_t edges, size_t labels, uint32_t 
                            const double *edge_weights, size_t edge_weights_length,
                            uint32_t value, uint32_t *found, uint32_t *id);
 
-/* ---- exports_flow: networks */
+/* ---- networks */
 
 /* A link: the node that it leads to, the capacity left, and its cost for a unit. */
 struct tanqesha_link {
@@ -247,7 +246,7 @@ uint32_t tanqesha_add_edge(struct tanqesha_network *net, size_t from, size_t to,
 uint32_t tanqesha_max_flow(struct tanqesha_network *net, size_t source, size_t sink,
                            double *flow, size_t *phases, size_t *pushes);
 
-/* ---- exports_relation: relations of two models, with a class for each state. Over T = left + right states, right states
+/* ---- relations of two models, with a class for each state. Over T = left + right states, right states
  * numbered after the left ones, a relation is T * T bits in (T * T + 7) / 8 bytes: the pair (s, t) is bit s * T + t, the
  * lowest bit of a byte first; spare bits are 0. */
 
@@ -313,7 +312,7 @@ uint32_t tanqesha_min_epsilon(size_t left_states, size_t left_edges, size_t left
                               const uint32_t *right_classes, size_t right_classes_length,
                               double rho, uint8_t *relation, size_t relation_length, uint32_t *present, double *epsilon);
 
-/* ---- exports_card: the report of a card */
+/* ---- the report of a card */
 
 /* Writes what the report program prints for the bytes of a card, and how many bytes that is: a report, or a line with one of
  * 1, 2, 4 and 9, which are no refusals of the call (docs/CARD.md).
@@ -321,7 +320,7 @@ uint32_t tanqesha_min_epsilon(size_t left_states, size_t left_edges, size_t left
  * Refusals: 7. */
 uint32_t tanqesha_report(const uint8_t *card, size_t card_length, uint8_t *out, size_t out_length, size_t *written);
 
-/* ---- exports_transport */
+/* ---- transports */
 
 /* A plan that moves masses a to masses b along cheapest paths, with a cost for each pair, row after row: the row, column and
  * mass of its cells above 1e-12 in row order; what it costs, and how many cells it has. That it is the cheapest, or moves all
@@ -333,7 +332,7 @@ uint32_t tanqesha_transport(const double *a, size_t a_length, const double *b, s
                             uint32_t *plan_rows, size_t plan_rows_length, uint32_t *plan_columns, size_t plan_columns_length,
                             double *plan_masses, size_t plan_masses_length, double *total, size_t *cells);
 
-/* ---- exports_chains. A chain is its counts (states, entries), its initial state, and its lists: where the entries of each state
+/* ---- chains. A chain is its counts (states, entries), its initial state, and its lists: where the entries of each state
  * begin and the last ones end (states + 1 offsets), the target and probability of each entry, an observation of each state. */
 
 /* The greatest exit rate of two models, or 1 if nothing moves. Refusals: 3 to 6 of either model. */
@@ -382,7 +381,7 @@ uint32_t tanqesha_normalise(size_t left_states, size_t left_entries, uint32_t le
                             const double *right_probabilities, size_t right_probabilities_length,
                             double *right_observations, size_t right_observations_length, double *scale);
 
-/* ---- exports_distance: distances */
+/* ---- distances */
 
 /* A pair of states, how far its observations are apart, the discounted time spent in it, and the product of the two. */
 struct tanqesha_contribution {
@@ -421,7 +420,7 @@ uint32_t tanqesha_distance(size_t left_states, size_t left_entries, uint32_t lef
                            double *value, double *error_bound, double *discount,
                            size_t *pairs, size_t *listed, size_t *rounds);
 
-/* ---- exports_bisim: distances of models */
+/* ---- distances of models */
 
 /* The distance of a state of each of two models, by what is observed of their states: both are made chains at their common rate,
  * and the observations are scaled together to 0 to 1, as by tanqesha_uniformise and tanqesha_normalise. The rest as in

@@ -1,4 +1,4 @@
-//! The static libraries that are compared, by their bindings for Rust over lent memory. Each function returns a refusal's
+//! The static library that is compared, by its bindings for Rust over lent memory. Each function returns a refusal's
 //! number, or 0 with its answer behind the references.
 
 pub mod card;

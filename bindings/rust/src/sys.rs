@@ -212,7 +212,7 @@ macro_rules! entries {
     };
 }
 
-// exports: numbers, labels and models
+// models: numbers, labels and models
 entries! {
     /// Whether x is finite and at least 0.
     fn is_valid = tanqesha_is_valid(x: f64) -> bool;
@@ -252,7 +252,7 @@ entries! {
     fn label_id = tanqesha_label_id(model: model, value: u32, found: &mut u32, id: &mut u32) -> u32;
 }
 
-// exports_flow: networks
+// networks
 entries! {
     /// The maximum flow over rows of links, which keep the capacities left. Refuses with 15.
     fn max_flow_rows = tanqesha_max_flow_rows(
@@ -276,7 +276,7 @@ entries! {
     ) -> u32;
 }
 
-// exports_relation: relations
+// relations
 entries! {
     /// The relation of two models, over the front of the bytes. Refuses with 3 to 7, 9, 10.
     fn epsdelta = tanqesha_epsdelta(
@@ -300,13 +300,13 @@ entries! {
     ) -> u32;
 }
 
-// exports_card: the report of a card
+// cards: the report of a card
 entries! {
     /// What is printed for the bytes of a card. Refuses with 7.
     fn report = tanqesha_report(card: [u8], out: [mut u8], written: &mut usize) -> u32;
 }
 
-// exports_transport: transports
+// transports
 entries! {
     /// A plan that moves masses a to masses b, over the front of three columns. Refuses with 7, 15, 16.
     fn transport = tanqesha_transport(
@@ -316,7 +316,7 @@ entries! {
     ) -> u32;
 }
 
-// exports_chains: chains
+// model_chains: chains
 entries! {
     /// The greatest exit rate of two models, or 1 if nothing moves. Refuses with 3 to 6.
     fn common_rate = tanqesha_common_rate(left: model, right: model, rate: &mut f64) -> u32;
@@ -333,7 +333,7 @@ entries! {
     ) -> u32;
 }
 
-// exports_distance: distances of chains
+// distances: of chains
 entries! {
     /// The distance of two chains, with its contributions over the front of the records; the lists of pairs (`lefts`, `rights`,
     /// `index`) and the coupling store (`places`, `masses`) are zero at the end. Refuses with 4, 7, 11 to 14, 16 to 19.
@@ -347,7 +347,7 @@ entries! {
     ) -> u32;
 }
 
-// exports_bisim: distances of models
+// model_distances: of models
 entries! {
     /// The distance of a state of each of two models, by their chains at the common rate and observations scaled together; the
     /// lists of the chains are zero at the end too. Refuses with 3 to 8, 11, 12, 14, 16 to 19.

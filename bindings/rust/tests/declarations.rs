@@ -1,4 +1,4 @@
-//! Every exported function is declared in `sys` and in tanqesha.h as its crate has it, called there by the tests, and
+//! Every exported function is declared in `sys` and in tanqesha.h as its module has it, called there by the tests, and
 //! reached by the safe layer.
 
 use std::fs;
@@ -54,25 +54,15 @@ fn functions(text: &str, mark: &str) -> Vec<Function> {
     text.split(mark).skip(1).map(parse).collect()
 }
 
-/// The libraries that build.rs links: the crates of exported functions, in the order of the header.
-fn libraries() -> Vec<String> {
-    let build = read("build.rs");
-    let (_, list) = build.split_once("= [").unwrap();
-    let (list, _) = list.split_once("];").unwrap();
-    list.split('"')
-        .skip(1)
-        .step_by(2)
-        .map(str::to_owned)
-        .collect()
-}
-
-/// The functions that the crates export.
+/// The functions that the library exports, in the order of its modules, which is that of the header.
 fn exported() -> Vec<Function> {
-    let of = |name: &String| {
-        let text = read(&format!("../../crates/{name}/src/lib.rt"));
+    let modules = read("../../crates/exports/src/lib.rt");
+    let of = |rest: &str| {
+        let (name, _) = rest.split_once(';').unwrap();
+        let text = read(&format!("../../crates/exports/src/{name}.rt"));
         functions(&text, "pub extern \"C\" fn ")
     };
-    libraries().iter().flat_map(of).collect()
+    modules.split("\npub mod ").skip(1).flat_map(of).collect()
 }
 
 /// The types of a parameter of `sys`.
@@ -95,7 +85,7 @@ fn kinds(kind: &str) -> Vec<String> {
 /// The functions that `sys` declares: their types, and the names of its own.
 fn declared() -> Vec<(String, Vec<String>, Function)> {
     let text = read("src/sys.rs");
-    let (_, text) = text.split_once("// exports: ").unwrap();
+    let (_, text) = text.split_once("// models: ").unwrap();
     let lines: Vec<_> = text.split(" fn ").skip(1).collect();
     let names = lines
         .iter()
@@ -162,20 +152,18 @@ fn prototypes() -> Vec<String> {
 }
 
 #[test]
-fn every_library_is_built_and_linked() {
-    let crates = fs::read_dir(Path::new(env!("CARGO_MANIFEST_DIR")).join("../../crates")).unwrap();
-    let names = crates.map(|c| c.unwrap().file_name().into_string().unwrap());
-    let mut exporting: Vec<_> = names.filter(|n| n.starts_with("exports")).collect();
-    exporting.sort();
-    let mut linked = libraries();
-    linked.sort();
-    assert_eq!(linked, exporting);
-    let built = read("../../oracle/library");
-    assert!(linked.iter().all(|name| {
-        built
-            .split_whitespace()
-            .any(|w| w.trim_end_matches(';') == name)
-    }));
+fn no_other_crate_exports() {
+    for entry in fs::read_dir(Path::new(env!("CARGO_MANIFEST_DIR")).join("../../crates")).unwrap() {
+        let source = entry.unwrap().path().join("src");
+        if source.ends_with("exports/src") {
+            continue;
+        }
+        for file in fs::read_dir(source).unwrap() {
+            let file = file.unwrap().path();
+            let text = fs::read_to_string(&file).unwrap();
+            assert!(!text.contains("no_mangle"), "{}", file.display());
+        }
+    }
 }
 
 #[test]

@@ -114,7 +114,7 @@ fn page(rows: &[Row], runs: usize, load: &str) -> String {
     let mut page = format!(
         "# Benchmark
 
-Written by `bench/run --runs {runs} --write`, with the plot below. Times of the Rust and of the static libraries on the same
+Written by `bench/run --runs {runs} --write`, with the plot below. Times of the Rust and of the static library on the same
 inputs, in turn, in one program on one core: medians of {runs} runs, each a median of several samples. A ratio above 1 says that
 the library is faster; behind it the lowest and the highest of the runs. `bench/run` says what each case is.
 
