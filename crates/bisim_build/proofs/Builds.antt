@@ -167,7 +167,7 @@ module _ (Z : Call) (few : Z.given ≤ 4096 → Z.given ≤ length Z.T) {s : Boo
           let (x, y, z) = rooms in
           let t = ap length triples_are ∙ length-append (map rank E) (drop (length (map rank E)) Z.T) in
           let u = length-map E rank in (
-            record { t-in = omega arith; l-room = omega arith; g_room = omega arith },
+            record { t_in = omega arith; l_room = omega arith; g_room = omega arith },
             omega arith,
             a,
             x,

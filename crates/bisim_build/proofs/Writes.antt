@@ -29,18 +29,18 @@ writing T m L G = record { i_in = omega arith; l_size = refl; g_size = refl; lab
 module _ {T : List ℕ} {m : ℕ} {L₀ G₀ L G : List ℕ} {i : ℕ} (P : Writable T m L₀ G₀) (I : Writing T m L₀ G₀ L G i) where
   pub writes : i < m → Writing T m L₀ G₀ (set L i ((get_or T i 0 / 2048) % 256)) (set G i (get_or T i 0 % 2048)) (i + 1)
   writes h =
-      let a = P.l-room in let b = P.g_room in
+      let a = P.l_room in let b = P.g_room in
       record {
         i_in = omega arith;
-        l_size = length-set L i ((get_or T i 0 / 2048) % 256) ∙ I.l-size;
-        g_size = length-set G i (get_or T i 0 % 2048) ∙ I.g-size;
+        l_size = length-set L i ((get_or T i 0 / 2048) % 256) ∙ I.l_size;
+        g_size = length-set G i (get_or T i 0 % 2048) ∙ I.g_size;
         labels = λ U. over_next (map label_of (edges_in T U m)) L₀ L i 0 _ (I.labels U) (column_at label_of T U m i h) (let l = column_length label_of T U m in omega arith) (omega arith);
         targets = λ U. over_next (map target_of (edges_in T U m)) G₀ G i 0 _ (I.targets U) (column_at target_of T U m i h) (let l = column_length target_of T U m in omega arith) (omega arith);
       }
 
   pub written : m ≤ i → Written T m L₀ G₀ L G
   written h =
-      let a = I.i-in in
+      let a = I.i_in in
       let e : i ≡ m = omega arith in
       record {
         labels = λ U. over_done (map label_of (edges_in T U m)) L₀ L i (I.labels U) (e ∙ sym (column_length label_of T U m));

@@ -8,7 +8,7 @@ use crate::write;
 use bisim_core::wlts::{Initial, Shape};
 use bisim_edges::planner::{Planned, plan};
 
-#[derive(Drop)]
+#[derive(Clone, Copy)]
 pub enum Built {
     Model(Shape),
     Refused(u32),

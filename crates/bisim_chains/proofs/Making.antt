@@ -69,14 +69,14 @@ module _ (a d b e : List Float) (n m : ℕ) (p : length a ≡ n) (q : length b �
 
 module _ {S : Shape} {M : Columns} {s : ℕ} {seen : List Float} {C : ChainColumns} (P : Side S M s seen C) where
   lays : layable S M seen C ≡ true
-  lays = sym (and_second _ _ true (eq-eqb _ _ P.model-passes) (sym (ap not P.roomy)))
+  lays = sym (and_second _ _ true (eq-eqb _ _ P.model_passes) (sym (ap not P.roomy)))
 
   laid_so : (q : Float) → lay_chain S M q seen s C ≡ laying (shape_of (uniformise (model S M) q seen s)) (laid (columns_of (uniformise (model S M) q seen s)) C)
   unfolding lay_chain
   laid_so q = ap (λ (b : Bool). lay_if b (uniformise (model S M) q seen s) C) lays
 
   pub seen_size : length (take (length (model S M)) seen) ≡ length (model S M)
-  seen_size = length-take-le (length (model S M)) seen (let h = (ready S M seen C P.model-passes P.roomy).seen-long in let e = model_length S M in omega arith)
+  seen_size = length-take-le (length (model S M)) seen (let h = (ready S M seen C P.model_passes P.roomy).seen_long in let e = model_length S M in omega arith)
 
 -- ---- both
 
@@ -102,7 +102,7 @@ module _ {SL : Shape} {ML : Columns} {s : ℕ} {seenL : List Float} {CL : ChainC
 
   pub rate_is : (x : Rated) (y : Float) → x ≡ rated SL ML SR MR → y ≡ rate_of x → y ≡ q
   unfolding rated
-  rate_is x y e f = f ∙ ap rate_of (e ∙ ap (λ (k : ℕ). rate_ends k q) (sym (models_number SL ML SR MR 0 0 0 (sym P.model-passes) (sym Q.model-passes) refl)))
+  rate_is x y e f = f ∙ ap rate_of (e ∙ ap (λ (k : ℕ). rate_ends k q) (sym (models_number SL ML SR MR 0 0 0 (sym P.model_passes) (sym Q.model_passes) refl)))
 
   abbrev left : Laying
   left = laying (shape_of (uniformise L q seenL s)) (laid (columns_of (uniformise L q seenL s)) CL)

@@ -34,8 +34,8 @@ rate_grows t w js =
     let T = over (targets js) [] in
     let P = over (rates js) [] in
     let ks = add_rate t w (jumps_of (take m T) (take m P)) in
-    let L : LaidJumps js m [] [] T P = record { count = refl; in-targets = refl; in-rates = refl } in
-    let N : LaidJumps ks (length ks) T P (over (targets ks) T) (over (rates ks) P) = record { count = refl; in-targets = refl; in-rates = refl } in
+    let L : LaidJumps js m [] [] T P = record { count = refl; in_targets = refl; in_rates = refl } in
+    let N : LaidJumps ks (length ks) T P (over (targets ks) T) (over (rates ks) P) = record { count = refl; in_targets = refl; in_rates = refl } in
     let a = over_long (targets js) [] in
     let b = over_long (rates js) [] in
     let c = targets_length js in
@@ -87,6 +87,6 @@ rows_slender {S} {M} A q s h =
     let f : EdgesOf s S.states (row M s) = row_edges A s (omega arith) in
     let e : get_or (chain_rows q 0 (model S M)) s [] ≡ chain_row q s (row M s) = rows_at q (model S M) s (omega arith) ∙ ap (chain_row q s) (model_at S M s (omega arith)) in
     subst⁻¹ (Slender (length (chain_rows q 0 (model S M)))) e (record {
-      few = row_few q s S.states (row M s) f (A.others-few s (omega arith));
+      few = row_few q s S.states (row M s) f (A.others_few s (omega arith));
       low = λ y i. let g = row_inside q S.states s y (row M s) (omega arith) (aims s S.states (row M s) f) i in omega arith;
     })

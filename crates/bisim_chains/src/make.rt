@@ -15,7 +15,7 @@ use chains::chain::{Rated, common_rate, lay_chain};
 use normalise::scale_together;
 
 // The number of the first check that fails, 0 if none does; counts and initial states of both chains, 0 behind a refusal.
-#[derive(Drop)]
+#[derive(Clone, Copy)]
 pub struct Chains {
     pub refusal: u32,
     pub left: ChainShape,

@@ -8,7 +8,7 @@ use distance_theory::{MetricOptions, excessive};
 use numbers::ONE;
 
 // The arguments of `bisim_distance` that concern no model: the discount, the options, how long the lists of pairs are, and how many contribution records there are.
-#[derive(Drop)]
+#[derive(Clone, Copy)]
 pub struct Rest {
     pub gamma: f64,
     pub options: MetricOptions,

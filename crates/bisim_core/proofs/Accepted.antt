@@ -85,13 +85,13 @@ accepted S M e =
   where
     known : Small S → Fit S M → all joined_weighs (rows M 0 S.states) ≡ true → crowded_in (rows M 0 S.states) (span 0 S.states) ≡ false → Accepted S M
     known Z F w c = record {
-      states_few = Z.states-in;
-      edges_few = Z.edges-in;
+      states_few = Z.states_in;
+      edges_few = Z.edges_in;
       labels_few = Z.labels_in;
-      offsets_long = F.room.offsets-in;
-      edge_labels_long = F.room.edge-labels-in;
-      edge_targets_long = F.room.edge-targets-in;
-      edge_weights_long = F.room.edge-weights-in;
+      offsets_long = F.room.offsets_in;
+      edge_labels_long = F.room.edge_labels_in;
+      edge_targets_long = F.room.edge_targets_in;
+      edge_weights_long = F.room.edge_weights_in;
       labels_long = F.room.labels_in;
       start_in = λ s i. started_in S.initial S.states s F.start i;
       begins_first = F.order.first;
@@ -112,8 +112,8 @@ accepted S M e =
 
 module _ {S : Shape} {M : Columns} (A : Accepted S M) where
   pub begins_mono : (s t : ℕ) → s ≤ t → t ≤ S.states → begins M s ≤ begins M t
-  begins_mono s t h k = begins_up M S.states A.begins-rise s t h k
+  begins_mono s t h k = begins_up M S.states A.begins_rise s t h k
 
   -- every edge of a row is an edge of the model
   pub begins_in : (s : ℕ) → s ≤ S.states → begins M s ≤ S.edges
-  begins_in s h = let a = begins_mono s S.states h (omega arith) in let b = A.begins-last in omega arith
+  begins_in s h = let a = begins_mono s S.states h (omega arith) in let b = A.begins_last in omega arith

@@ -21,14 +21,14 @@ use Rattle.bisim_core.proofs.Models.{rows_every}
 
 pub record Small (S : Shape) : Type 0 where
   pub states_in : S.states ≤ 2000
-  pub edges_in_lem : S.edges ≤ 4096
+  pub edges_in : S.edges ≤ 4096
   pub labels_in : S.labels ≤ 256
 
 pub small : (S : Shape) → large S ≡ false → Small S
 small S e =
     let a = or_f _ _ e in
     let b = or_f _ _ a.1 in
-    record { states_in = ltb-false 2000 S.states a.0; edges_in_lem = ltb-false 4096 S.edges b.0; labels_in = ltb-false 256 S.labels b.1 }
+    record { states_in = ltb-false 2000 S.states a.0; edges_in = ltb-false 4096 S.edges b.0; labels_in = ltb-false 256 S.labels b.1 }
 
 pub record Roomy (S : Shape) (M : Columns) : Type 0 where
   pub offsets_in : S.states < length M.offsets

@@ -4,27 +4,27 @@ ghost use Rattle.bisim_core.specs.Ids;
 ghost use Rattle.bisim_core.specs.Ids.{ends, listed};
 
 #[repr(C)]
-#[derive(Drop)]
+#[derive(Clone, Copy)]
 pub struct StateId(pub u32);
 
-#[derive(Drop)]
+#[derive(Clone, Copy)]
 pub struct LabelId(pub u32);
 
 // The id of a label value, and how many values the list then has.
-#[derive(Drop)]
+#[derive(Clone, Copy)]
 pub enum Interned {
     Id(LabelId, usize),
     Refused(u32),
 }
 
-#[derive(Drop)]
+#[derive(Clone, Copy)]
 pub enum Found {
     Id(LabelId),
     Absent,
     Refused(u32),
 }
 
-#[derive(Drop)]
+#[derive(Clone, Copy)]
 pub enum Resolved {
     Label(u32),
     Refused(u32),

@@ -6,13 +6,13 @@ ghost use Rattle.bisim_core.specs.Model.{model_refusal, starts_outside};
 use crate::check;
 use crate::ids::StateId;
 
-#[derive(Drop)]
+#[derive(Clone, Copy)]
 pub enum Initial {
     At(StateId),
     Absent,
 }
 
-#[derive(Drop)]
+#[derive(Clone, Copy)]
 pub struct Shape {
     pub states: usize,
     pub edges: usize,
@@ -20,13 +20,13 @@ pub struct Shape {
     pub initial: Initial,
 }
 
-#[derive(Drop)]
+#[derive(Clone, Copy)]
 pub enum Counted {
     Number(usize),
     Refused(u32),
 }
 
-#[derive(Drop)]
+#[derive(Clone, Copy)]
 pub enum Start {
     At(StateId),
     Absent,
@@ -34,7 +34,7 @@ pub enum Start {
 }
 
 // The edges of a state: from the first number up to, and without, the second.
-#[derive(Drop)]
+#[derive(Clone, Copy)]
 pub enum Successors {
     Edges(usize, usize),
     Refused(u32),

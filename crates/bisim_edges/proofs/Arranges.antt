@@ -113,12 +113,12 @@ module _ (Z : Call) where
       sortable A = record {
         keyable = record {
           few = let a = A.few in omega arith;
-          s-in = omega arith;
-          t-in = omega arith;
+          s_in = omega arith;
+          t_in = omega arith;
           room = let a = A.room in omega arith;
           low = λ j h. A.low few j (omega arith);
         };
-        t-low = λ j h. let a : get_or C.targets j 0 < states = ltb-true _ _ (all_given (λ x. ltb x states) C.targets given inside.1 j (omega arith) (omega arith)) in omega arith;
+        t_low = λ j h. let a : get_or C.targets j 0 < states = ltb-true _ _ (all_given (λ x. ltb x states) C.targets given inside.1 j (omega arith) (omega arith)) in omega arith;
       }
 
       module _ {I K : List ℕ} (S : Sorted C.sources C.targets n I K) where

@@ -254,7 +254,7 @@ module _ {K : List ℕ} {n : ℕ} {W : List Float} {seen : List ℕ} {count stat
   pub crowd_none : n ≤ j → Crowded K n W false
   crowd_none h = record {
     same = λ states all.
-        let a = I.j-in in
+        let a = I.j_in in
         let e : j ≡ n = omega arith in
         sym (crowded_not (nonzero (map (edge_of W) (take n K))) states (λ s k. le-ltb 31 (length (distinct (led K W n s))) (subst (λ (x : ℕ). length (distinct (led K W x s)) ≤ 31) e (calm_all s))));
   }

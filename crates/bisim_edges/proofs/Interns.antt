@@ -33,7 +33,7 @@ module _ {values : List ℕ} {n : ℕ} {store₀ ids₀ store ids : List ℕ} {i
   x = get_or values i 0
 
   known_length : length (take count store) ≡ count
-  known_length = length-take-le count store (let a = I.room in let b = I.store-size in omega arith)
+  known_length = length-take-le count store (let a = I.room in let b = I.store_size in omega arith)
 
   stepped : intern (take count store) (x ∷ slice (suc i) n values) ≡ distinct (take n values)
   stepped = ap (intern (take count store)) (sym (slice-cons i n values 0 h w)) ∙ I.same
@@ -44,7 +44,7 @@ module _ {values : List ℕ} {n : ℕ} {store₀ ids₀ store ids : List ℕ} {i
     where
       pick : (j ≡ i) ⊎ (j ≢ i) → get_or (set ids i k) j 0 ≡ seek (get_or values j 0) (distinct (take n values))
       pick (inl p) = subst (λ (m : ℕ). get_or (set ids i k) m 0 ≡ seek (get_or values m 0) (distinct (take n values))) (sym p)
-          (get_or-set_same ids i k 0 (let a = I.ids-size in omega arith) ∙ e)
+          (get_or-set_same ids i k 0 (let a = I.ids_size in omega arith) ∙ e)
       pick (inr p) = get_or-set_other ids i j k 0 p ∙ I.found j (omega arith)
 
   next_rest : (k j : ℕ) → n ≤ j → get_or (set ids i k) j 0 ≡ get_or ids₀ j 0
@@ -60,8 +60,8 @@ module _ {values : List ℕ} {n : ℕ} {store₀ ids₀ store ids : List ℕ} {i
       let go : intern (take count store) (slice (suc i) n values) ≡ distinct (take n values) = sym (intern_old (take count store) x (slice (suc i) n values) old) ∙ stepped in
       rw (p, q) (record {
         i_in = omega arith;
-        store_size = I.store-size;
-        ids_size = length-set ids i k ∙ I.ids-size;
+        store_size = I.store_size;
+        ids_size = length-set ids i k ∙ I.ids_size;
         room = I.room;
         single = I.single;
         same = rw (add-one i) go;
@@ -91,13 +91,13 @@ module _ {values : List ℕ} {n : ℕ} {store₀ ids₀ store ids : List ℕ} {i
         → (store' : List ℕ) (count' : ℕ) → store' ≡ set store count x → count' ≡ count + 1 → Interning values n store₀ ids₀ store' (set ids i k) (i + 1) count'
     turn_new r f store' count' p q =
         let a = I.room in
-        let b = I.store-size in
+        let b = I.store_size in
         let known : take (suc count) (set store count x) ≡ take count store ++ (x ∷ []) = take-suc-set store count x (omega arith) in
         let at : seek x (take count store ++ (x ∷ [])) ≡ length (take count store) = seek_new x (take count store) new in
         rw (p, q, add-one count) (record {
           i_in = omega arith;
           store_size = length-set store count x ∙ b;
-          ids_size = length-set ids i k ∙ I.ids-size;
+          ids_size = length-set ids i k ∙ I.ids_size;
           room = omega arith;
           single = rw known more_single;
           same = rw (add-one i, known) after;
@@ -116,7 +116,7 @@ module _ (values : List ℕ) (given : ℕ) {n : ℕ} (e : n ≡ min given (lengt
     pub interned : n ≤ i → Interned values given store₀ store ids₀ ids count
     unfolding intern
     interned h =
-        let a = I.i-in in
+        let a = I.i_in in
         let f : i ≡ n = omega arith in
         record {
           count = λ l. ap (intern (take count store)) (sym (ap (λ (j : ℕ). slice j n values) f ∙ slice_empty n values)) ∙ I.same ∙ given_is;
@@ -135,7 +135,7 @@ module _ (values : List ℕ) (given : ℕ) {n : ℕ} (e : n ≡ min given (lengt
 
 pub place_small : {values : List ℕ} {n : ℕ} {store₀ ids₀ store ids : List ℕ} {i count : ℕ} → Interning values n store₀ ids₀ store ids i count → (x k : ℕ) → k ≡ seek x (take count store) → k ≤ length store₀
 place_small {values} {n} {store₀} {ids₀} {store} {ids} {i} {count} I x k e =
-    let a = I.room in let b = I.store-size in
+    let a = I.room in let b = I.store_size in
     let l = length-take-le count store (omega arith) in
     let z = seek_le x (take count store) in
     omega arith

@@ -128,10 +128,10 @@ module _ (K : List ℕ) (n : ℕ) (W : List Float) (T₀ : List ℕ) (U₀ : Lis
 
   module _ (t-in : n ≤ length T₀) (u-in : n ≤ length U₀) {T : List ℕ} {U : List Float} {run : ℕ} {sum : Float} {m i : ℕ} (I : Joining K n W T₀ U₀ T U run sum m i) where
     m_t : m < length T₀
-    m_t = let a = I.m-low in let b = I.i-in in omega arith
+    m_t = let a = I.m_low in let b = I.i_in in omega arith
 
     m_u : m < length U₀
-    m_u = let a = I.m-low in let b = I.i-in in omega arith
+    m_u = let a = I.m_low in let b = I.i_in in omega arith
 
     pub t_size : length T ≡ length T₀
     t_size = let h = m_t in holds_t I.holds (omega arith)
@@ -143,8 +143,8 @@ module _ (K : List ℕ) (n : ℕ) (W : List Float) (T₀ : List ℕ) (U₀ : Lis
     room = let a = t_size in let b = u_size in let h = m_t in let k = m_u in (omega arith, omega arith)
 
     grown_low : (b : Bool) → grown b m ≤ i
-    grown_low true = let a = I.m-low in omega arith
-    grown_low false = let a = I.m-low in omega arith
+    grown_low true = let a = I.m_low in omega arith
+    grown_low false = let a = I.m_low in omega arith
 
     module _ (h : i < n) where
       abbrev k : ℕ
@@ -165,7 +165,7 @@ module _ (K : List ℕ) (n : ℕ) (W : List Float) (T₀ : List ℕ) (U₀ : Lis
       unfolding runs
       goes_on e T' U' run' sum' m' eT eU er es em = rw (eT, eU, er, es, em) (record {
         i_in = omega arith;
-        m_low = let a = I.m-low in omega arith;
+        m_low = let a = I.m_low in omega arith;
         made = I.made;
         holds = I.holds;
         same_edges = rw (add-one i) (ap (λ (l : List Edge). I.made ++ nonzero l) (sym step) ∙ I.same_edges);
@@ -217,7 +217,7 @@ module _ (K : List ℕ) (n : ℕ) (W : List Float) (T₀ : List ℕ) (U₀ : Lis
 
         step : runs (edge_in run sum) (map (edge_of W) (slice i n K)) ≡ edge_in run sum ∷ []
         step =
-            let a = I.i-in in
+            let a = I.i_in in
             let e : i ≡ n = omega arith in
             ap (λ (l : List ℕ). runs (edge_in run sum) (map (edge_of W) l)) (ap (λ (x : ℕ). slice x n K) e ∙ slice_empty n K)
 

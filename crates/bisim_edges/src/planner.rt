@@ -14,7 +14,7 @@ use build_theory::fault;
 use numbers::{least, lesser};
 
 // How many edges and how many labels there are, or the number of the first check that fails.
-#[derive(Drop)]
+#[derive(Clone, Copy)]
 pub enum Planned {
     Edges(usize, usize),
     Refused(u32),

@@ -56,10 +56,10 @@ module _ {S : Shape} {M : Columns} {s : ℕ} {seen : List Float} {C : ChainColum
   pub can_run : fits (shape_of chain) (laid (columns_of chain) C) ≡ true
   unfolding uniformise
   can_run =
-      let X : Accepted S M = accepted S M P.model-passes in
+      let X : Accepted S M = accepted S M P.model_passes in
       let k = rows_length q 0 (model S M) in
       let n = model_length S M in
-      laid_fits chain C sized (let f = X.states-few in omega arith) (let f = P.state-in in omega arith) (λ i h. rows_slender X q i h)
+      laid_fits chain C sized (let f = X.states_few in omega arith) (let f = P.state_in in omega arith) (λ i h. rows_slender X q i h)
 
 -- ---- room for the pairs
 

@@ -79,10 +79,10 @@ module _ (A : Chain) (C : ChainColumns) where
 
   lies : jumps.Laid J [] C.offsets C.targets C.probabilities (over (exits J) []) O T P
   lies = record {
-    exits-are = refl;
-    starts-are = ap (λ (l : List ℕ). over l C.offsets) (starts_wrap 0 R);
-    targets-are = ap (λ (l : List Jump). over (targets l) C.targets) (joined_wrap R);
-    probs-are = ap (λ (l : List Jump). over (rates l) C.probabilities) (joined_wrap R);
+    exits_are = refl;
+    starts_are = ap (λ (l : List ℕ). over l C.offsets) (starts_wrap 0 R);
+    targets_are = ap (λ (l : List Jump). over (targets l) C.targets) (joined_wrap R);
+    probs_are = ap (λ (l : List Jump). over (rates l) C.probabilities) (joined_wrap R);
   }
 
   holds : Holds J (over (exits J) []) O T P

@@ -82,7 +82,7 @@ module _ (SL : Shape) (ML : Columns) (SR : Shape) (MR : Columns) (cl cr : List �
         let b = bytes_of in
         let r = P.room in
         let w : length (over (packed R) store) ≡ length store = over_length (packed R) store (omega arith) in
-        let v = related_answer SL.states SR.states R (drop (length (packed R)) store) (start SL.initial) (start SR.initial) entries (start_below SL ML P.left a.0) (start_below SR MR P.right a.1) P.left.states-few P.right.states-few (omega arith) P.few in
+        let v = related_answer SL.states SR.states R (drop (length (packed R)) store) (start SL.initial) (start SR.initial) entries (start_below SL ML P.left a.0) (start_below SR MR P.right a.1) P.left.states_few P.right.states_few (omega arith) P.few in
         ap (λ (x : Verdict). ends x (replicate (length (over (packed R) store)) 0)) (v ∙ ap verdict (sym is_bisimilar)) ∙ ap (λ (n : ℕ). ends (verdict (bisimilar SL ML SR MR cl cr ε ρ)) (replicate n 0)) w
 
     settle : (n : ℕ) → bisimilar_refusal SL ML SR MR cl cr ε ρ (length store) ≡ n

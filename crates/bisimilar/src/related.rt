@@ -6,7 +6,7 @@ use bisim_core::ids::StateId;
 use numbers::bit;
 
 // The number of the first check that fails, or whether the states are related.
-#[derive(Drop)]
+#[derive(Clone, Copy)]
 pub enum Verdict {
     Related,
     Unrelated,

@@ -92,4 +92,4 @@ module _ {T : List ℕ} {m states : ℕ} {off₀ off : List ℕ} {s p : ℕ} (I 
         }
 
   pub offsets_done : states < s → (U : List Float) → off ≡ offsets states (edges_in T U m) ++ lib.ListN.drop (length (offsets states (edges_in T U m))) off₀
-  offsets_done h U = over_done (offsets states (edges_in T U m)) off₀ off s (I.out U) (let a = I.s-in in let y = offsets_length U in omega arith)
+  offsets_done h U = over_done (offsets states (edges_in T U m)) off₀ off s (I.out U) (let a = I.s_in in let y = offsets_length U in omega arith)

@@ -1,4 +1,6 @@
 // The checks of transitions in columns that need no work space.
+#![tactic(auto)]
+
 ghost use Rattle.std.specs.Prelude.{◌≡◌, ◌||◌, [], ltb, take};
 ghost use Rattle.numbers.specs.Lists.{all};
 ghost use Rattle.numbers.specs.Refuse.{check};

@@ -67,7 +67,7 @@ laws = record {
   fits = printed_fits;
   no_card = λ bs n e. sym (printed_refused bs n e);
   refused_card = λ bs c n e f. card_text_lem bs c e (suc n) f;
-  low_factor = λ bs c e. let w = (layout_read bs c e).1 in tolerances_below c.epsilon c.rho w.epsilon-fits w.rho-fits;
+  low_factor = λ bs c e. let w = (layout_read bs c e).1 in tolerances_below c.epsilon c.rho w.epsilon_fits w.rho_fits;
   passed = λ bs c P. card_text_lem bs c P.reads 0 P.none;
   sound = λ bs c P. card_sound c (layout_read bs c P.reads).1 P.none;
   only = only;

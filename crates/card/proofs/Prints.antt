@@ -28,11 +28,11 @@ zeros = answers.columns (replicate 64 0) (replicate 400 0) (replicate 400 0) (re
 
 zeros_long : Long zeros
 zeros_long = record {
-  classes-long = rw (length-replicate {A = ℕ} 64 0) (omega arith);
-  sources-long = rw (length-replicate {A = ℕ} 400 0) (omega arith);
-  labels-long = rw (length-replicate {A = ℕ} 400 0) (omega arith);
-  targets-long = rw (length-replicate {A = ℕ} 400 0) (omega arith);
-  weights-long = rw (length-replicate {A = Float} 400 nought) (omega arith);
+  classes_long = rw (length-replicate {A = ℕ} 64 0) (omega arith);
+  sources_long = rw (length-replicate {A = ℕ} 400 0) (omega arith);
+  labels_long = rw (length-replicate {A = ℕ} 400 0) (omega arith);
+  targets_long = rw (length-replicate {A = ℕ} 400 0) (omega arith);
+  weights_long = rw (length-replicate {A = Float} 400 nought) (omega arith);
 }
 
 -- ---- what the reader answered
@@ -53,10 +53,10 @@ module _ {bs : List ℕ} {k : answers.Columns} {r : Read} (A : Answered bs zeros
   was_card {h} e = answered_card bs zeros k zeros_long h (subst (λ (x : Read). Answered bs zeros x k) e A)
 
   pub was_room : {h : Heads} → r ≡ reads.Card h → Room h k
-  was_room {h} e = let F = was_card e in card_room F.the-card h k F.lists.its-heads F.within F.long
+  was_room {h} e = let F = was_card e in card_room F.the_card h k F.lists.its_heads F.within F.long
 
   pub was_printed : {h : Heads} → r ≡ reads.Card h → heads_text h k ≡ printed bs
-  was_printed {h} e = let F = was_card e in listed_text F.the-card h k F.within F.long F.lists ∙ printed_card bs F.the-card F.reads
+  was_printed {h} e = let F = was_card e in listed_text F.the_card h k F.within F.long F.lists ∙ printed_card bs F.the_card F.reads
 
 -- ---- how long a text is
 

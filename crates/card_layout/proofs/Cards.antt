@@ -61,7 +61,7 @@ passed bs e =
 
 pub passes : (bs : List ℕ) → Passed bs → side_fault bs 0 ≡ 0
 unfolding side_fault
-passes bs p = rw (p.head-laid, le-ltb 32 _ p.few-states, le-ltb 200 _ p.few-transitions, p.classes-laid, p.transitions-laid)
+passes bs p = rw (p.head_laid, le-ltb 32 _ p.few_states, le-ltb 200 _ p.few_transitions, p.classes_laid, p.transitions_laid)
 
 -- ---- the rows of a model, and its numbers
 
@@ -108,15 +108,15 @@ unfolding side_text side_in
 side_split bs p =
     let n = states bs in
     let m = count bs in
-    let h : bs ≡ lines (head_row (side_in bs) ∷ []) ++ class_part bs = laid_split 1 3 bs p.head-laid ∙ ap (λ (x : List (List ℕ)). lines x ++ drop 19 bs) (head_row_lem bs) in
+    let h : bs ≡ lines (head_row (side_in bs) ∷ []) ++ class_part bs = laid_split 1 3 bs p.head_laid ∙ ap (λ (x : List (List ℕ)). lines x ++ drop 19 bs) (head_row_lem bs) in
     let i : 19 + n * 7 ≡ 19 + 7 * n = omega arith in
     let j : 19 + 7 * n + m * 25 ≡ 19 + 7 * n + 25 * m = omega arith in
     let k : class_part bs ≡ lines (map class_row (classes_in n (class_part bs))) ++ transition_part bs =
-    laid_split n 1 (class_part bs) p.classes-laid
+    laid_split n 1 (class_part bs) p.classes_laid
     ∙ ap (λ (x : List (List ℕ)). lines x ++ drop (n * 7) (class_part bs)) (class_rows n (class_part bs))
     ∙ ap (λ (x : List ℕ). lines (map class_row (classes_in n (class_part bs))) ++ x) (drop-drop (n * 7) 19 bs ∙ ap (λ (x : ℕ). drop x bs) i) in
     let l : transition_part bs ≡ lines (map transition_row (transitions_in m (transition_part bs))) ++ after_side bs =
-    laid_split m 4 (transition_part bs) p.transitions-laid
+    laid_split m 4 (transition_part bs) p.transitions_laid
     ∙ ap (λ (x : List (List ℕ)). lines x ++ drop (m * 25) (transition_part bs)) (transition_rows m (transition_part bs))
     ∙ ap (λ (x : List ℕ). lines (map transition_row (transitions_in m (transition_part bs))) ++ x) (drop-drop (m * 25) (19 + 7 * n) bs ∙ ap (λ (x : ℕ). drop x bs) j) in
     h
@@ -147,13 +147,13 @@ unfolding side_in
 side_within bs p =
     let n = states bs in
     let m = count bs in
-    let h : AllRows 3 ((value bs ∷ value (drop 6 bs) ∷ value (drop 12 bs) ∷ []) ∷ []) = rw (row_three bs) at (rows_fit_lem 1 3 bs p.head-laid) in
-    let k : AllRows 1 (map class_row (classes_in n (class_part bs))) = rw (class_rows n (class_part bs)) at (rows_fit_lem n 1 (class_part bs) p.classes-laid) in
-    let l : AllRows 4 (map transition_row (transitions_in m (transition_part bs))) = rw (transition_rows m (transition_part bs)) at (rows_fit_lem m 4 (transition_part bs) p.transitions-laid) in
+    let h : AllRows 3 ((value bs ∷ value (drop 6 bs) ∷ value (drop 12 bs) ∷ []) ∷ []) = rw (row_three bs) at (rows_fit_lem 1 3 bs p.head_laid) in
+    let k : AllRows 1 (map class_row (classes_in n (class_part bs))) = rw (class_rows n (class_part bs)) at (rows_fit_lem n 1 (class_part bs) p.classes_laid) in
+    let l : AllRows 4 (map transition_row (transitions_in m (transition_part bs))) = rw (transition_rows m (transition_part bs)) at (rows_fit_lem m 4 (transition_part bs) p.transitions_laid) in
     record {
-      few_states = rw (length_classes n (class_part bs)) p.few-states;
-      few_transitions = rw (length_transitions m (transition_part bs)) p.few-transitions;
-      initial-fits = h.1.1.0;
+      few_states = rw (length_classes n (class_part bs)) p.few_states;
+      few_transitions = rw (length_transitions m (transition_part bs)) p.few_transitions;
+      initial_fits = h.1.1.0;
       classes_fit = classes_fit (classes_in n (class_part bs)) k;
       transitions_fit = transitions_fit (transitions_in m (transition_part bs)) l;
     }
@@ -184,7 +184,7 @@ none (b ∷ bs) e = absurd (omega arith)
 last_split : (bs : List ℕ) → Accepted bs → last_part bs ≡ lines (settings_row (card_in bs) ∷ [])
 unfolding card_in
 last_split bs a =
-    laid_split 1 2 (last_part bs) a.last-laid
+    laid_split 1 2 (last_part bs) a.last_laid
     ∙ ap (λ (x : List (List ℕ)). lines x ++ drop 13 (last_part bs)) (row_two (last_part bs))
     ∙ ap (λ (x : List ℕ). lines (settings_row (card_in bs) ∷ []) ++ x) (none _ a.ended)
     ∙ append-nil _
@@ -193,18 +193,18 @@ laid_again : (bs : List ℕ) → Accepted bs → layout (card_in bs) ≡ bs
 unfolding layout card_in
 laid_again bs a =
     ap (λ (x : List ℕ). side_text (side_in bs) ++ (side_text (side_in (after_side bs)) ++ x)) (sym (last_split bs a))
-    ∙ ap (λ (x : List ℕ). side_text (side_in bs) ++ x) (sym (side_split (after_side bs) a.right-passed))
+    ∙ ap (λ (x : List ℕ). side_text (side_in bs) ++ x) (sym (side_split (after_side bs) a.right_passed))
     ∙ sym (side_split bs a.left_passed)
 
 card_within : (bs : List ℕ) → Accepted bs → Within (card_in bs)
 unfolding card_in
 card_within bs a =
-    let h : AllRows 2 ((value (last_part bs) ∷ value (drop 6 (last_part bs)) ∷ []) ∷ []) = rw (row_two (last_part bs)) at (rows_fit_lem 1 2 (last_part bs) a.last-laid) in
+    let h : AllRows 2 ((value (last_part bs) ∷ value (drop 6 (last_part bs)) ∷ []) ∷ []) = rw (row_two (last_part bs)) at (rows_fit_lem 1 2 (last_part bs) a.last_laid) in
     record {
-      left-within = side_within bs a.left_passed;
-      right-within = side_within (after_side bs) a.right-passed;
-      epsilon-fits = h.1.0;
-      rho-fits = h.1.1.0;
+      left_within = side_within bs a.left_passed;
+      right_within = side_within (after_side bs) a.right_passed;
+      epsilon_fits = h.1.0;
+      rho_fits = h.1.1.0;
     }
 
 outcome_card : (n : ℕ) (c d : Card) → outcome n c ≡ card d → (n ≡ 0) × (c ≡ d)
@@ -265,9 +265,9 @@ module _ (s : Side) (r : List ℕ) (w : SideWithin s) where
 
   head_fits : AllRows 3 (head_row s ∷ [])
   head_fits =
-      let a = w.few-states in
-      let b = w.few-transitions in
-      (refl, (omega arith, (w.initial-fits, (omega arith, tt))), tt)
+      let a = w.few_states in
+      let b = w.few_transitions in
+      (refl, (omega arith, (w.initial_fits, (omega arith, tt))), tt)
 
   head_back : (value here ∷ value (drop 6 here) ∷ value (drop 12 here) ∷ []) ∷ [] ≡ head_row s ∷ []
   head_back = sym (row_three here) ∙ rows_lines 3 (head_row s ∷ []) (lines cs ++ (lines ms ++ r)) head_fits
@@ -285,10 +285,10 @@ module _ (s : Side) (r : List ℕ) (w : SideWithin s) where
   class_part_lem = drop_at (lines (head_row s ∷ [])) (lines cs ++ (lines ms ++ r)) 19 (length_lines 3 (head_row s ∷ []) head_fits)
 
   classes_length : length (lines cs) ≡ 7 * length s.classes
-  classes_length = let e = length_lines 1 cs (class_rows_fit s.classes w.classes-fit) in let f = length-map s.classes class_row in omega arith
+  classes_length = let e = length_lines 1 cs (class_rows_fit s.classes w.classes_fit) in let f = length-map s.classes class_row in omega arith
 
   transitions_length : length (lines ms) ≡ 25 * length s.transitions
-  transitions_length = let e = length_lines 4 ms (transition_rows_fit s.transitions w.transitions-fit) in let f = length-map s.transitions transition_row in omega arith
+  transitions_length = let e = length_lines 4 ms (transition_rows_fit s.transitions w.transitions_fit) in let f = length-map s.transitions transition_row in omega arith
 
   transition_part_lem : transition_part here ≡ lines ms ++ r
   transition_part_lem =
@@ -308,16 +308,16 @@ module _ (s : Side) (r : List ℕ) (w : SideWithin s) where
   unfolding side_in
   side_back =
       same_side s _ _ _ initial_back
-      (rw (states_back, class_part_lem) (classes_back s.classes (lines ms ++ r) w.classes-fit))
-      (rw (count_back, transition_part_lem) (transitions_back s.transitions r w.transitions-fit))
+      (rw (states_back, class_part_lem) (classes_back s.classes (lines ms ++ r) w.classes_fit))
+      (rw (count_back, transition_part_lem) (transitions_back s.transitions r w.transitions_fit))
 
   side_passes : Passed here
   side_passes = record {
     head_laid = laid_lines 3 (head_row s ∷ []) (lines cs ++ (lines ms ++ r)) head_fits;
-    few_states = rw states_back w.few-states;
-    few_transitions = rw count_back w.few-transitions;
-    classes_laid = rw (states_back, class_part_lem, ← length-map s.classes class_row) (laid_lines 1 cs (lines ms ++ r) (class_rows_fit s.classes w.classes-fit));
-    transitions_laid = rw (count_back, transition_part_lem, ← length-map s.transitions transition_row) (laid_lines 4 ms r (transition_rows_fit s.transitions w.transitions-fit));
+    few_states = rw states_back w.few_states;
+    few_transitions = rw count_back w.few_transitions;
+    classes_laid = rw (states_back, class_part_lem, ← length-map s.classes class_row) (laid_lines 1 cs (lines ms ++ r) (class_rows_fit s.classes w.classes_fit));
+    transitions_laid = rw (count_back, transition_part_lem, ← length-map s.transitions transition_row) (laid_lines 4 ms r (transition_rows_fit s.transitions w.transitions_fit));
   }
 
   -- the same of the model's text
@@ -340,8 +340,8 @@ module _ (s : Side) (r : List ℕ) (w : SideWithin s) where
       let a = classes_length in
       let b = transitions_length in
       let d = length_lines 3 (head_row s ∷ []) head_fits in
-      let e = w.few-states in
-      let f = w.few-transitions in
+      let e = w.few_states in
+      let f = w.few_transitions in
       simp length-append (omega arith)
 
 -- ---- the layout of a card reads as that card
@@ -351,7 +351,7 @@ module _ (c : Card) (w : Within c) where
   settings = lines (settings_row c ∷ [])
 
   settings_fit : AllRows 2 (settings_row c ∷ [])
-  settings_fit = (refl, (w.epsilon-fits, (w.rho-fits, tt)), tt)
+  settings_fit = (refl, (w.epsilon_fits, (w.rho_fits, tt)), tt)
 
   settings_back : (value settings ∷ value (drop 6 settings) ∷ []) ∷ [] ≡ settings_row c ∷ []
   settings_back =
@@ -367,16 +367,16 @@ module _ (c : Card) (w : Within c) where
   last_back : last_part (layout c) ≡ settings
   unfolding layout
   last_back =
-      ap after_side (text_after c.left (side_text c.right ++ settings) w.left-within)
-      ∙ text_after c.right settings w.right-within
+      ap after_side (text_after c.left (side_text c.right ++ settings) w.left_within)
+      ∙ text_after c.right settings w.right_within
 
   no_fault : fault (layout c) ≡ 0
   unfolding layout
   no_fault =
-      let a = text_passes c.left (side_text c.right ++ settings) w.left-within in
-      let d = text_after c.left (side_text c.right ++ settings) w.left-within in
-      let b = text_passes c.right settings w.right-within in
-      let e = text_after c.right settings w.right-within in
+      let a = text_passes c.left (side_text c.right ++ settings) w.left_within in
+      let d = text_after c.left (side_text c.right ++ settings) w.left_within in
+      let b = text_passes c.right settings w.right_within in
+      let e = text_after c.right settings w.right_within in
       fault_parts (layout c) ∙ rw (a, d, b, e) settings_pass
 
   same_card : card_in (layout c) ≡ c
@@ -384,9 +384,9 @@ module _ (c : Card) (w : Within c) where
   same_card =
       let s = settings_back in
       let l = last_back in
-      let a : side_in (layout c) ≡ c.left = text_back c.left (side_text c.right ++ settings) w.left-within in
+      let a : side_in (layout c) ≡ c.left = text_back c.left (side_text c.right ++ settings) w.left_within in
       let b : side_in (after_side (layout c)) ≡ c.right =
-      ap side_in (text_after c.left (side_text c.right ++ settings) w.left-within) ∙ text_back c.right settings w.right-within in
+      ap side_in (text_after c.left (side_text c.right ++ settings) w.left_within) ∙ text_back c.right settings w.right_within in
       let d : value settings ≡ c.epsilon = first_of _ _ _ _ s in
       let e : value (drop 6 settings) ≡ c.rho = second_of _ _ _ _ s in
       card_of c _ _ _ _ a b (ap value l ∙ d) (ap (λ (x : List ℕ). value (drop 6 x)) l ∙ e)
@@ -414,8 +414,8 @@ module _ (c : Card) (w : Within c) where
   pub layout_length : length (layout c) ≤ 10499
   unfolding layout
   layout_length =
-      let a = text_length c.left [] w.left-within in
-      let b = text_length c.right [] w.right-within in
+      let a = text_length c.left [] w.left_within in
+      let b = text_length c.right [] w.right_within in
       let d = length_lines 2 (settings_row c ∷ []) settings_fit in
       simp length-append (omega arith)
 
@@ -445,8 +445,8 @@ after_take : (m : ℕ) (bs : List ℕ) → Passed bs → 5243 ≤ m → after_si
 after_take m bs p h =
     let v : value (take m bs) ≡ value bs = value_take m bs (omega arith) in
     let w : value (drop 12 (take m bs)) ≡ value (drop 12 bs) = value_at 12 m bs (omega arith) in
-    let n = p.few-states in
-    let k = p.few-transitions in
+    let n = p.few_states in
+    let k = p.few_transitions in
     rw (v, w) (drop_take_le (side_size bs) m bs (omega arith))
 
 last_take : (m : ℕ) (bs : List ℕ) → 14 ≤ m → last_fault (take m bs) ≡ last_fault bs
@@ -465,13 +465,13 @@ fault_take m bs h = fault_parts (take m bs) ∙ rw (side_take m bs (omega arith)
     rest : side_fault bs 0 ≡ 0 → first (side_fault (after_side (take m bs)) 0) (last_fault (last_part (take m bs))) ≡ first (side_fault (after_side bs) 0) (last_fault (last_part bs))
     rest e =
         let p = passed bs e in
-        let n = p.few-states in
-        let k = p.few-transitions in
+        let n = p.few_states in
+        let k = p.few_transitions in
         rw (after_take m bs p (omega arith), side_take (m - side_size bs) (after_side bs) (omega arith))
         (first_same (side_fault (after_side bs) 0) _ _ (λ f.
         let q = passed (after_side bs) f in
-        let n' = q.few-states in
-        let k' = q.few-transitions in
+        let n' = q.few_states in
+        let k' = q.few_transitions in
         rw (after_take (m - side_size bs) (after_side bs) q (omega arith)) (last_take (m - side_size bs - side_size (after_side bs)) (last_part bs) (omega arith))))
 
 -- THE THIRD LAW: the first 10,500 bytes decide

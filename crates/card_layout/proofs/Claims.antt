@@ -24,7 +24,7 @@ laws = record {
   reads_back = read_layout;
   lays_again = layout_read;
   refuses = which;
-  too_large_lem = too_large_lem;
+  too_large = too_large_lem;
   greatest = layout_length;
   first_bytes = λ bs. read_take 10500 bs (omega arith);
   exact = λ m h. unsigned_back binary64 32 m.weight (whole m.weight h) (let l : 1000000 < 2 ^ 32 = lit< tt in omega arith);
@@ -49,15 +49,15 @@ worked = record { left = side 2; right = side 4; epsilon = 0; rho = 2048 }
 
 side_within : (w : ℕ) → w < 1000000 → SideWithin (side w)
 side_within w h = record {
-  few-states = omega arith;
-  few-transitions = omega arith;
-  initial-fits = omega arith;
-  classes-fit = (omega arith, (omega arith, tt));
-  transitions-fit = ((omega arith, (omega arith, (omega arith, (h, tt)))), tt);
+  few_states = omega arith;
+  few_transitions = omega arith;
+  initial_fits = omega arith;
+  classes_fit = (omega arith, (omega arith, tt));
+  transitions_fit = ((omega arith, (omega arith, (omega arith, (h, tt)))), tt);
 }
 
 pub worked_within : Within worked
-worked_within = record { left-within = side_within 2 (omega arith); right-within = side_within 4 (omega arith); epsilon-fits = omega arith; rho-fits = omega arith }
+worked_within = record { left_within = side_within 2 (omega arith); right_within = side_within 4 (omega arith); epsilon_fits = omega arith; rho_fits = omega arith }
 
 pub worked_card : read (layout worked) ≡ card worked
 unfolding read fault last_fault side_fault card_in side_in transitions_in classes_in layout side_text rows numbers value digit starts lines line column place

@@ -94,8 +94,8 @@ module _ (s : Side) (w : SideWithin s) where
 
   not_oversized : oversized states C n ≡ false
   not_oversized =
-      let a = w.few-states in
-      let b = w.few-transitions in
+      let a = w.few_states in
+      let b = w.few_transitions in
       let d = distinct_length (take n C.labels) in
       let e = length-take n C.labels in
       none _ _ (le-ltb 2000 states (omega arith)) (none _ _ (le-ltb 4096 n (omega arith)) (le-ltb 256 (length (labels_of C n)) (omega arith)))
@@ -107,7 +107,7 @@ module _ (s : Side) (w : SideWithin s) where
       ∙ ap (λ (b : Bool). not (ltb s.initial states) || b) (not_both (all (λ x. ltb x states) C.sources) (all (λ x. ltb x states) C.targets) ∙ ap not (all_inside states s.transitions))
 
   all_weighed : unweighed C n ≡ false
-  all_weighed = ap (λ (l : List Float). not (all weighs l)) (whole weight_of) ∙ ap not (all_weigh s.transitions w.transitions-fit)
+  all_weighed = ap (λ (l : List Float). not (all weighs l)) (whole weight_of) ∙ ap not (all_weigh s.transitions w.transitions_fit)
 
   module _ (h : stray s ≡ false) where
     target_low : (j : ℕ) → j < n → get_or C.targets j 0 < states
@@ -121,7 +121,7 @@ module _ (s : Side) (w : SideWithin s) where
     targets_low = all_nonzero (λ a. a.target < states) (jumps C n) (all_span (λ a. a.target < states) (jump_at C) 0 (reach C n) (λ j a b. target_low j (omega arith)))
 
     not_crowded : crowded states C n ≡ false
-    not_crowded = uncrowded states (nonzero (jumps C n)) w.few-states targets_low
+    not_crowded = uncrowded states (nonzero (jumps C n)) w.few_states targets_low
 
   none_missing : missing C n ≡ false
   none_missing =
@@ -133,8 +133,8 @@ module _ (s : Side) (w : SideWithin s) where
 
   not_short : short states n blank ≡ false
   not_short =
-      let a = w.few-states in
-      let b = w.few-transitions in
+      let a = w.few_states in
+      let b = w.few_transitions in
       let o = length-replicate {A = ℕ} 33 0 in
       let l = length-replicate {A = ℕ} 200 0 in
       let f = length-replicate {A = Float} 200 nought in
@@ -209,22 +209,22 @@ module _ (c : Card) (w : Within c) where
   MR = (built_of c.right).memory
 
   abbrev SL : Shape
-  SL = shape c.left w.left-within
+  SL = shape c.left w.left_within
 
   abbrev SR : Shape
-  SR = shape c.right w.right-within
+  SR = shape c.right w.right_within
 
   module _ (h : stray c.left ≡ false) (k : stray c.right ≡ false) where
     nine : epsdelta_refusal SL ML SR MR c.left.classes c.right.classes (parts c.epsilon) (parts c.rho) (relation_bytes (SL.states + SR.states))
         ≡ check 9 (tolerances_outside (parts c.epsilon) (parts c.rho)) 0
-    nine = only_nine SL ML SR MR c.left.classes c.right.classes (parts c.epsilon) (parts c.rho) (accepted c.left w.left-within h) (accepted c.right w.right-within k)
-        w.left-within.few-states w.right-within.few-states (omega arith) (omega arith)
+    nine = only_nine SL ML SR MR c.left.classes c.right.classes (parts c.epsilon) (parts c.rho) (accepted c.left w.left_within h) (accepted c.right w.right_within k)
+        w.left_within.few_states w.right_within.few_states (omega arith) (omega arith)
 
     given_is : given SL ML SR MR c.left.classes c.right.classes (parts c.epsilon) (parts c.rho) ≡ card_given c
     unfolding given card_given
     given_is =
-        ap (λ (L : List (List Edge)). given_rows (union L (model SR MR)) (take SL.states c.left.classes ++ take SR.states c.right.classes) (parts c.epsilon) (parts c.rho)) (model_is c.left w.left-within h)
-        ∙ ap (λ (R : List (List Edge)). given_rows (union (model_of c.left) R) (take SL.states c.left.classes ++ take SR.states c.right.classes) (parts c.epsilon) (parts c.rho)) (model_is c.right w.right-within k)
+        ap (λ (L : List (List Edge)). given_rows (union L (model SR MR)) (take SL.states c.left.classes ++ take SR.states c.right.classes) (parts c.epsilon) (parts c.rho)) (model_is c.left w.left_within h)
+        ∙ ap (λ (R : List (List Edge)). given_rows (union (model_of c.left) R) (take SL.states c.left.classes ++ take SR.states c.right.classes) (parts c.epsilon) (parts c.rho)) (model_is c.right w.right_within k)
         ∙ ap (λ (l : List ℕ). given_rows (union (model_of c.left) (model_of c.right)) (l ++ take SR.states c.right.classes) (parts c.epsilon) (parts c.rho)) (take-length c.left.classes)
         ∙ ap (λ (l : List ℕ). given_rows (union (model_of c.left) (model_of c.right)) (c.left.classes ++ l) (parts c.epsilon) (parts c.rho)) (take-length c.right.classes)
 
@@ -251,27 +251,27 @@ module _ (c : Card) (w : Within c) where
     where
       pick : (p : Bool) → stray c.left ≡ p → (q : Bool) → stray c.right ≡ q → printing (built_of c.left).answer (built_of c.right).answer ≡ wanted (stray c.left || stray c.right)
       pick true e true f =
-          ap (λ (o : Outcome). printing o.answer (built_of c.right).answer) (built_stray c.left w.left-within e)
-          ∙ ap (λ (o : Outcome). printing (built.Refused 4) o.answer) (built_stray c.right w.right-within f)
+          ap (λ (o : Outcome). printing o.answer (built_of c.right).answer) (built_stray c.left w.left_within e)
+          ∙ ap (λ (o : Outcome). printing (built.Refused 4) o.answer) (built_stray c.right w.right_within f)
           ∙ ap (λ (b : Bool). wanted (b || stray c.right)) (sym e)
       pick true e false f =
-          ap (λ (o : Outcome). printing o.answer (built_of c.right).answer) (built_stray c.left w.left-within e)
-          ∙ ap (λ (y : Built). printing (built.Refused 4) y) (built_model c.right w.right-within f)
+          ap (λ (o : Outcome). printing o.answer (built_of c.right).answer) (built_stray c.left w.left_within e)
+          ∙ ap (λ (y : Built). printing (built.Refused 4) y) (built_model c.right w.right_within f)
           ∙ ap (λ (b : Bool). wanted (b || stray c.right)) (sym e)
       pick false e true f =
-          ap (λ (x : Built). printing x (built_of c.right).answer) (built_model c.left w.left-within e)
-          ∙ ap (λ (o : Outcome). printing (built.Model SL) o.answer) (built_stray c.right w.right-within f)
+          ap (λ (x : Built). printing x (built_of c.right).answer) (built_model c.left w.left_within e)
+          ∙ ap (λ (o : Outcome). printing (built.Model SL) o.answer) (built_stray c.right w.right_within f)
           ∙ ap (λ (b : Bool). wanted (b || true)) (sym e) ∙ ap (λ (b : Bool). wanted (stray c.left || b)) (sym f)
       pick false e false f =
-          ap (λ (x : Built). printing x (built_of c.right).answer) (built_model c.left w.left-within e)
-          ∙ ap (λ (y : Built). printing (built.Model SL) y) (built_model c.right w.right-within f)
+          ap (λ (x : Built). printing x (built_of c.right).answer) (built_model c.left w.left_within e)
+          ∙ ap (λ (y : Built). printing (built.Model SL) y) (built_model c.right w.right_within f)
           ∙ related e f
           ∙ ap (λ (b : Bool). wanted (b || false)) (sym e) ∙ ap (λ (b : Bool). wanted (stray c.left || b)) (sym f)
 
   -- the text fits the store
   pub card_fits : length (card_text c) ≤ most_report
   unfolding card_text
-  card_fits = text_fits (card_refusal c) _ (report_fits (final (card_given c)) (length c.left.classes) (length c.right.classes) w.left-within.few-states w.right-within.few-states)
+  card_fits = text_fits (card_refusal c) _ (report_fits (final (card_given c)) (length c.left.classes) (length c.right.classes) w.left_within.few_states w.right_within.few_states)
 
   -- a card that is not refused has a sound relation
   pub card_sound : card_refusal c ≡ 0 → Sound (card_given c)

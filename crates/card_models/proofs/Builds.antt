@@ -102,33 +102,33 @@ left_is x N h k e = ap (λ (o : builds.Outcome). right_text o.answer o.memory h 
 
 side_built_lem : (s : Side) (n m : ℕ) (k : answers.Columns) → Long k → m + length s.transitions ≤ 400 → SideListed s.classes s.transitions n m k → side_built (head_of s) m k ≡ built_of s
 side_built_lem s n m k g e L =
-    let a = g.sources-long in
-    let b = g.labels-long in
-    let d = g.targets-long in
-    let f = g.weights-long in
-    sym (side_there (head_of s) m (transitions k.sources k.labels k.targets k.weights) blank (omega arith)) ∙ rw (L.its-sources, L.its-labels, L.its-targets, L.its-weights)
+    let a = g.sources_long in
+    let b = g.labels_long in
+    let d = g.targets_long in
+    let f = g.weights_long in
+    sym (side_there (head_of s) m (transitions k.sources k.labels k.targets k.weights) blank (omega arith)) ∙ rw (L.its_sources, L.its_labels, L.its_targets, L.its_weights)
 
 module _ (c : Card) (k : answers.Columns) (w : Within c) (g : Long k) (L : SideListed c.left.classes c.left.transitions 0 0 k)
     (R : SideListed c.right.classes c.right.transitions (length c.left.classes) (length c.left.transitions) k) where
   heads_text_lem : heads_text (heads_of c) k ≡ built_text c
   heads_text_lem =
       let o : 0 + length c.left.classes ≡ length c.left.classes = omega arith in
-      let l : slice 0 (length c.left.classes) k.classes ≡ c.left.classes = ap (λ (z : ℕ). slice 0 z k.classes) (sym o) ∙ L.its-classes in
-      let m = w.left-within.few-transitions in
-      let n = w.right-within.few-transitions in
+      let l : slice 0 (length c.left.classes) k.classes ≡ c.left.classes = ap (λ (z : ℕ). slice 0 z k.classes) (sym o) ∙ L.its_classes in
+      let m = w.left_within.few_transitions in
+      let n = w.right_within.few_transitions in
       let x = side_built_lem c.left 0 0 k g (omega arith) L in
       let y = side_built_lem c.right (length c.left.classes) (length c.left.transitions) k g (omega arith) R in
       ap (λ (z : builds.Outcome). right_text z.answer z.memory (heads_of c) k) x
       ∙ ap (λ (z : builds.Outcome). lists_text (both (built_of c.left).answer z.answer) (built_of c.left).memory z.memory (heads_of c) k.classes) y
       ∙ ap (λ (z : List ℕ). models_text (both (built_of c.left).answer (built_of c.right).answer) (built_of c.left).memory (built_of c.right).memory z (slice (length c.left.classes) (length c.left.classes + length c.right.classes) k.classes) c.epsilon c.rho) l
-      ∙ ap (λ (z : List ℕ). models_text (both (built_of c.left).answer (built_of c.right).answer) (built_of c.left).memory (built_of c.right).memory c.left.classes z c.epsilon c.rho) R.its-classes
+      ∙ ap (λ (z : List ℕ). models_text (both (built_of c.left).answer (built_of c.right).answer) (built_of c.left).memory (built_of c.right).memory c.left.classes z c.epsilon c.rho) R.its_classes
 
 pub listed_text : (c : Card) (h : Heads) (k : answers.Columns) → Within c → Long k → Listed c h k → heads_text h k ≡ card_text c
-listed_text c h k w g L = ap (λ (z : Heads). heads_text z k) L.its-heads ∙ heads_text_lem c k w g L.its-left L.its-right ∙ built_text_lem c w
+listed_text c h k w g L = ap (λ (z : Heads). heads_text z k) L.its_heads ∙ heads_text_lem c k w g L.its_left L.its_right ∙ built_text_lem c w
 
 -- the counts of a card that was read, and room in the lists
 pub card_room : (c : Card) (h : Heads) (k : answers.Columns) → h ≡ heads_of c → Within c → Long k → Room h k
-card_room c h k e w g = rw e (fits w.left-within.few-states w.right-within.few-states g.classes-long)
+card_room c h k e w g = rw e (fits w.left_within.few_states w.right_within.few_states g.classes_long)
   where
     fits : length c.left.classes ≤ 32 → length c.right.classes ≤ 32 → 64 ≤ length k.classes → Room (heads_of c) k
-    fits p q a = record { left-few = p; right-few = q; classes-room = omega arith }
+    fits p q a = record { left_few = p; right_few = q; classes_room = omega arith }

@@ -1,4 +1,6 @@
 // The two models of a card, built, or the number that refuses one.
+#![tactic(auto)]
+
 mod models; // models.rt: both models together
 mod sides; // sides.rt: one model
 

@@ -6,7 +6,7 @@ use bisim_build::builder::Built;
 use bisim_core::wlts::Shape;
 
 // Both models, or the lower number that refuses one.
-#[derive(Drop)]
+#[derive(Clone, Copy)]
 pub enum Both {
     Models(Shape, Shape),
     Refused(u32),

@@ -32,9 +32,9 @@ laid_fits n k bs t = let l = starts_length (lines (rows n k bs)) bs t in omega (
 
 pub side_fits : (bs : List ℕ) → Passed bs → side_size bs ≤ length bs
 side_fits bs p =
-    let a = laid_fits 1 3 bs p.head-laid in
-    let b = laid_fits (states bs) 1 (class_part bs) p.classes-laid in
-    let d = laid_fits (count bs) 4 (transition_part bs) p.transitions-laid in
+    let a = laid_fits 1 3 bs p.head_laid in
+    let b = laid_fits (states bs) 1 (class_part bs) p.classes_laid in
+    let d = laid_fits (count bs) 4 (transition_part bs) p.transitions_laid in
     omega (arith, length-drop 19 bs, length-drop (19 + 7 * states bs) bs)
 
 pub side_room : (s : List ℕ) (at : ℕ) → at ≤ length s → side_fault (drop at s) 0 ≡ 0 → at + side_size (drop at s) ≤ length s
@@ -171,10 +171,10 @@ module _ (s : List ℕ) (at n m : ℕ) (en : n ≡ value (drop at s)) (em : m �
   side_stored i j a b d e w p q =
       same_columns
       (p ∙ ap (sets a i) classes_found)
-      (q.sources-are ∙ ap (λ (x : List Transition). sets b j (map source_of x)) transitions_found)
-      (q.labels-are ∙ ap (λ (x : List Transition). sets d j (map label_of x)) transitions_found)
-      (q.targets-are ∙ ap (λ (x : List Transition). sets e j (map target_of x)) transitions_found)
-      (q.weights-are ∙ ap (λ (x : List Transition). sets w j (map weight_of x)) transitions_found)
+      (q.sources_are ∙ ap (λ (x : List Transition). sets b j (map source_of x)) transitions_found)
+      (q.labels_are ∙ ap (λ (x : List Transition). sets d j (map label_of x)) transitions_found)
+      (q.targets_are ∙ ap (λ (x : List Transition). sets e j (map target_of x)) transitions_found)
+      (q.weights_are ∙ ap (λ (x : List Transition). sets w j (map weight_of x)) transitions_found)
 
 -- ---- a card without a fault
 
@@ -186,7 +186,7 @@ module _ (s : List ℕ) (e : fault s ≡ 0) (m : ℕ) (em : m ≡ 0 + side_size 
   right_at = let d : m ≡ side_size s = omega arith in ap (λ (x : ℕ). drop x s) d
 
   pub right_passes : side_fault (drop m s) 0 ≡ 0
-  right_passes = ap (λ (x : List ℕ). side_fault x 0) right_at ∙ passes (after_side s) (accepted s e).right-passed
+  right_passes = ap (λ (x : List ℕ). side_fault x 0) right_at ∙ passes (after_side s) (accepted s e).right_passed
 
   module _ (l : ℕ) (el : l ≡ m + side_size (drop m s)) where
     pub last_at : drop l s ≡ last_part s
@@ -246,8 +246,8 @@ module _ (s : List ℕ) (e : fault s ≡ 0) (k : Columns) (r : roomy (card_in s)
       let q = roomed in
       record {
         no_fault = left_passes s e;
-        in-classes = omega arith;
-        in-transitions = record { in-sources = omega arith; in-labels = omega arith; in-targets = omega arith; in-weights = omega arith };
+        in_classes = omega arith;
+        in_transitions = record { in_sources = omega arith; in_labels = omega arith; in_targets = omega arith; in_weights = omega arith };
       }
 
   module _ (m n j : ℕ) (em : m ≡ 0 + side_size s) (en : n ≡ value s) (ej : j ≡ value (drop 12 s)) (k' : Columns) (ek : k' ≡ stored (side_in s) 0 0 k) where
@@ -257,20 +257,20 @@ module _ (s : List ℕ) (e : fault s ≡ 0) (k : Columns) (r : roomy (card_in s)
     kept =
         let q = roomed in
         rw ek (record {
-          for_classes = simp length-sets q.for-classes;
-          for_sources = simp length-sets q.for-sources;
-          for_labels = simp length-sets q.for-labels;
-          for_targets = simp length-sets q.for-targets;
-          for_weights = simp length-sets q.for-weights;
+          for_classes = simp length-sets q.for_classes;
+          for_sources = simp length-sets q.for_sources;
+          for_labels = simp length-sets q.for_labels;
+          for_targets = simp length-sets q.for_targets;
+          for_weights = simp length-sets q.for_weights;
         })
 
     pub right_room : SideRoom (drop m s) n j k'
     right_room =
         let q = kept in
         rw (right_at s e m em) (record {
-          no_fault = passes (after_side s) (accepted s e).right-passed;
-          in-classes = omega arith;
-          in-transitions = record { in-sources = omega arith; in-labels = omega arith; in-targets = omega arith; in-weights = omega arith };
+          no_fault = passes (after_side s) (accepted s e).right_passed;
+          in_classes = omega arith;
+          in_transitions = record { in_sources = omega arith; in_labels = omega arith; in_targets = omega arith; in_weights = omega arith };
         })
 
     pub card_stored : stored (side_in (drop m s)) n j k' ≡ filled (card_in s) k

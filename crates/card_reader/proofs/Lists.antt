@@ -88,10 +88,10 @@ module _ (c : Card) (w : Within c) (k : Columns) (g : Long k) where
   n = length c.left.transitions + length c.right.transitions
 
   few_classes : l ≤ 64
-  few_classes = let a = w.left-within.few-states in let b = w.right-within.few-states in omega arith
+  few_classes = let a = w.left_within.few_states in let b = w.right_within.few_states in omega arith
 
   few_transitions : n ≤ 400
-  few_transitions = let a = w.left-within.few-transitions in let b = w.right-within.few-transitions in omega arith
+  few_transitions = let a = w.left_within.few_transitions in let b = w.right_within.few_transitions in omega arith
 
   has_room_lem : roomy c k ≡ true
   has_room_lem =
@@ -99,11 +99,11 @@ module _ (c : Card) (w : Within c) (k : Columns) (g : Long k) where
       let b = few_transitions in
       let x = length-append c.left.classes c.right.classes in
       let y = length-append c.left.transitions c.right.transitions in
-      let p = g.classes-long in
-      let q = g.sources-long in
-      let r = g.labels-long in
-      let s = g.targets-long in
-      let t = g.weights-long in
+      let p = g.classes_long in
+      let q = g.sources_long in
+      let r = g.labels_long in
+      let s = g.targets_long in
+      let t = g.weights_long in
       rw (
         le-leb (length (all_classes c)) (length k.classes) (omega arith),
         le-leb (length (all_transitions c)) (length k.sources) (omega arith),
@@ -117,11 +117,11 @@ module _ (c : Card) (w : Within c) (k : Columns) (g : Long k) where
   card_listed =
       let a = few_classes in
       let b = few_transitions in
-      let p = g.classes-long in
-      let q = g.sources-long in
-      let r = g.labels-long in
-      let s = g.targets-long in
-      let t = g.weights-long in
+      let p = g.classes_long in
+      let q = g.sources_long in
+      let r = g.labels_long in
+      let s = g.targets_long in
+      let t = g.weights_long in
       record {
         its_heads = refl;
         its_left = record {
@@ -144,11 +144,11 @@ module _ (c : Card) (w : Within c) (k : Columns) (g : Long k) where
 filled_long : (c : Card) (k : Columns) → Long k → Long (filled c k)
 unfolding filled stored
 filled_long c k g = record {
-  classes_long = simp length-sets g.classes-long;
-  sources_long = simp length-sets g.sources-long;
-  labels_long = simp length-sets g.labels-long;
-  targets_long = simp length-sets g.targets-long;
-  weights_long = simp length-sets g.weights-long;
+  classes_long = simp length-sets g.classes_long;
+  sources_long = simp length-sets g.sources_long;
+  labels_long = simp length-sets g.labels_long;
+  targets_long = simp length-sets g.targets_long;
+  weights_long = simp length-sets g.weights_long;
 }
 
 -- ---- what the answer says of the bytes

@@ -12,7 +12,7 @@ ghost use Rattle.card_layout.proofs.Filling.{TransitionsRoom, TransitionsStored,
 use card_layout::{laid, number};
 
 // A model's first line: states, initial state, transitions.
-#[derive(Drop)]
+#[derive(Clone, Copy)]
 pub struct Head {
     pub states: u32,
     pub initial: u32,
@@ -20,7 +20,7 @@ pub struct Head {
 }
 
 // The first lines of both models, and ε and ρ in 1,024ths.
-#[derive(Drop)]
+#[derive(Clone, Copy)]
 pub struct Heads {
     pub left: Head,
     pub right: Head,
@@ -28,7 +28,7 @@ pub struct Heads {
     pub rho: u32,
 }
 
-#[derive(Drop)]
+#[derive(Clone, Copy)]
 pub enum Read {
     Card(Heads),
     Refused(u32),

@@ -1,4 +1,6 @@
 // The report's text in a lent store.
+#![tactic(auto)]
+
 mod lines; // lines.rt: a line in a store
 mod report; // report.rt: pairs, the head, a refusal's line
 

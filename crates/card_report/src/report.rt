@@ -11,7 +11,7 @@ use numbers::bit;
 // The greatest report: a head and 1,024 pairs.
 pub const MOST_REPORT: usize = 13331;
 
-#[derive(Drop)]
+#[derive(Clone, Copy)]
 pub enum Text {
     Written(usize),
     Refused(u32),

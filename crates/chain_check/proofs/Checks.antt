@@ -46,8 +46,8 @@ pub inside : {n : ℕ} {O T : List ℕ} {P : List Float} → Rows n O T P → (s
 inside {n} {O} {T} {P} R s h a b p q =
     let r = R.rise s h in
     let u = starts_up O n R.rise (s + 1) n (omega arith) (omega arith) in
-    let x = R.targets-long in
-    let y = R.probabilities-long in
+    let x = R.targets_long in
+    let y = R.probabilities_long in
     (omega arith, omega arith, omega arith)
 
 -- ---- the rows still to come, from s up to n

@@ -1,4 +1,6 @@
 // Chains as definitions (specs/): what `common_rate`, `uniformise` and `normalise` compute, and when a chain handed in is accepted.
+#![tactic(auto)]
+
 ghost use Rattle.std.specs.Prelude.{◌≡◌, take};
 ghost use Rattle.numbers.specs.Lists.{all};
 ghost use Rattle.chain_theory.specs.Check;
@@ -7,7 +9,7 @@ use bisim_core::ids::StateId;
 use numbers::lesser;
 
 // A chain: its counts and initial state. Its columns are lent beside it.
-#[derive(Drop)]
+#[derive(Clone, Copy)]
 pub struct ChainShape {
     pub states: usize,
     pub entries: usize,

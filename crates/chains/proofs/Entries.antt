@@ -69,8 +69,8 @@ module _ {ET : List ℕ} {EW : List Float} {a b s : ℕ} {q : Float} {T₀ : Lis
     from = let x = I.from in omega arith;
     to = omega arith;
     few = let x = I.few in let y = I.from in omega arith;
-    t_size = I.t-size;
-    p_size = I.p-size;
+    t_size = I.t_size;
+    p_size = I.p_size;
     made = I.made;
     lies = I.lies;
     same = λ D O L. rest_skip (columns D O L ET EW) q s i b I.made h e ∙ I.same D O L;
@@ -78,7 +78,7 @@ module _ {ET : List ℕ} {EW : List Float} {a b s : ℕ} {q : Float} {T₀ : Lis
 
   -- there is room for another entry
   room : b - a ≤ length T₀ → b - a ≤ length P₀ → (m < length T) × (m < length P)
-  room x y = let f = I.few in let g = I.from in let u = I.t-size in let v = I.p-size in (omega arith, omega arith)
+  room x y = let f = I.few in let g = I.from in let u = I.t_size in let v = I.p_size in (omega arith, omega arith)
 
   pub turn_add : b - a ≤ length T₀ → b - a ≤ length P₀ → (get_or ET i 0 ≡ s → ⊥) → (T₁ : List ℕ) (P₁ : List Float) (m₁ : ℕ) → length T₁ ≡ length T → length P₁ ≡ length P
       → (m < length T → m < length P → LaidJumps (add_rate (get_or ET i 0) (div binary64 (get_or EW i nan) q) (jumps_of (take m T) (take m P))) m₁ T P T₁ P₁)
@@ -93,8 +93,8 @@ module _ {ET : List ℕ} {EW : List Float} {a b s : ℕ} {q : Float} {T₀ : Lis
         from = let x = I.from in omega arith;
         to = omega arith;
         few = let x = I.few in let y = I.from in omega arith;
-        t_size = u ∙ I.t-size;
-        p_size = p ∙ I.p-size;
+        t_size = u ∙ I.t_size;
+        p_size = p ∙ I.p_size;
         made = add_rate t w I.made;
         lies = laid_more t w m N I.lies;
         same = λ D O L. rest_add (columns D O L ET EW) q s i b I.made h e ∙ I.same D O L;

@@ -53,7 +53,7 @@ module _ {n : ℕ} {O ET : List ℕ} {EW : List Float} {q : Float} {S₀ T₀ : 
 
   -- the places in the lists
   pub near : (end < length T) × (end < length P)
-  near = let u = ends in let r = R.rise s h in let m = I.room in let v = I.t-size in let w = I.p-size in let x = G.1 in let y = G.2 in (omega arith, omega arith)
+  near = let u = ends in let r = R.rise s h in let m = I.room in let v = I.t_size in let w = I.p_size in let x = G.1 in let y = G.2 in (omega arith, omega arith)
 
   pub small : end ≤ 6096
   small = let o = R.rise s h in let u = ends in let k = I.room in let c = R.edges_few in let d = R.few in omega arith
@@ -64,11 +64,11 @@ module _ {n : ℕ} {O ET : List ℕ} {EW : List Float} {q : Float} {S₀ T₀ : 
   makeable a b p r =
       let u = ends in
       let z = R.rise s h in
-      let x = R.targets-long in
-      let y = R.weights-long in
+      let x = R.targets_long in
+      let y = R.weights_long in
       let m = I.room in
-      let v = I.t-size in
-      let w = I.p-size in
+      let v = I.t_size in
+      let w = I.p_size in
       let c = R.few in
       let k = part_length end T in
       let l = part_length end P in
@@ -90,14 +90,14 @@ module _ {n : ℕ} {O ET : List ℕ} {EW : List Float} {q : Float} {S₀ T₀ : 
       record {
         low = omega arith;
         room = omega arith;
-        s_size = length-set S (s + 1) (end + m) ∙ I.s-size;
-        t_size = back_length end T T' (omega arith) t ∙ I.t-size;
-        p_size = back_length end P P' (omega arith) w ∙ I.p-size;
+        s_size = length-set S (s + 1) (end + m) ∙ I.s_size;
+        t_size = back_length end T T' (omega arith) t ∙ I.t_size;
+        p_size = back_length end P P' (omega arith) w ∙ I.p_size;
         made = λ D L X e f.
             let (A, B) = I.made D L X e f in
             let is : get_or X s [] ≡ chain_row q s (map (edge_at (columns D O L ET EW) s) (span a (b - a))) = f s h ∙ rw (p, r) in
             let Z = F D O L in
-            let N = rows_next A (omega arith) m T' P' (Z.count ∙ ap length (sym is)) (Z.in-targets ∙ ap (λ (js : List Jump). lists.over (targets js) (part end T)) (sym is)) (Z.in-rates ∙ ap (λ (js : List Jump). lists.over (rates js) (part end P)) (sym is)) in
+            let N = rows_next A (omega arith) m T' P' (Z.count ∙ ap length (sym is)) (Z.in_targets ∙ ap (λ (js : List Jump). lists.over (targets js) (part end T)) (sym is)) (Z.in_rates ∙ ap (λ (js : List Jump). lists.over (rates js) (part end P)) (sym is)) in
             let n' = starts_length 0 X in
             let v = starts_at 0 X (s + 1) (omega arith) in
             let d = N.ends in

@@ -74,8 +74,8 @@ rows_next {R} {s} {end} {T₀} {P₀} {T} {P} I h m T' P' e t p =
     let a = I.ends in
     rw add-one (record {
       ends = (let q = length-append J r in let z : end + m ≡ length (J ++ r) = omega arith in z ∙ ap length (sym n));
-      in_targets = over_back (targets J) (targets r) T₀ T' T end (a ∙ sym (targets_length J)) I.in-targets t ∙ ap (λ (l : List ℕ). over l T₀) (sym (map-append (λ (j : Jump). j.target) J r) ∙ ap targets (sym n));
-      in_rates = over_back (rates J) (rates r) P₀ P' P end (a ∙ sym (rates_length J)) I.in-rates p ∙ ap (λ (l : List Float). over l P₀) (sym (map-append (λ (j : Jump). j.rate) J r) ∙ ap rates (sym n));
+      in_targets = over_back (targets J) (targets r) T₀ T' T end (a ∙ sym (targets_length J)) I.in_targets t ∙ ap (λ (l : List ℕ). over l T₀) (sym (map-append (λ (j : Jump). j.target) J r) ∙ ap targets (sym n));
+      in_rates = over_back (rates J) (rates r) P₀ P' P end (a ∙ sym (rates_length J)) I.in_rates p ∙ ap (λ (l : List Float). over l P₀) (sym (map-append (λ (j : Jump). j.rate) J r) ∙ ap rates (sym n));
     })
 
 -- all of them
@@ -83,4 +83,4 @@ pub rows_all : {R : List (List Jump)} {s end : ℕ} {T₀ : List ℕ} {P₀ : Li
     → (end ≡ length (joined R)) × (T ≡ over (targets (joined R)) T₀) × (P ≡ over (rates (joined R)) P₀)
 rows_all {R} {s} {end} {T₀} {P₀} {T} {P} I e =
     let z : take s R ≡ R = take_all s R (omega arith) in
-    (I.ends ∙ ap (λ (l : List (List Jump)). length (joined l)) z, I.in-targets ∙ ap (λ (l : List (List Jump)). over (targets (joined l)) T₀) z, I.in-rates ∙ ap (λ (l : List (List Jump)). over (rates (joined l)) P₀) z)
+    (I.ends ∙ ap (λ (l : List (List Jump)). length (joined l)) z, I.in_targets ∙ ap (λ (l : List (List Jump)). over (targets (joined l)) T₀) z, I.in_rates ∙ ap (λ (l : List (List Jump)). over (rates (joined l)) P₀) z)

@@ -21,14 +21,14 @@ use parts::refusals::earlier;
 use parts::starts::start;
 
 // The rate, or the number of the first check that fails.
-#[derive(Drop)]
+#[derive(Clone, Copy)]
 pub enum Rated {
     Rate(f64),
     Refused(u32),
 }
 
 // The counts and the initial state of the chain, or the number of the first check that fails.
-#[derive(Drop)]
+#[derive(Clone, Copy)]
 pub enum Uniformised {
     Chain(ChainShape),
     Refused(u32),

@@ -1,4 +1,6 @@
 // Chains of kantorovich.rs: the common rate of two models, and a model made a chain at a rate.
+#![tactic(auto)]
+
 mod rates; // rates.rt: exit rates
 mod rows; // rows.rt: the rows of a chain
 pub mod checks; // checks.rt: what `uniformise` refuses

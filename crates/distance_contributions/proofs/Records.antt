@@ -69,7 +69,7 @@ module _ (n : ℕ) (lefts rights : List ℕ) (seenL seenR spent : List Float) (t
       let w = leb-true n (length spent) a in
       let p = known_at n lefts (length seenL) c k h in
       let q = known_at n rights (length seenR) d k h in
-      record { left_in = p.0; right-in = q.0; spent-in = omega arith; left-low = p.1; right-low = q.1 }
+      record { left_in = p.0; right_in = q.0; spent_in = omega arith; left_low = p.1; right_low = q.1 }
 
 -- ---- the contribution of each pair
 

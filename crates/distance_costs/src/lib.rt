@@ -1,4 +1,6 @@
 // The cost of each pair of `distance` (kantorovich.rs), from the observations of its states.
+#![tactic(auto)]
+
 ghost use Rattle.std.specs.Prelude.{◌≡◌, ◌≤◌, length};
 ghost use Rattle.numbers.specs.Lists.{over};
 ghost use Rattle.distance_words.proofs.Costs.{costs, priced, pricing};

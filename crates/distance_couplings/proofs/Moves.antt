@@ -51,12 +51,12 @@ module _ {a b costs : List Float} {xs ys : List ℕ} {codes places masses : ℕ}
   unfolding short
   enough rows columns er ec =
       let s = size in
-      let q : length xs * length ys ≤ 32 * 32 = mul-le-mul M.few-left M.few-right in
-      let p = M.enough in let h = M.masses-room in
+      let q : length xs * length ys ≤ 32 * 32 = mul-le-mul M.few_left M.few_right in
+      let p = M.enough in let h = M.masses_room in
       rw (le-ltb (length costs) (length a * length b) (omega arith), le-ltb rows (length a * length b) (omega arith), le-ltb columns (length a * length b) (omega arith), le-ltb masses (length a * length b) (omega arith))
 
   few : not (leb (length a) 32 && leb (length b) 32) ≡ false
-  few = let p = M.left in let q = M.right in let f = M.few-left in let g = M.few-right in rw (le-leb (length a) 32 (omega arith), le-leb (length b) 32 (omega arith))
+  few = let p = M.left in let q = M.right in let f = M.few_left in let g = M.few_right in rw (le-leb (length a) 32 (omega arith), le-leb (length b) 32 (omega arith))
 
   accepted : (rows columns : ℕ) → rows ≡ 1024 → columns ≡ 1024 → size_refusal (length a) (length b) (length costs) rows columns masses ≡ 0
   accepted rows columns er ec = check_skip 7 _ _ 0 (enough rows columns er ec) (check_skip 15 _ 0 0 few refl)
@@ -89,12 +89,12 @@ module _ {a b costs : List Float} {xs ys : List ℕ} {codes places masses : ℕ}
       has_room_lem =
           let e = cells_is in
           let f = moved_few a b costs xs ys codes places masses M in
-          let q = M.places-room in
+          let q = M.places_room in
           let u = length-map result.plan (λ (c : Cell). c.row) in
           let w = length-map result.plan (λ (c : Cell). c.column) in
           let n = ap length rows_is ∙ length-append (map (λ (c : Cell). c.row) result.plan) (drop (length (map (λ (c : Cell). c.row) result.plan)) i₀) in
           let k = ap length columns_is ∙ length-append (map (λ (c : Cell). c.column) result.plan) (drop (length (map (λ (c : Cell). c.column) result.plan)) j₀) in
-          (M.few-codes, omega arith, omega arith, omega arith)
+          (M.few_codes, omega arith, omega arith, omega arith)
 
       -- its shares
       pub moved_end : (look : Look) (p p₀ : List ℕ) → p ≡ over (places_by look xs ys i j cells) p₀ → bested total cells p x ≡ moved_on look xs ys result p₀ x₀
@@ -131,11 +131,11 @@ module _ (look : Look) (xs : List ℕ) (ps : List Float) (ys : List ℕ) (qs : L
       left = R.left;
       right = masses_length;
       enough = costs_size;
-      few-left = R.few-left;
-      few-right = R.few-right;
-      few-codes = R.few-codes;
-      places-room = h.0;
-      masses-room = h.1;
+      few_left = R.few_left;
+      few_right = R.few_right;
+      few_codes = R.few_codes;
+      places_room = h.0;
+      masses_room = h.1;
     }
 
     pub moved_best : (p : List ℕ) (m : List Float) (b : Bested) → b ≡ moved_on look xs ys (transport ps (take (length ys) f) (take (length xs * length ys) c)) p m → b ≡ best_if true (best_by false look v es fs) p m

@@ -70,7 +70,7 @@ fn lay_planned(
 }
 
 // What a coupling comes to, Σ mass × value, and its number of shares.
-#[derive(Drop)]
+#[derive(Clone, Copy)]
 pub struct Best {
     pub value: f64,
     pub cells: usize,

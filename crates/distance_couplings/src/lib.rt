@@ -1,4 +1,6 @@
 // Couplings of two rows: the independent one, and the cheapest against some values (`best_coupling` of kantorovich.rs).
+#![tactic(auto)]
+
 pub mod shares; // shares.rt: shares in two lists
 pub mod best; // best.rt: `best_coupling`
 pub mod pairs; // pairs.rt: the independent coupling of two states

@@ -111,7 +111,7 @@ pub(crate) fn cells_fit(m: usize, n: usize, places: usize, masses: usize) -> boo
 }
 
 // Whether shares were laid, and how many.
-#[derive(Drop)]
+#[derive(Clone, Copy)]
 pub struct Part {
     pub done: bool,
     pub cells: usize,

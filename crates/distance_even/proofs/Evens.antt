@@ -129,11 +129,11 @@ module _ {G : Metric} {lefts rights codes : List ℕ} {C D : ChainColumns} (Y : 
   pair_as : (k : ℕ) → k < length G.found → even_pairs lefts rights C D k ≡ even G (pair_at G.found k)
   pair_as k h =
       let p = pair_at G.found k in
-      let a = beside_rows C p.left (Y.left-reads k h) in let b = beside_rows D p.right (Y.right-reads k h) in
-      let ra : row_rates C p.left ≡ rates (row_l G p) = sym (jumps_rates (row_targets C p.left) (row_rates C p.left) (sym a)) ∙ ap rates (Y.left-row k h) in
-      let rb : row_rates D p.right ≡ rates (row_r G p) = sym (jumps_rates (row_targets D p.right) (row_rates D p.right) (sym b)) ∙ ap rates (Y.right-row k h) in
-      ap₂ (even_pair C D) (Y.left_at k h) (Y.right-at k h)
-      ∙ ap (λ (t : Bool). even_when t (even_rows (row_rates C p.left) (row_rates D p.right))) (sym (and_second _ _ _ (Y.left-reads k h) (sym (Y.right-reads k h))))
+      let a = beside_rows C p.left (Y.left_reads k h) in let b = beside_rows D p.right (Y.right_reads k h) in
+      let ra : row_rates C p.left ≡ rates (row_l G p) = sym (jumps_rates (row_targets C p.left) (row_rates C p.left) (sym a)) ∙ ap rates (Y.left_row k h) in
+      let rb : row_rates D p.right ≡ rates (row_r G p) = sym (jumps_rates (row_targets D p.right) (row_rates D p.right) (sym b)) ∙ ap rates (Y.right_row k h) in
+      ap₂ (even_pair C D) (Y.left_at k h) (Y.right_at k h)
+      ∙ ap (λ (t : Bool). even_when t (even_rows (row_rates C p.left) (row_rates D p.right))) (sym (and_second _ _ _ (Y.left_reads k h) (sym (Y.right_reads k h))))
       ∙ ap₂ even_rows ra rb
       ∙ ap₂ (λ (t : Bool) (x : List Float). t || not (unequal (sum (rates (row_l G p))) (sum x)))
       (ap₂ (λ (m n : ℕ). eqb m 1 || eqb n 1) (length-map (row_l G p) (λ (j : Jump). j.rate)) (length-map (row_r G p) (λ (j : Jump). j.rate))) (sym (fitted_as (row_l G p) (row_r G p)))

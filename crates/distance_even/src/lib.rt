@@ -1,4 +1,6 @@
 // Refusal 16 of `distance` (kantorovich.rs): whether the totals of two rows agree once one is fitted to the other.
+#![tactic(auto)]
+
 ghost use Rattle.std.specs.Prelude.{◌≡◌, [], map, ◌≤◌, length};
 ghost use Rattle.numbers.specs.Real.{sum};
 ghost use Rattle.chain_theory.specs.Columns.{chain_columns};

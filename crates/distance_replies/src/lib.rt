@@ -1,4 +1,6 @@
 // A distance as numbers, for the exported functions: 0, with what it holds put behind the references; or a refusal's number, the references left as they were.
+#![tactic(auto)]
+
 ghost use Rattle.std.specs.Prelude.{◌≡◌};
 ghost use Rattle.distance_replies.specs.Distances.{replied, of_measured};
 

@@ -46,10 +46,10 @@ module _ {G : Metric} {lefts rights codes : List ℕ} {C D : ChainColumns} (Y : 
 
   pub best_is : best_of_pair lefts rights codes C D v k ≡ best_coupling G v (pair_at G.found k)
   best_is =
-      ap₂ (λ (x y : ℕ). best_at (look_up codes) C D (length codes) v x y) (Y.left_at k h) (Y.right-at k h)
-      ∙ ap (λ (b : Bool). best_when b (best_by (point_mass es fs) (look_up codes) v es fs)) (sym (and_second _ _ _ (sym (and_second _ _ _ (Y.left-reads k h) (sym (Y.right-reads k h)))) (sym (rows_fit_lem Y k h))))
+      ap₂ (λ (x y : ℕ). best_at (look_up codes) C D (length codes) v x y) (Y.left_at k h) (Y.right_at k h)
+      ∙ ap (λ (b : Bool). best_when b (best_by (point_mass es fs) (look_up codes) v es fs)) (sym (and_second _ _ _ (sym (and_second _ _ _ (Y.left_reads k h) (sym (Y.right_reads k h)))) (sym (rows_fit_lem Y k h))))
       ∙ ap (λ (f : Look). best_by (point_mass es fs) f v es fs) (look_is Y) ∙ best_by_lem (point_mass es fs) G.found v es fs
-      ∙ ap₂ (λ (a b : List Jump). best_of (point_mass a b) G.found v a b) (Y.left-row k h) (Y.right-row k h) ∙ coupling_is
+      ∙ ap₂ (λ (a b : List Jump). best_of (point_mass a b) G.found v a b) (Y.left_row k h) (Y.right_row k h) ∙ coupling_is
 
   best_few : length (best_coupling G v (pair_at G.found k)).coupling ≤ space G k
   unfolding best_coupling
@@ -103,7 +103,7 @@ module _ {G : Metric} {policy : List (List Share)} {S L P : List ℕ} {M : List 
   parts_size = length-map cs (λ (c : Share). c.mass)
 
   in_store : from + length cs ≤ room G G.found
-  in_store = let s = K.start-at k h in let w = ends_within G k h in omega arith
+  in_store = let s = K.start_at k h in let w = ends_within G k h in omega arith
 
   places_kept : length P' ≡ length P
   places_kept = put_length from (ats cs) P (let a = ats_size in let i = in_store in omega arith)
@@ -118,29 +118,29 @@ module _ {G : Metric} {policy : List (List Share)} {S L P : List ℕ} {M : List 
 
   elsewhere : (i : ℕ) → i < length G.found → i ≢ k → (i < k) ⊎ (k ≤ i) → shares_in P' M' (get_or S i 0) (get_or S i 0 + get_or L i 0) ≡ shares_in P M (get_or S i 0) (get_or S i 0 + get_or L i 0)
   elsewhere i l d (inl j) =
-      let s = K.start-at i l in let t = K.start-at k h in let n = K.length_at i l in let f = K.fits i l in
+      let s = K.start_at i l in let t = K.start_at k h in let n = K.length_at i l in let f = K.fits i l in
       let b = ends_before G i k j (omega arith) in let w = in_store in
       ap₂ shares_of (slice_before (get_or S i 0) (get_or S i 0 + get_or L i 0) from P _ (omega arith) (omega arith)) (slice_before (get_or S i 0) (get_or S i 0 + get_or L i 0) from M _ (omega arith) (omega arith))
   elsewhere i l d (inr j) =
-      let s = K.start-at i l in let t = K.start-at k h in
+      let s = K.start_at i l in let t = K.start_at k h in
       let b = ends_before G k i (omega arith) (omega arith) in let w = in_store in let x = ats_size in let y = parts_size in
       ap₂ shares_of (slice_after (get_or S i 0) (get_or S i 0 + get_or L i 0) from (ats cs) P (omega arith) (omega arith)) (slice_after (get_or S i 0) (get_or S i 0 + get_or L i 0) from (parts cs) M (omega arith) (omega arith))
 
   keeps_set : Keeps G (set policy k cs) (length G.found) S (set L k (length (ats cs))) P' M'
   keeps_set = record {
-    in-starts = K.in-starts;
-    in-lengths = let e = length-set L k (length (ats cs)) in let i = K.in-lengths in omega arith;
-    start-at = K.start-at;
+    in_starts = K.in_starts;
+    in_lengths = let e = length-set L k (length (ats cs)) in let i = K.in_lengths in omega arith;
+    start_at = K.start_at;
     length_at = λ i l. long i l (eq_or_ne i k);
     fits = λ i l. fit i l (eq_or_ne i k);
-    shares-are = λ i l. same i l (eq_or_ne i k);
+    shares_are = λ i l. same i l (eq_or_ne i k);
   }
     where
       new : coupling_at (set policy k cs) k ≡ cs
       new = get_or-set_same policy k cs [] (omega arith)
 
       long_here : get_or (set L k (length (ats cs))) k 0 ≡ length cs
-      long_here = get_or-set_same L k (length (ats cs)) 0 (let i = K.in-lengths in omega arith) ∙ ats_size
+      long_here = get_or-set_same L k (length (ats cs)) 0 (let i = K.in_lengths in omega arith) ∙ ats_size
 
       long : (i : ℕ) → i < length G.found → (i ≡ k) ⊎ (i ≢ k) → get_or (set L k (length (ats cs))) i 0 ≡ length (coupling_at (set policy k cs) i)
       long i l (inl e) = ap (λ (j : ℕ). get_or (set L k (length (ats cs))) j 0) e ∙ long_here ∙ ap length (sym new) ∙ ap (λ (j : ℕ). length (coupling_at (set policy k cs) j)) (sym e)
@@ -156,7 +156,7 @@ module _ {G : Metric} {policy : List (List Share)} {S L P : List ℕ} {M : List 
           ∙ ap (λ (n : ℕ). shares_in P' M' from (from + n)) long_here ∙ here ∙ sym new ∙ ap (coupling_at (set policy k cs)) (sym e)
       same i l (inr d) =
           ap (λ (n : ℕ). shares_in P' M' (get_or S i 0) (get_or S i 0 + n)) (get_or-set_other L k i (length (ats cs)) 0 d)
-          ∙ elsewhere i l d (lt_or_ge i k) ∙ K.shares-are i l ∙ sym (get_or-set_other policy k i cs [] d)
+          ∙ elsewhere i l d (lt_or_ge i k) ∙ K.shares_are i l ∙ sym (get_or-set_other policy k i cs [] d)
 
 -- ---- a turn, and all
 
@@ -193,11 +193,11 @@ module _ {G : Metric} {lefts rights codes : List ℕ} {C D : ChainColumns} (Y : 
     gain = better v b (coupling_at r.policy k)
 
     gain_is : gains b.value v k S w.lengths w.places w.masses ≡ gain
-    gain_is = ap (λ (cs : List Share). lt b.value (sub binary64 (expected v cs) eps)) (U.keeps.shares-are k h)
+    gain_is = ap (λ (cs : List Share). lt b.value (sub binary64 (expected v cs) eps)) (U.keeps.shares_are k h)
 
     roomy : room_for (get_or S k 0 + length (ats b.coupling)) (length w.places) (length w.masses) ≡ true
     roomy =
-        let p = U.places-size in let m = U.masses-size in let s = U.keeps.start-at k h in let e = ends_within G k h in let f = best_few Y v k h in let a = length-map b.coupling (λ (c : Share). c.at) in
+        let p = U.places_size in let m = U.masses_size in let s = U.keeps.start_at k h in let e = ends_within G k h in let f = best_few Y v k h in let a = length-map b.coupling (λ (c : Share). c.at) in
         ap₂ ◌&&◌ (le-leb (get_or S k 0 + length (ats b.coupling)) (length w.places) (omega arith)) (le-leb (get_or S k 0 + length (ats b.coupling)) (length w.masses) (omega arith))
 
     abbrev adopting : Bool → Adopted
@@ -214,18 +214,18 @@ module _ {G : Metric} {lefts rights codes : List ℕ} {C D : ChainColumns} (Y : 
     off = larger r.residual (apart (backup G k b.value) (get_or v k nan))
 
     off_is : larger w.residual (apart (add binary64 (get_or cost k nan) (mul binary64 γ b.value)) (get_or v k nan)) ≡ off
-    off_is = ap₂ (λ (x : Float) (y : Float). larger x (apart y (get_or v k nan))) U.residual-is (ap₂ (λ (x y : Float). add binary64 x (mul binary64 y b.value)) (gc k h) gg)
+    off_is = ap₂ (λ (x : Float) (y : Float). larger x (apart y (get_or v k nan))) U.residual_is (ap₂ (λ (x y : Float). add binary64 x (mul binary64 y b.value)) (gc k h) gg)
 
     after : (t : Bool) → Same G S P₀ M₀ (Rounds.adopt t k b.coupling r.policy off r.improved) (bettered off ((adopting t).done || w.improved) (adopting t).lengths (adopting t).places (adopting t).masses)
-    after true = let p = U.places-size in let m = U.masses-size in record {
+    after true = let p = U.places_size in let m = U.masses_size in record {
       residual_is = refl;
       improved_is = refl;
       size = length-set r.policy k b.coupling ∙ U.size;
       keeps = keeps_set U.keeps U.size (omega arith) (omega arith) k h b.coupling (best_few Y v k h);
-      places_size = places_kept U.keeps U.size (omega arith) (omega arith) k h b.coupling (best_few Y v k h) ∙ U.places-size;
-      masses_size = masses_kept U.keeps U.size (omega arith) (omega arith) k h b.coupling (best_few Y v k h) ∙ U.masses-size;
+      places_size = places_kept U.keeps U.size (omega arith) (omega arith) k h b.coupling (best_few Y v k h) ∙ U.places_size;
+      masses_size = masses_kept U.keeps U.size (omega arith) (omega arith) k h b.coupling (best_few Y v k h) ∙ U.masses_size;
     }
-    after false = record { residual_is = refl; improved_is = U.improved-is; size = U.size; keeps = U.keeps; places_size = U.places-size; masses_size = U.masses-size }
+    after false = record { residual_is = refl; improved_is = U.improved_is; size = U.size; keeps = U.keeps; places_size = U.places_size; masses_size = U.masses_size }
 
     turn_same : Same G S P₀ M₀ (improve G v k (pair_at G.found k) r) (turned k (best k) w)
     turn_same =

@@ -64,10 +64,10 @@ module _ {T : Task} {k : ℕ} {v₀ : List Float} {l₀ p₀ : List ℕ} {m₀ :
     pub iterates_next : d ≡ false → length u ≡ length v → length l' ≡ length l → length p' ≡ length p → length m' ≡ length m → Iterates T k v₀ l₀ p₀ m₀ x' (n + 1) u l' p' m'
     iterates_next e zv zl zp zm = record {
       left = omega arith;
-      values_size = zv ∙ I.values-size;
-      lengths_size = zl ∙ I.lengths-size;
-      places_size = zp ∙ I.places-size;
-      masses_size = zm ∙ I.masses-size;
+      values_size = zv ∙ I.values_size;
+      lengths_size = zl ∙ I.lengths_size;
+      places_size = zp ∙ I.places_size;
+      masses_size = zm ∙ I.masses_size;
       comes =
           ap (λ (j : ℕ). iterate_from T (k - (n + 1)) x' j u l' p' m') (add-one n) ∙ sym (told ∙ ap (onward u (bettered x' t l' p' m')) e)
           ∙ ap (λ (j : ℕ). iterate_from T j x n v l p m) one_more ∙ I.comes;

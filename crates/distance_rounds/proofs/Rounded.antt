@@ -65,18 +65,18 @@ module _ {G : Metric} {tol : Float} {T : Task} {P₀ : List ℕ} {M₀ : List Fl
         let a = policy_length T.starts w.lengths w.places w.masses n in
         let z = U.stored.size in
         ext_get_or [] (policy_in T.starts w.lengths w.places w.masses n) s.policy (omega arith)
-        (λ i h. policy_at T.starts w.lengths w.places w.masses n i (omega arith) ∙ K.shares-are i (omega arith))
+        (λ i h. policy_at T.starts w.lengths w.places w.masses n i (omega arith) ∙ K.shares_are i (omega arith))
 
     pub in_store : InStore G s.policy T.starts w.lengths w.places w.masses n
     in_store = record {
       pairs = refl;
       stored = U.stored;
       same = policy_is;
-      in-starts = K.in-starts;
-      in-lengths = K.in-lengths;
+      in_starts = K.in_starts;
+      in_lengths = K.in_lengths;
       room = λ k h.
-          let a = K.start-at k h in let b = K.length_at k h in let c = K.fits k h in let e = ends_within G k h in
-          let p = U.places-size in let m = U.masses-size in let i = Z.in-places in let j = Z.in-masses in
+          let a = K.start_at k h in let b = K.length_at k h in let c = K.fits k h in let e = ends_within G k h in
+          let p = U.places_size in let m = U.masses_size in let i = Z.in_places in let j = Z.in_masses in
           (omega arith, omega arith);
     }
 
@@ -86,18 +86,18 @@ module _ {G : Metric} {tol : Float} {T : Task} {P₀ : List ℕ} {M₀ : List Fl
 
     values_same : u ≡ valued G tol s
     values_same =
-        let c = Z.count in let z = U.values-size in
-        let e = evaluated_is in_store T.cost w.values T.gamma T.fine (let i = Z.in-cost in omega arith) (omega arith) (ap (λ (j : ℕ). take j T.cost) c ∙ Z.cost-is) Z.gamma-is refl in
+        let c = Z.count in let z = U.values_size in
+        let e = evaluated_is in_store T.cost w.values T.gamma T.fine (let i = Z.in_cost in omega arith) (omega arith) (ap (λ (j : ℕ). take j T.cost) c ∙ Z.cost_is) Z.gamma_is refl in
         let l = evaluate_length G s.policy T.fine (take n w.values) in
         let t : take n w.values ≡ w.values = take_all n w.values (omega arith) in
         ap (λ (j : ℕ). (evaluated many T.starts w.lengths w.places w.masses T.cost T.gamma T.fine w.values j).value) (sym c)
         ∙ e.1
         ∙ ap (λ (d : List Float). evaluate G s.policy T.fine (take n w.values) ++ d) (drop_of_length-le w.values {i = length (evaluate G s.policy T.fine (take n w.values))} (let q = ap length t in omega arith))
         ∙ append-nil (evaluate G s.policy T.fine (take n w.values))
-        ∙ ap₂ (λ (f : Float) (x : List Float). evaluate G s.policy f x) Z.fine-is (t ∙ U.values-are)
+        ∙ ap₂ (λ (f : Float) (x : List Float). evaluate G s.policy f x) Z.fine_is (t ∙ U.values_are)
 
     values_long : length u ≡ n
-    values_long = ap length values_same ∙ evaluate_length G s.policy (mul binary64 (aim G tol) tenth) s.value ∙ ap length (sym U.values-are) ∙ U.values-size
+    values_long = ap length values_same ∙ evaluate_length G s.policy (mul binary64 (aim G tol) tenth) s.value ∙ ap length (sym U.values_are) ∙ U.values_size
 
     -- the improvement
     abbrev b : Bettered
@@ -107,36 +107,36 @@ module _ {G : Metric} {tol : Float} {T : Task} {P₀ : List ℕ} {M₀ : List Fl
     r = improved_from G (valued G tol s) s.policy
 
     costs_same : (k : ℕ) → k < n → get_or T.cost k nan ≡ get_or G.cost k nan
-    costs_same k h = let c = Z.count in sym (get_or-take T.pairs T.cost k nan (omega arith)) ∙ ap (λ (x : List Float). get_or x k nan) Z.cost-is
+    costs_same k h = let c = Z.count in sym (get_or-take T.pairs T.cost k nan (omega arith)) ∙ ap (λ (x : List Float). get_or x k nan) Z.cost_is
 
     better_same : Same G T.starts w.places w.masses r b
     better_same =
-        let c = Z.count in let z = values_long in let a = Z.in-lefts in let d = Z.in-rights in let e = Z.in-cost in let f = K.in-starts in let g = K.in-lengths in
-        let p = U.places-size in let m = U.masses-size in let i = Z.in-places in let j = Z.in-masses in
+        let c = Z.count in let z = values_long in let a = Z.in_lefts in let d = Z.in_rights in let e = Z.in_cost in let f = K.in_starts in let g = K.in_lengths in
+        let p = U.places_size in let m = U.masses_size in let i = Z.in_places in let j = Z.in_masses in
         let q : counted T.pairs (length T.lefts) (length T.rights) (length u) (length T.cost) (length T.starts) (length w.lengths) ≡ true
         = rw (le-leb T.pairs (length T.lefts) a, le-leb T.pairs (length T.rights) d, le-leb T.pairs (length u) (omega arith), le-leb T.pairs (length T.cost) e, le-leb T.pairs (length T.starts) (omega arith), le-leb T.pairs (length w.lengths) (omega arith)) in
         subst (λ (v : List Float). Same G T.starts w.places w.masses (improved_from G v s.policy) b) values_same
         (subst (Same G T.starts w.places w.masses (improved_from G u s.policy))
         (ap (λ (k : ℕ). better_from (best_of_pair T.lefts T.rights T.codes T.left T.right u) u T.gamma T.cost T.starts k 0 nought false w.lengths w.places w.masses) c
         ∙ ap (λ (t : Bool). better_if t (better_from (best_of_pair T.lefts T.rights T.codes T.left T.right u) u T.gamma T.cost T.starts T.pairs 0 nought false w.lengths w.places w.masses) w.lengths w.places w.masses) (sym q))
-        (improved_same Z.ready u T.cost T.gamma costs_same Z.gamma-is T.starts w.places w.masses (omega arith) (omega arith) s.policy w.lengths U.stored.size K))
+        (improved_same Z.ready u T.cost T.gamma costs_same Z.gamma_is T.starts w.places w.masses (omega arith) (omega arith) s.policy w.lengths U.stored.size K))
 
     ended_same : ended T.aim b ≡ Rounds.ended G tol r
-    ended_same = ap₂ ◌||◌ (ap not better_same.improved-is) (ap₂ le better_same.residual-is Z.aim-is)
+    ended_same = ap₂ ◌||◌ (ap not better_same.improved_is) (ap₂ le better_same.residual_is Z.aim_is)
 
     abbrev made : Iterated
     made = iterated b.residual (suc w.rounds) u b.lengths b.places b.masses
 
     round_same : Solves G T.starts P₀ M₀ (after (valued G tol s) r s.rounds) made
     round_same = record {
-      residual_is = better_same.residual-is;
-      rounds_are = ap suc U.rounds-are;
+      residual_is = better_same.residual_is;
+      rounds_are = ap suc U.rounds_are;
       values_are = values_same;
       values_size = values_long;
       stored = round_stored G Z.whole tol s U.stored;
       keeps = better_same.keeps;
-      places_size = better_same.places-size ∙ U.places-size;
-      masses_size = better_same.masses-size ∙ U.masses-size;
+      places_size = better_same.places_size ∙ U.places_size;
+      masses_size = better_same.masses_size ∙ U.masses_size;
     }
 
   pub iterate_same : (j : ℕ) (s : Solution) (w : Iterated) → Solves G T.starts P₀ M₀ s w → Solves G T.starts P₀ M₀ (iterate G tol j s) (iterate_from T j w.residual w.rounds w.values w.lengths w.places w.masses)

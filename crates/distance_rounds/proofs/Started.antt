@@ -40,7 +40,7 @@ bare C = chain_columns C.offsets C.targets C.probabilities []
 reads_of : (H : ChainShape) (C : ChainColumns) → Shaped H C → (x : ℕ) → x < H.states → reads_row (bare C) x ≡ true
 reads_of H C S x h =
     let u = starts_up C.offsets H.states S.rows.rise (x + 1) H.states (omega arith) (omega arith) in
-    let o = S.rows.offsets-long in let r = S.rows.rise x h in let t = S.rows.targets-long in let p = S.rows.probabilities-long in
+    let o = S.rows.offsets_long in let r = S.rows.rise x h in let t = S.rows.targets_long in let p = S.rows.probabilities_long in
     rw (lt-ltb (x + 1) (length C.offsets) (omega arith), le-leb (begins C x) (begins C (x + 1)) r, le-leb (begins C (x + 1)) (length C.targets) (omega arith), le-leb (begins C (x + 1)) (length C.probabilities) (omega arith))
 
 -- two chains that pass check 4, with rows of at most 32 entries and at most 4,096 pairs
@@ -68,15 +68,15 @@ module _ (HL : ChainShape) (CL : ChainColumns) (HR : ChainShape) (CR : ChainColu
       let t : take (length found) c ≡ index found = ap (take (length found)) ec ∙ take_at (index found) _ (length found) (index_length found) in
       record {
         left_at = λ k h. ap (λ (z : List ℕ). get_or z k 0) el ∙ get_or-append (lefts found) _ 0 k (let a = length-map found (λ (p : Pair). p.left) in omega arith) ∙ map_at (λ (p : Pair). p.left) found k 0 (pair 0 0) h;
-        right-at = λ k h. ap (λ (z : List ℕ). get_or z k 0) er ∙ get_or-append (rights found) _ 0 k (let a = length-map found (λ (p : Pair). p.right) in omega arith) ∙ map_at (λ (p : Pair). p.right) found k 0 (pair 0 0) h;
+        right_at = λ k h. ap (λ (z : List ℕ). get_or z k 0) er ∙ get_or-append (rights found) _ 0 k (let a = length-map found (λ (p : Pair). p.right) in omega arith) ∙ map_at (λ (p : Pair). p.right) found k 0 (pair 0 0) h;
         look = λ p. ap (λ (z : List ℕ). look_up z p) t ∙ look_up_is HL.states found (pairs_apart (chain_of HL CL) (chain_of HR CR)) (λ q i. let o = low q i in let u = o.1 in (o.0, omega arith)) fit p;
-        codes-few = let a = ap length t in let b = index_length found in omega arith;
-        left-reads = λ k h. reads_of HL CL SL (pair_at found k).left (low_at k h).0;
-        right-reads = λ k h. reads_of HR CR SR (pair_at found k).right (low_at k h).1;
-        left-row = λ k h. sym (row_at HL CL (pair_at found k).left (low_at k h).0);
-        right-row = λ k h. sym (row_at HR CR (pair_at found k).right (low_at k h).1);
-        left-few = λ k h. slimL (pair_at found k).left (low_at k h).0;
-        right-few = λ k h. slimR (pair_at found k).right (low_at k h).1;
+        codes_few = let a = ap length t in let b = index_length found in omega arith;
+        left_reads = λ k h. reads_of HL CL SL (pair_at found k).left (low_at k h).0;
+        right_reads = λ k h. reads_of HR CR SR (pair_at found k).right (low_at k h).1;
+        left_row = λ k h. sym (row_at HL CL (pair_at found k).left (low_at k h).0);
+        right_row = λ k h. sym (row_at HR CR (pair_at found k).right (low_at k h).1);
+        left_few = λ k h. slimL (pair_at found k).left (low_at k h).0;
+        right_few = λ k h. slimR (pair_at found k).right (low_at k h).1;
       }
 
   -- what discovery has left in the lists can be read
@@ -90,14 +90,14 @@ pub begun : {G : Metric} {lefts rights codes : List ℕ} {C D : ChainColumns} (Y
     → Solves G f.starts f.places f.masses (begin G) (iterated (inf false) 0 (replicate (length G.found) nought) f.lengths f.places f.masses)
 unfolding begin
 begun {G} Y W S L P M f H = record {
-  residual-is = refl;
-  rounds-are = refl;
-  values-are = refl;
-  values-size = length-replicate {A = Float} (length G.found) nought;
+  residual_is = refl;
+  rounds_are = refl;
+  values_are = refl;
+  values_size = length-replicate {A = Float} (length G.found) nought;
   stored = first_stored G W;
   keeps = H.keeps;
-  places-size = refl;
-  masses-size = refl;
+  places_size = refl;
+  masses_size = refl;
 }
 
 -- they end with the solution

@@ -185,11 +185,11 @@ module _ {best : ℕ → Best} {v : List Float} {γ : Float} {cost : List Float}
       → {t' : Bool} → t' ≡ (b || t)
       → Betters best v γ cost s n l₀ p₀ m₀ (k + 1) x' t' l' p' m'
   betters_next h {z} {c} {js} {ms} W {x'} {d} ed ex {b} {l'} {p'} {m'} ea zl {t'} et =
-      let a : adopted b l' p' m' ≡ given (best k) = ea ∙ (λ i. adopt (W.value-is i) (W.places-are i) (W.masses-are i) v k s l p m) in
-      let y : x' ≡ larger x (apart (add binary64 (get_or cost k nan) (mul binary64 γ (best k).value)) (get_or v k nan)) = ex ∙ ap (larger x) (ed ∙ ap (λ (u : Float). apart (add binary64 (get_or cost k nan) (mul binary64 γ u)) (get_or v k nan)) W.value-is) in
+      let a : adopted b l' p' m' ≡ given (best k) = ea ∙ (λ i. adopt (W.value_is i) (W.places_are i) (W.masses_are i) v k s l p m) in
+      let y : x' ≡ larger x (apart (add binary64 (get_or cost k nan) (mul binary64 γ (best k).value)) (get_or v k nan)) = ex ∙ ap (larger x) (ed ∙ ap (λ (u : Float). apart (add binary64 (get_or cost k nan) (mul binary64 γ u)) (get_or v k nan)) W.value_is) in
       record {
         left = omega arith;
-        lengths_size = zl ∙ B.lengths-size;
+        lengths_size = zl ∙ B.lengths_size;
         comes =
             ap₂ (λ (u : Float) (w : Bool). better_from best v γ cost s (n - (k + 1)) (k + 1) u w l' p' m') y et
             ∙ ap (λ (j : ℕ). better_from best v γ cost s (n - (k + 1)) j (larger x (apart (add binary64 (get_or cost k nan) (mul binary64 γ (best k).value)) (get_or v k nan))) (b || t) l' p' m') (add-one k)

@@ -16,7 +16,7 @@ fn either(a: bool, b: bool) -> bool
 }
 
 // The most that a value is off, and whether a coupling has changed.
-#[derive(Drop)]
+#[derive(Clone, Copy)]
 pub struct Improvement {
     pub residual: f64,
     pub improved: bool,

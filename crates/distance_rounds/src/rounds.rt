@@ -41,7 +41,7 @@ fn evaluate(
 }
 
 // The most that a value was off, and the rounds made.
-#[derive(Drop)]
+#[derive(Clone, Copy)]
 pub struct Rounds {
     pub residual: f64,
     pub rounds: usize,

@@ -101,7 +101,7 @@ module _ (HL : ChainShape) (CL : ChainColumns) (HR : ChainShape) (CR : ChainColu
     right_in k h = let z = seen_size HR CR seenR in let b = (low k h).1 in omega arith
 
     costs_as : costs l r A.observations B.observations γ (length found) ≡ map (cost_of A B γ) found
-    costs_as = costs_are A B γ found l r A.observations B.observations (λ k h. (Y.left_at k h, Y.right-at k h, left_in k h, right_in k h)) (take-length A.observations) (take-length B.observations)
+    costs_as = costs_are A B γ found l r A.observations B.observations (λ k h. (Y.left_at k h, Y.right_at k h, left_in k h, right_in k h)) (take-length A.observations) (take-length B.observations)
 
     lists : (spent : List Float) → length found ≤ length spent → listed_of (length found) l r A.observations B.observations spent o ≡ listing true (listed G o spent)
     lists spent h = ap₂ (λ (x y : List ℕ). listed_of (length found) x y A.observations B.observations spent o) el er ∙ listed_of_lem G o spent _ _ fit asked h left_in right_in

@@ -43,7 +43,7 @@ module _ (H : ChainShape) (C : ChainColumns) where
   row_length : Shaped H C → (x : ℕ) → x < H.states → length (row_of (chain_of H C) x) ≡ begins C (x + 1) - begins C x
   row_length S x h =
       let u = starts_up C.offsets H.states S.rows.rise (x + 1) H.states (omega arith) (omega arith) in
-      let t = S.rows.targets-long in let p = S.rows.probabilities-long in
+      let t = S.rows.targets_long in let p = S.rows.probabilities_long in
       let e : length (slice (begins C x) (begins C (x + 1)) C.targets) ≡ begins C (x + 1) - begins C x = length-slice (begins C x) (begins C (x + 1)) C.targets (omega arith) in
       ap length (row_at H C x h) ∙ jumps_length (slice (begins C x) (begins C (x + 1)) C.targets) (slice (begins C x) (begins C (x + 1)) C.probabilities)
       (e ∙ sym (length-slice (begins C x) (begins C (x + 1)) C.probabilities (omega arith))) ∙ e

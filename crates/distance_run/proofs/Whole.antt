@@ -103,15 +103,15 @@ module _ {G : Metric} {l r codes : List ℕ} {C D : ChainColumns} (Y : Ready G l
       ready = Y;
       whole = W;
       count = refl;
-      in-lefts = il;
-      in-rights = ir;
-      in-cost = cost_long;
+      in_lefts = il;
+      in_rights = ir;
+      in_cost = cost_long;
       cost_is = cost_front;
-      gamma-is = gg;
-      aim-is = ap (λ (x : Float). mul binary64 (tolerance o) (sub binary64 one x)) gg;
-      fine-is = ap (λ (x : Float). mul binary64 (mul binary64 (tolerance o) (sub binary64 one x)) tenth) gg;
-      in-places = let a = H.places-size in omega arith;
-      in-masses = let a = H.masses-size in omega arith;
+      gamma_is = gg;
+      aim_is = ap (λ (x : Float). mul binary64 (tolerance o) (sub binary64 one x)) gg;
+      fine_is = ap (λ (x : Float). mul binary64 (mul binary64 (tolerance o) (sub binary64 one x)) tenth) gg;
+      in_places = let a = H.places_size in omega arith;
+      in_masses = let a = H.masses_size in omega arith;
     }
 
     pub all_laid : F.done ≡ true
@@ -175,13 +175,13 @@ module _ {G : Metric} {l r codes : List ℕ} {C D : ChainColumns} (Y : Ready G l
       account_as_lem = ap₂ (λ (x : Float) (y : Listed). record { mass = x; listed = y }) spends.1 listed_as
 
       value_as : get_or (I.values ++ drop n (replicate most nought)) 0 nan ≡ get_or (solve G o).value 0 nan
-      value_as = get_or-append I.values _ nan 0 (let z = (solution rp rm).values-size in omega arith) ∙ ap (λ (v : List Float). get_or v 0 nan) (solution rp rm).values-are
+      value_as = get_or-append I.values _ nan 0 (let z = (solution rp rm).values_size in omega arith) ∙ ap (λ (v : List Float). get_or v 0 nan) (solution rp rm).values_are
 
       tells : odd ≡ false → found_from n l r u w γ o S ≡ tell_of n (get_or (solve G o).value 0 nan) γ (solve G o).residual (solve G o).rounds account_as
       tells h =
           ap (found_from n l r u w γ o) (solved_as true false (all_laid rp rm) h)
           ∙ ap₂ (λ (x : Float) (a : Accounted). tell_of n x γ I.residual I.rounds a) value_as account_as_lem
-          ∙ ap₂ (λ (y : Float) (k : ℕ). tell_of n (get_or (solve G o).value 0 nan) γ y k account_as) (solution rp rm).residual-is (solution rp rm).rounds-are
+          ∙ ap₂ (λ (y : Float) (k : ℕ). tell_of n (get_or (solve G o).value 0 nan) γ y k account_as) (solution rp rm).residual_is (solution rp rm).rounds_are
 
       found_on : odd ≡ false → (b : Bool) → lt eps (time_in G γ o).mass ≡ b → found_from n l r u w γ o S ≡ R
       found_on h true e =

@@ -1,4 +1,6 @@
 // The run of `distance` (kantorovich.rs), below the checks of its arguments.
+#![tactic(auto)]
+
 pub mod scratch; // scratch.rt: lent lists all zero
 mod solve; // solve.rt: first couplings, refusals 18 and 16, the rounds
 mod told; // told.rt: what is told of them

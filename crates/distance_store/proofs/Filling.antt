@@ -82,13 +82,13 @@ module _ (lefts rights codes : List ℕ) (C D : ChainColumns) {n : ℕ} {s₀ l�
   pub cells_in : not d ≡ false → (n' ≤ 1024) × (at + n' ≤ length p) × (at + n' ≤ length m)
   cells_in t =
       let (a, b, c) = part_fits (look_up codes) C D (length codes) x y (part at p) (part at m) R E (not-false d t) in
-      let u = part_length at p in let w = part_length at m in let i = F.in-places in let j = F.in-masses in
+      let u = part_length at p in let w = part_length at m in let i = F.in_places in let j = F.in_masses in
       (a, omega arith, omega arith)
 
   pub fills_next : not d ≡ false → length p' ≡ length (part at p) → length m' ≡ length (part at m) → Fills lay n s₀ l₀ p₀ m₀ (k + 1) (at + n') (set s k at) (set l k n') (back at p p') (back at m m')
   fills_next t zp zm =
       let (a, b, c) = cells_in t in
-      let q = F.in-places in let r = F.in-masses in
+      let q = F.in_places in let r = F.in_masses in
       let o = F.few in
       let sp : length (back at p p') ≡ length p = back_length at p p' q zp in
       let sm : length (back at m m') ≡ length m = back_length at m m' r zm in
@@ -97,10 +97,10 @@ module _ (lefts rights codes : List ℕ) (C D : ChainColumns) {n : ℕ} {s₀ l�
         few = omega arith;
         in_places = omega arith;
         in_masses = omega arith;
-        starts_size = length-set s k at ∙ F.starts-size;
-        lengths_size = length-set l k n' ∙ F.lengths-size;
-        places_size = sp ∙ F.places-size;
-        masses_size = sm ∙ F.masses-size;
+        starts_size = length-set s k at ∙ F.starts_size;
+        lengths_size = length-set l k n' ∙ F.lengths_size;
+        places_size = sp ∙ F.places_size;
+        masses_size = sm ∙ F.masses_size;
         comes =
             ap₂ (λ (u : List ℕ) (w : List Float). fill_from lay (n - (k + 1)) (k + 1) (at + n') (set s k at) (set l k n') u w) (back_is at p p' q) (back_is at m m' r)
             ∙ ap (λ (v : ℕ). fill_from lay (n - (k + 1)) v (at + n') (set s k at) (set l k n') (take at p ++ p') (take at m ++ m')) (add-one k)
@@ -113,8 +113,8 @@ module _ (lefts rights codes : List ℕ) (C D : ChainColumns) {n : ℕ} {s₀ l�
   fills_stop t =
       let (a, b) = part_kept (look_up codes) C D (length codes) x y (part at p) (part at m) R E (not-true d t) in
       ap₂ (λ (u : List ℕ) (w : List Float). filled false s l u w)
-      (back_is at p p' F.in-places ∙ ap (λ (u : List ℕ). take at p ++ u) (a ∙ part_all at p) ∙ take-append-drop at p)
-      (back_is at m m' F.in-masses ∙ ap (λ (u : List Float). take at m ++ u) (b ∙ part_all at m) ∙ take-append-drop at m)
+      (back_is at p p' F.in_places ∙ ap (λ (u : List ℕ). take at p ++ u) (a ∙ part_all at p) ∙ take-append-drop at p)
+      (back_is at m m' F.in_masses ∙ ap (λ (u : List Float). take at m ++ u) (b ∙ part_all at m) ∙ take-append-drop at m)
       ∙ fill_none lay (n - (k + 1)) k at s l p m R is_part (not-true d t) ∙ ap (λ (v : ℕ). fill_from lay v k at s l p m) (sym one_more) ∙ F.comes
 
 -- ---- the check of the counts

@@ -79,21 +79,21 @@ module _ {G : Metric} {lefts rights codes : List ℕ} {C D : ChainColumns} (Y : 
     qs = row_rates D (at_pair k).right
 
     pub left_length : length xs ≡ length (row_l G (at_pair k))
-    left_length = sym (jumps_length xs ps (sym (beside_rows C (at_pair k).left (Y.left-reads k h)))) ∙ ap length (Y.left-row k h)
+    left_length = sym (jumps_length xs ps (sym (beside_rows C (at_pair k).left (Y.left_reads k h)))) ∙ ap length (Y.left_row k h)
 
     pub right_length : length ys ≡ length (row_r G (at_pair k))
-    right_length = sym (jumps_length ys qs (sym (beside_rows D (at_pair k).right (Y.right-reads k h)))) ∙ ap length (Y.right-row k h)
+    right_length = sym (jumps_length ys qs (sym (beside_rows D (at_pair k).right (Y.right_reads k h)))) ∙ ap length (Y.right_row k h)
 
     -- rows that fit, so that only the room decides
     pub rows_fit_lem : rows_fit (length xs) (length ps) (length ys) (length qs) (length codes) ≡ true
     rows_fit_lem =
-        let a = left_length in let b = right_length in let f = Y.left-few k h in let g = Y.right-few k h in
+        let a = left_length in let b = right_length in let f = Y.left_few k h in let g = Y.right_few k h in
         rw (
-          eq-eqb (length ps) (length xs) (beside_rows C (at_pair k).left (Y.left-reads k h)),
-          eq-eqb (length qs) (length ys) (beside_rows D (at_pair k).right (Y.right-reads k h)),
+          eq-eqb (length ps) (length xs) (beside_rows C (at_pair k).left (Y.left_reads k h)),
+          eq-eqb (length qs) (length ys) (beside_rows D (at_pair k).right (Y.right_reads k h)),
           le-leb (length xs) 32 (omega arith),
           le-leb (length ys) 32 (omega arith),
-          le-leb (length codes) 4096 Y.codes-few,
+          le-leb (length codes) 4096 Y.codes_few,
         )
 
     cells_are : length xs * length ys ≡ space G k
@@ -102,7 +102,7 @@ module _ {G : Metric} {lefts rights codes : List ℕ} {C D : ChainColumns} (Y : 
     first_is : independent_by (look_up codes) (jumps_of xs ps) (jumps_of ys qs) ≡ first k
     first_is =
         ap (λ (f : Look). independent_by f (jumps_of xs ps) (jumps_of ys qs)) look_is ∙ independent_by_lem G.found (jumps_of xs ps) (jumps_of ys qs)
-        ∙ ap₂ (independent G.found) (Y.left-row k h) (Y.right-row k h)
+        ∙ ap₂ (independent G.found) (Y.left_row k h) (Y.right_row k h)
 
     module _ (p : List ℕ) (m : List Float) where
       abbrev enough : Bool
@@ -113,8 +113,8 @@ module _ {G : Metric} {lefts rights codes : List ℕ} {C D : ChainColumns} (Y : 
 
       pub laying_is : laying_of lefts rights codes C D k p m ≡ lay_if enough (first k) p m
       laying_is =
-          ap₂ (λ (x y : ℕ). lay_pair (look_up codes) C D (length codes) x y p m) (Y.left_at k h) (Y.right-at k h)
-          ∙ ap (λ (b : Bool). laid_when b (lay_read (look_up codes) C D (length codes) (at_pair k).left (at_pair k).right p m) p m) (sym (and_second _ _ _ (Y.left-reads k h) (sym (Y.right-reads k h))))
+          ap₂ (λ (x y : ℕ). lay_pair (look_up codes) C D (length codes) x y p m) (Y.left_at k h) (Y.right_at k h)
+          ∙ ap (λ (b : Bool). laid_when b (lay_read (look_up codes) C D (length codes) (at_pair k).left (at_pair k).right p m) p m) (sym (and_second _ _ _ (Y.left_reads k h) (sym (Y.right_reads k h))))
           ∙ ap₂ (λ (b : Bool) (cs : List Share). lay_if b cs p m) cells_fit_lem first_is
 
 -- ---- parts of lists
@@ -221,8 +221,8 @@ module _ {G : Metric} {lefts rights codes : List ℕ} {C D : ChainColumns} (Y : 
 
     keeps_more : Keeps G firsts k S L P M → Keeps G firsts (suc k) S' L' P' M'
     keeps_more K = record {
-      in_starts = let e = length-set S k (from k) in let i = K.in-starts in omega arith;
-      in_lengths = let e = length-set L k (length cs) in let i = K.in-lengths in omega arith;
+      in_starts = let e = length-set S k (from k) in let i = K.in_starts in omega arith;
+      in_lengths = let e = length-set L k (length cs) in let i = K.in_lengths in omega arith;
       start_at = λ i l. start i l (eq_or_ne i k);
       length_at = λ i l. long i l (eq_or_ne i k);
       fits = λ i l. fit i l (eq_or_ne i k);
@@ -230,14 +230,14 @@ module _ {G : Metric} {lefts rights codes : List ℕ} {C D : ChainColumns} (Y : 
     }
       where
         start_here : get_or S' k 0 ≡ from k
-        start_here = get_or-set_same S k (from k) 0 (let i = K.in-starts in omega arith)
+        start_here = get_or-set_same S k (from k) 0 (let i = K.in_starts in omega arith)
 
         long_here : get_or L' k 0 ≡ length cs
-        long_here = get_or-set_same L k (length cs) 0 (let i = K.in-lengths in omega arith)
+        long_here = get_or-set_same L k (length cs) 0 (let i = K.in_lengths in omega arith)
 
         start : (i : ℕ) → i < suc k → (i ≡ k) ⊎ (i ≢ k) → get_or S' i 0 ≡ from i
         start i l (inl e) = ap (λ (j : ℕ). get_or S' j 0) e ∙ start_here ∙ ap from (sym e)
-        start i l (inr d) = get_or-set_other S k i (from k) 0 d ∙ K.start-at i (omega arith)
+        start i l (inr d) = get_or-set_other S k i (from k) 0 d ∙ K.start_at i (omega arith)
 
         long : (i : ℕ) → i < suc k → (i ≡ k) ⊎ (i ≢ k) → get_or L' i 0 ≡ length (coupling_at firsts i)
         long i l (inl e) = ap (λ (j : ℕ). get_or L' j 0) e ∙ long_here ∙ ap length (sym (first_at k h)) ∙ ap (λ (j : ℕ). length (coupling_at firsts j)) (sym e)
@@ -253,10 +253,10 @@ module _ {G : Metric} {lefts rights codes : List ℕ} {C D : ChainColumns} (Y : 
             ∙ ap₂ (λ (a b : ℕ). shares_in P' M' a (a + b)) start_here long_here ∙ put_shares ∙ sym (first_at k h) ∙ ap (coupling_at firsts) (sym e)
         same i l (inr d) =
             let j : i < k = omega arith in
-            let s = K.start-at i j in let n = K.length_at i j in let f = K.fits i j in let b = ends_before G i k j (omega arith) in
+            let s = K.start_at i j in let n = K.length_at i j in let f = K.fits i j in let b = ends_before G i k j (omega arith) in
             ap₂ (λ (a c : ℕ). shares_in P' M' a (a + c)) (get_or-set_other S k i (from k) 0 d) (get_or-set_other L k i (length cs) 0 d)
             ∙ ap₂ shares_of (slice_before (get_or S i 0) (get_or S i 0 + get_or L i 0) (from k) P _ (omega arith) (omega arith)) (slice_before (get_or S i 0) (get_or S i 0 + get_or L i 0) (from k) M _ (omega arith) (omega arith))
-            ∙ K.shares-are i j
+            ∙ K.shares_are i j
 
   -- ---- a store that is long enough: it is filled, and holds the first couplings
 
@@ -286,10 +286,10 @@ module _ {G : Metric} {lefts rights codes : List ℕ} {C D : ChainColumns} (Y : 
       (record {
         done = F.done;
         keeps = F.keeps;
-        starts_size = F.starts-size ∙ length-set S k (from k);
-        lengths_size = F.lengths-size ∙ length-set L k (length (first Y k));
-        places_size = F.places-size ∙ sp;
-        masses_size = F.masses-size ∙ sm;
+        starts_size = F.starts_size ∙ length-set S k (from k);
+        lengths_size = F.lengths_size ∙ length-set L k (length (first Y k));
+        places_size = F.places_size ∙ sp;
+        masses_size = F.masses_size ∙ sm;
       })
 
   pub filled_held : (S L P : List ℕ) (M : List Float) → length G.found ≤ length S → length G.found ≤ length L → room G G.found ≤ length P → room G G.found ≤ length M

@@ -227,7 +227,7 @@ module _ (look : Look) (xs : List ℕ) (ps : List Float) (ys : List ℕ) (qs : L
   cells_are = ap₂ ◌*◌ left_length right_length
 
   pub cells_few : length xs * length ys ≤ 1024
-  cells_few = mul-le-mul R.few-left R.few-right
+  cells_few = mul-le-mul R.few_left R.few_right
 
   -- the pair of cell k, and its two probabilities
   abbrev pub cell_pair : ℕ → Pair
@@ -371,12 +371,12 @@ module _ {cs : List Share} {p₀ : List ℕ} {m₀ : List Float} {k : ℕ} {p : 
   laying_next j x ej ex h a b =
       let u = length-map cs (λ (c : Share). c.at) in let w = length-map cs (λ (c : Share). c.mass) in
       record {
-        places_are = over_next (ats cs) p₀ p k 0 j L.places-are ej (omega arith) (omega arith);
-        masses_are = over_next (parts cs) m₀ m k nan x L.masses-are ex (omega arith) (omega arith);
+        places_are = over_next (ats cs) p₀ p k 0 j L.places_are ej (omega arith) (omega arith);
+        masses_are = over_next (parts cs) m₀ m k nan x L.masses_are ex (omega arith) (omega arith);
       }
 
   pub laying_done : k ≡ length cs → (p ≡ over (ats cs) p₀) × (m ≡ over (parts cs) m₀)
   laying_done e = (
-    over_done (ats cs) p₀ p k L.places-are (e ∙ sym (length-map cs (λ (c : Share). c.at))),
-    over_done (parts cs) m₀ m k L.masses-are (e ∙ sym (length-map cs (λ (c : Share). c.mass))),
+    over_done (ats cs) p₀ p k L.places_are (e ∙ sym (length-map cs (λ (c : Share). c.at))),
+    over_done (parts cs) m₀ m k L.masses_are (e ∙ sym (length-map cs (λ (c : Share). c.mass))),
   )

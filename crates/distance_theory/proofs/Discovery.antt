@@ -200,7 +200,7 @@ module _ {n n₁ : ℕ} {l r c l₁ r₁ c₁ : List ℕ} where
   pub takes_full : (ps qs : List Pair) → most < n₁ → Takes ps n l r c n₁ l₁ r₁ c₁ → Takes (ps ++ qs) n l r c n₁ l₁ r₁ c₁
   takes_full ps qs m f a b found l₀ r₀ c₀ h w N =
       let M = f a b found l₀ r₀ c₀ h (of_left a b ps qs w) N in
-      let k = M.count-is in
+      let k = M.count_is in
       subst⁻¹ (λ (x : List Pair). Noted a b x l₀ r₀ c₀ n₁ l₁ r₁ c₁) (meet_all_append ps qs found ∙ meet_all_full qs (meet_all ps found) (omega arith)) M
 
 -- ---- one pair
@@ -220,15 +220,15 @@ module _ (x y n : ℕ) (l r c : List ℕ) (L : Lists n l r c) where
   -- what the codes in use are
   front : (a b : ℕ) (found : List Pair) (l₀ r₀ c₀ : List ℕ) → Noted a b found l₀ r₀ c₀ n l r c → (take most found ≡ found) × (take n c ≡ index found)
   front a b found l₀ r₀ c₀ N =
-      let f = L.few in let k = N.count-is in
+      let f = L.few in let k = N.count_is in
       let t : take most found ≡ found = take_all most found (omega arith) in
-      (t, ap (take n) (N.codes-are ∙ ap (λ (ps : List Pair). over (index ps) c₀) t) ∙ take_at (index found) _ n (index_length found ∙ sym k))
+      (t, ap (take n) (N.codes_are ∙ ap (λ (ps : List Pair). over (index ps) c₀) t) ∙ take_at (index found) _ n (index_length found ∙ sym k))
 
   -- the codes of its key go to place at
   module _ (k at : ℕ) (ek : k ≡ key (pair x y)) (ea : at ≡ keyed (take n c) k) where
     looked : (a b : ℕ) (found : List Pair) (l₀ r₀ c₀ : List ℕ) → b ≤ 2048 → AllOf a b (pair x y ∷ []) → Noted a b found l₀ r₀ c₀ n l r c → is_at (take n c) at k ≡ ltb (place (pair x y) found) (length found)
     looked a b found l₀ r₀ c₀ h w N =
-        let f = L.few in let s = N.count-is in
+        let f = L.few in let s = N.count_is in
         let o = (w (pair x y) (inl refl)).1 in
         ap₂ (is_at (take n c)) (ea ∙ ap (keyed (take n c)) ek) ek
         ∙ ap (λ (z : List ℕ). is_at z (keyed z (key (pair x y))) (key (pair x y))) (front a b found l₀ r₀ c₀ N).1
@@ -246,26 +246,26 @@ module _ (x y n : ℕ) (l r c : List ℕ) (L : Lists n l r c) where
 
       new : (a b : ℕ) (found : List Pair) (l₀ r₀ c₀ : List ℕ) → b ≤ 2048 → AllOf a b (pair x y ∷ []) → Noted a b found l₀ r₀ c₀ n l r c → meet_all (pair x y ∷ []) found ≡ found ++ (pair x y ∷ [])
       new a b found l₀ r₀ c₀ h w N =
-          let f = L.few in let s = N.count-is in let e = absent a b found l₀ r₀ c₀ h w N in
+          let f = L.few in let s = N.count_is in let e = absent a b found l₀ r₀ c₀ h w N in
           meet_one (pair x y) found ∙ meet_new (pair x y) found (omega arith) (omega arith)
 
       grown : (a b : ℕ) (found : List Pair) (l₀ r₀ c₀ : List ℕ) → b ≤ 2048 → AllOf a b (pair x y ∷ []) → Noted a b found l₀ r₀ c₀ n l r c → Sane (found ++ (pair x y ∷ []))
       grown a b found l₀ r₀ c₀ h w N =
-          let f = L.few in let s = N.count-is in let e = absent a b found l₀ r₀ c₀ h w N in
+          let f = L.few in let s = N.count_is in let e = absent a b found l₀ r₀ c₀ h w N in
           (apart_snoc found (pair x y) N.sane.0 (λ i. let j = place_in (pair x y) found i in omega arith), (let z = length-append found (pair x y ∷ []) in omega arith))
 
       -- it is pair 4,097
       pub takes_last : most ≤ n → Takes (pair x y ∷ []) n l r c (n + 1) l r c
       takes_last m a b found l₀ r₀ c₀ h w N =
-          let f = L.few in let s = N.count-is in
+          let f = L.few in let s = N.count_is in
           let z = length-append found (pair x y ∷ []) in
           let t : take most (found ++ (pair x y ∷ [])) ≡ take most found = take-append-le most found (pair x y ∷ []) (omega arith) in
           subst⁻¹ (λ (z : List Pair). Noted a b z l₀ r₀ c₀ (n + 1) l r c) (new a b found l₀ r₀ c₀ h w N)
           (record {
             count_is = omega arith;
-            lefts_are = N.lefts-are ∙ ap (λ (ps : List Pair). over (lefts ps) l₀) (sym t);
-            rights_are = N.rights-are ∙ ap (λ (ps : List Pair). over (rights ps) r₀) (sym t);
-            codes_are = N.codes-are ∙ ap (λ (ps : List Pair). over (index ps) c₀) (sym t);
+            lefts_are = N.lefts_are ∙ ap (λ (ps : List Pair). over (lefts ps) l₀) (sym t);
+            rights_are = N.rights_are ∙ ap (λ (ps : List Pair). over (rights ps) r₀) (sym t);
+            codes_are = N.codes_are ∙ ap (λ (ps : List Pair). over (index ps) c₀) (sym t);
             sane = grown a b found l₀ r₀ c₀ h w N;
             low = meet_low a b (pair x y) found (w (pair x y) (inl refl)) N.low;
           })
@@ -273,25 +273,25 @@ module _ (x y n : ℕ) (l r c : List ℕ) (L : Lists n l r c) where
       -- it is noted
       pub takes_new : n < most → (c' : List ℕ) → c' ≡ take at c ++ pushed (n - at) (drop at c) (code (pair x y) n) → Takes (pair x y ∷ []) n l r c (n + 1) (set l n x) (set r n y) c'
       takes_new m c' ec a b found l₀ r₀ c₀ h w N =
-          let s = N.count-is in
+          let s = N.count_is in
           let z = length-append found (pair x y ∷ []) in
           let (t, i) = front a b found l₀ r₀ c₀ N in
           let t' : take most (found ++ (pair x y ∷ [])) ≡ found ++ (pair x y ∷ []) = take_all most (found ++ (pair x y ∷ [])) (omega arith) in
           subst⁻¹ (λ (z : List Pair). Noted a b z l₀ r₀ c₀ (n + 1) (set l n x) (set r n y) c') (new a b found l₀ r₀ c₀ h w N)
           (record {
             count_is = omega arith;
-            lefts_are = over_next (lefts found) l₀ l x n (N.lefts-are ∙ ap (λ (ps : List Pair). over (lefts ps) l₀) t) (length-map found (λ (p : Pair). p.left) ∙ sym s) m L.lefts-long
+            lefts_are = over_next (lefts found) l₀ l x n (N.lefts_are ∙ ap (λ (ps : List Pair). over (lefts ps) l₀) t) (length-map found (λ (p : Pair). p.left) ∙ sym s) m L.lefts_long
                 ∙ ap (λ (s : List ℕ). over s l₀) (sym (ap lefts t' ∙ map-append (λ (p : Pair). p.left) found (pair x y ∷ [])));
-            rights_are = over_next (rights found) r₀ r y n (N.rights-are ∙ ap (λ (ps : List Pair). over (rights ps) r₀) t) (length-map found (λ (p : Pair). p.right) ∙ sym s) m L.rights-long
+            rights_are = over_next (rights found) r₀ r y n (N.rights_are ∙ ap (λ (ps : List Pair). over (rights ps) r₀) t) (length-map found (λ (p : Pair). p.right) ∙ sym s) m L.rights_long
                 ∙ ap (λ (s : List ℕ). over s r₀) (sym (ap rights t' ∙ map-append (λ (p : Pair). p.right) found (pair x y ∷ [])));
-            codes_are = coded found c₀ s (N.codes-are ∙ ap (λ (ps : List Pair). over (index ps) c₀) t) i (splits a b found l₀ r₀ c₀ h w N i) ∙ ap (λ (ps : List Pair). over (index ps) c₀) (sym t');
+            codes_are = coded found c₀ s (N.codes_are ∙ ap (λ (ps : List Pair). over (index ps) c₀) t) i (splits a b found l₀ r₀ c₀ h w N i) ∙ ap (λ (ps : List Pair). over (index ps) c₀) (sym t');
             sane = grown a b found l₀ r₀ c₀ h w N;
             low = meet_low a b (pair x y) found (w (pair x y) (inl refl)) N.low;
           })
         where
           splits : (a b : ℕ) (found : List Pair) (l₀ r₀ c₀ : List ℕ) → b ≤ 2048 → AllOf a b (pair x y ∷ []) → Noted a b found l₀ r₀ c₀ n l r c → take n c ≡ index found → Splits (take n c) (code (pair x y) n) at
           splits a b found l₀ r₀ c₀ h w N i =
-              let f = L.few in let s = N.count-is in
+              let f = L.few in let s = N.count_is in
               let e = absent a b found l₀ r₀ c₀ h w N in
               let o = (w (pair x y) (inl refl)).1 in
               subst⁻¹ (λ (z : List ℕ). Splits z (code (pair x y) n) at) i (subst⁻¹ (Splits (index found) (code (pair x y) n)) (ea ∙ ap (keyed (take n c)) ek ∙ ap (λ (z : List ℕ). keyed z (key (pair x y))) i)
@@ -301,7 +301,7 @@ module _ (x y n : ℕ) (l r c : List ℕ) (L : Lists n l r c) where
           coded found c₀ v e i s =
               let u = s.within in
               let w = length-take n c in
-              let g = L.codes-long in
+              let g = L.codes_long in
               ec ∙ push_insert (code (pair x y) n) at (n - at) n c (omega arith) (omega arith) s
               ∙ ap₂ (λ (p q : List ℕ). p ++ q) (ap (insert (code (pair x y) n)) i ∙ ap (λ (j : ℕ). insert (code (pair x y) j) (index found)) v ∙ sym (index_more found (pair x y)))
               (ap (drop (suc n)) e ∙ tail)
@@ -429,12 +429,12 @@ module _ (A B : Chain) (a b : ℕ) (O T P U : List ℕ) (Ra : Reads a A O T) (RB
     -- pair i is one of states
     pub pair_reads : i < n → (get_or l i 0 ≡ (pair_at F.found i).left) × (get_or r i 0 ≡ (pair_at F.found i).right) × Of a b (pair_at F.found i)
     pair_reads h =
-        let k = F.noted.count-is in
+        let k = F.noted.count_is in
         let t : take most F.found ≡ F.found = take_all most F.found (omega arith) in
         let s = length-map F.found (λ (p : Pair). p.left) in
         let u = length-map F.found (λ (p : Pair). p.right) in (
-          ap (λ (z : List ℕ). get_or z i 0) (F.noted.lefts-are ∙ ap (λ (ps : List Pair). over (lefts ps) l₀) t) ∙ get_or-append (lefts F.found) _ 0 i (omega arith) ∙ map_at (λ (p : Pair). p.left) F.found i 0 (pair 0 0) (omega arith),
-          ap (λ (z : List ℕ). get_or z i 0) (F.noted.rights-are ∙ ap (λ (ps : List Pair). over (rights ps) r₀) t) ∙ get_or-append (rights F.found) _ 0 i (omega arith) ∙ map_at (λ (p : Pair). p.right) F.found i 0 (pair 0 0) (omega arith),
+          ap (λ (z : List ℕ). get_or z i 0) (F.noted.lefts_are ∙ ap (λ (ps : List Pair). over (lefts ps) l₀) t) ∙ get_or-append (lefts F.found) _ 0 i (omega arith) ∙ map_at (λ (p : Pair). p.left) F.found i 0 (pair 0 0) (omega arith),
+          ap (λ (z : List ℕ). get_or z i 0) (F.noted.rights_are ∙ ap (λ (ps : List Pair). over (rights ps) r₀) t) ∙ get_or-append (rights F.found) _ 0 i (omega arith) ∙ map_at (λ (p : Pair). p.right) F.found i 0 (pair 0 0) (omega arith),
           F.noted.low (pair_at F.found i) (in_at F.found i (pair 0 0) (omega arith)),
         )
 
@@ -462,7 +462,7 @@ module _ (A B : Chain) (a b : ℕ) (O T P U : List ℕ) (Ra : Reads a A O T) (RB
         pick zero e = absurd (let z = F.enough in omega arith)
         pick (suc k) e =
             let z = F.enough in
-            let w = F.noted.count-is in
+            let w = F.noted.count_is in
             record {
               found = follow A B F.found i;
               fuel = k;
@@ -474,15 +474,15 @@ module _ (A B : Chain) (a b : ℕ) (O T P U : List ℕ) (Ra : Reads a A O T) (RB
   module _ (l₀ r₀ c₀ : List ℕ) (i n : ℕ) (l r c : List ℕ) (F : Finds A B a b l₀ r₀ c₀ i n l r c) where
     -- all are found, or too many
     pub finds_end : n ≤ i → Noted a b (pairs A B) l₀ r₀ c₀ n l r c
-    finds_end h = let k = F.noted.count-is in subst (λ (ps : List Pair). Noted a b ps l₀ r₀ c₀ n l r c) (sym (explore_end A B F.fuel i F.found (omega arith)) ∙ F.comes) F.noted
+    finds_end h = let k = F.noted.count_is in subst (λ (ps : List Pair). Noted a b ps l₀ r₀ c₀ n l r c) (sym (explore_end A B F.fuel i F.found (omega arith)) ∙ F.comes) F.noted
 
     pub finds_full : most < n → Noted a b (pairs A B) l₀ r₀ c₀ n l r c
-    finds_full h = let k = F.noted.count-is in subst (λ (ps : List Pair). Noted a b ps l₀ r₀ c₀ n l r c) (sym (explore_full A B F.fuel i F.found (omega arith)) ∙ F.comes) F.noted
+    finds_full h = let k = F.noted.count_is in subst (λ (ps : List Pair). Noted a b ps l₀ r₀ c₀ n l r c) (sym (explore_full A B F.fuel i F.found (omega arith)) ∙ F.comes) F.noted
 
 -- ---- the loop
 
 reads_row_lem : (n : ℕ) (A : Chain) (O T : List ℕ) (x : ℕ) → Reads n A O T → x < n → Rowed O T x
-reads_row_lem n A O T x R h = record { ends = (let k = R.offsets-long in omega arith); rises = R.rise x h; within = R.targets-long x h }
+reads_row_lem n A O T x R h = record { ends = (let k = R.offsets_long in omega arith); rises = R.rise x h; within = R.targets_long x h }
 
 pub discovers_start : (O T P U l r c : List ℕ) → Discovers O T P U l r c 0 1 l r c
 discovers_start O T P U l r c A B a b l₀ r₀ c₀ Ra RB F = F
@@ -508,7 +508,7 @@ module _ {O T P U l r c : List ℕ} {i n : ℕ} {l' r' c' : List ℕ} (D : Disco
 -- ---- the whole
 
 pub noted_listed : {a b : ℕ} {found : List Pair} {l₀ r₀ c₀ : List ℕ} {n : ℕ} {l r c : List ℕ} → Noted a b found l₀ r₀ c₀ n l r c → discovered n l r c ≡ listed found l₀ r₀ c₀
-noted_listed N = rw (N.count-is, N.lefts-are, N.rights-are, N.codes-are)
+noted_listed N = rw (N.count_is, N.lefts_are, N.rights_are, N.codes_are)
 
 -- columns as check 4 wants them are read so
 pub shaped_reads : (H : ChainShape) (C : ChainColumns) → H.states ≤ 2000 → misshapen H C ≡ false → Reads H.states (chain_of H C) C.offsets C.targets
@@ -518,12 +518,12 @@ shaped_reads H C h e =
     record {
       few = h;
       sound = chain_sound H C S;
-      offsets_long = S.rows.offsets-long;
+      offsets_long = S.rows.offsets_long;
       rise = S.rows.rise;
-      targets_long = λ s k. let u = starts_up C.offsets H.states S.rows.rise (s + 1) H.states (omega arith) (omega arith) in let t = S.rows.targets-long in omega arith;
+      targets_long = λ s k. let u = starts_up C.offsets H.states S.rows.rise (s + 1) H.states (omega arith) (omega arith) in let t = S.rows.targets_long in omega arith;
       rows = λ s k.
           let u = starts_up C.offsets H.states S.rows.rise (s + 1) H.states (omega arith) (omega arith) in
-          let t = S.rows.targets-long in let p = S.rows.probabilities-long in
+          let t = S.rows.targets_long in let p = S.rows.probabilities_long in
           ap targets (row_at H C s k) ∙ jumps_targets (slice (begins C s) (begins C (s + 1)) C.targets) (slice (begins C s) (begins C (s + 1)) C.probabilities)
           (length-slice (begins C s) (begins C (s + 1)) C.targets (omega arith) ∙ sym (length-slice (begins C s) (begins C (s + 1)) C.probabilities (omega arith)));
     }

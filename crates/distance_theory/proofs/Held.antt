@@ -78,12 +78,12 @@ slice_at a b i l d h k = get_or-drop a (take b l) (i - a) d ∙ get_or-take b l 
 -- how many shares there are from a to b, and the one at place i
 module _ {P : List ℕ} {M : List Float} {n a b : ℕ} (H : Lies P M n a b) where
   pub in_length : length (shares_in P M a b) ≡ b - a
-  in_length = shares_length (slice a b P) (slice a b M) (length-slice a b P H.in-places ∙ sym (length-slice a b M H.in-masses)) ∙ length-slice a b P H.in-places
+  in_length = shares_length (slice a b P) (slice a b M) (length-slice a b P H.in_places ∙ sym (length-slice a b M H.in_masses)) ∙ length-slice a b P H.in_places
 
   pub in_at : (i : ℕ) → a ≤ i → i < b → share_at (shares_in P M a b) (i - a) ≡ share (get_or P i 0) (get_or M i nan)
   in_at i h k =
-      let p = length-slice a b P H.in-places in
-      let m = length-slice a b M H.in-masses in
+      let p = length-slice a b P H.in_places in
+      let m = length-slice a b M H.in_masses in
       shares_at (slice a b P) (slice a b M) (i - a) (omega arith) (omega arith) ∙ ap₂ share (slice_at a b i P 0 h k) (slice_at a b i M nan h k)
 
 -- what a write elsewhere leaves

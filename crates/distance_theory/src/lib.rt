@@ -1,4 +1,6 @@
 // `distance` and `bisim_distance` of kantorovich.rs: their data, their definitions (specs/), and laws of these (proofs/).
+#![tactic(auto)]
+
 ghost use Rattle.std.specs.Prelude.{◌≡◌};
 ghost use Rattle.distance_theory.specs.Rounds;
 ghost use Rattle.distance_theory.specs.Refusal;
@@ -7,7 +9,7 @@ use bisim_core::ids::StateId;
 use numbers::{EPS, larger};
 
 // How near the distance is wanted, the most rounds of improvement, and how many contributions are listed.
-#[derive(Drop)]
+#[derive(Clone, Copy)]
 pub struct MetricOptions {
     pub tolerance: f64,
     pub max_rounds: usize,
@@ -16,7 +18,7 @@ pub struct MetricOptions {
 
 // A pair's share of the distance: how far its observations are apart, the discounted time spent in it, and the product of the two.
 #[repr(C)]
-#[derive(Drop)]
+#[derive(Clone, Copy)]
 pub struct PairContribution {
     pub left: StateId,
     pub right: StateId,
@@ -26,7 +28,7 @@ pub struct PairContribution {
 }
 
 // The value of the first pair, the error bound as the Rust has it, the discount, the number of pairs explored, of contributions listed and of rounds made.
-#[derive(Drop)]
+#[derive(Clone, Copy)]
 pub struct Distance {
     pub value: f64,
     pub error_bound: f64,
@@ -37,7 +39,7 @@ pub struct Distance {
 }
 
 // The distance, or the number of the first check that fails.
-#[derive(Drop)]
+#[derive(Clone, Copy)]
 pub enum Measured {
     Distance(Distance),
     Refused(u32),

@@ -64,5 +64,5 @@ module _ (limit : ℕ) (S L P : List ℕ) (M : List Float) (γ : Float) (l : Lis
             let h = sym e ∙ t in
             let y : Rested (visits γ (policy_in S L P M n) limit (depart γ n)) m s = rw (length-take-le n l q) at x in
             let k : length (visits γ (policy_in S L P M n) limit (depart γ n)).spent ≡ n = (visits_wide γ (policy_in S L P M n) n limit (depart γ n) (depart_wide γ n)).spent in
-            rw (le-leb n most p, le-leb n (length l) q, h, y.mass-is, y.spent-is)
+            rw (le-leb n most p, le-leb n (length l) q, h, y.mass_is, y.spent_is)
             (ap (λ (j : ℕ). occupied true (visits γ (policy_in S L P M n) limit (depart γ n)).mass ((visits γ (policy_in S L P M n) limit (depart γ n)).spent ++ drop j l)) (sym k))

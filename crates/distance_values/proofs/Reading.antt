@@ -26,8 +26,8 @@ module _ (S L P : List ℕ) (M : List Float) (n : ℕ) where
       let z = length-slice a b P p in
       record {
         ordered = omega arith;
-        in-places = p;
-        in-masses = leb-true b (length M) y;
+        in_places = p;
+        in_masses = leb-true b (length M) y;
         leads = λ i h l. ltb-true (get_or P i 0) n (subst (λ (j : ℕ). ltb j n ≡ true) (slice_at a b i P 0 h l) (all_at (below n) (slice a b P) 0 q (i - a) (omega arith)));
       }
 
@@ -37,8 +37,8 @@ module _ (S L P : List ℕ) (M : List Float) (n : ℕ) where
       let (x, r) = and_t (leb n (length S)) _ e in
       let (y, q) = and_t (leb n (length L)) _ r in
       record {
-        in-starts = leb-true n (length S) x;
-        in-lengths = leb-true n (length L) y;
+        in_starts = leb-true n (length S) x;
+        in_lengths = leb-true n (length L) y;
         each = λ k h. lies_known k (every_at (lies S L P M n) n q k h);
       }
 

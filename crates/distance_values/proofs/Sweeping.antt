@@ -100,7 +100,7 @@ module _ {S L P : List ℕ} {M c : List Float} {γ : Float} {v₀ : List Float} 
         let n = policy_length S L P M (length v₀) in
         let s = I.size in
         let e = sym (no_item (λ (ps : List (List Share)). sweep (priced γ c) k ps (values v d)) (policy_in S L P M (length v₀)) k (omega arith)) ∙ I.same in
-        record { value-is = ap (λ (w : Values). w.value) e; delta-is = ap (λ (w : Values). w.delta) e }
+        record { value_is = ap (λ (w : Values). w.value) e; delta_is = ap (λ (w : Values). w.delta) e }
 
 -- ---- the sweeps
 
@@ -138,15 +138,15 @@ module _ {limit : ℕ} {S L P : List ℕ} {M c : List Float} {γ tol : Float} {v
           record {
             ends = omega arith;
             size = s ∙ I.size;
-            same = ap (sweeps (priced γ c) (policy_in S L P M (length v₀)) tol (limit - (k + 1))) W'.value-is
-                ∙ sym (sweeps_on (priced γ c) (policy_in S L P M (length v₀)) tol (limit - (k + 1)) v (ap (λ (x : Float). le x tol) (sym W'.delta-is) ∙ t))
+            same = ap (sweeps (priced γ c) (policy_in S L P M (length v₀)) tol (limit - (k + 1))) W'.value_is
+                ∙ sym (sweeps_on (priced γ c) (policy_in S L P M (length v₀)) tol (limit - (k + 1)) v (ap (λ (x : Float). le x tol) (sym W'.delta_is) ∙ t))
                 ∙ ap (λ (j : ℕ). sweeps (priced γ c) (policy_in S L P M (length v₀)) tol j v) (sym left) ∙ I.same;
           }
 
       pub repeating_settles : le d tol ≡ true → v' ≡ sweeps (priced γ c) (policy_in S L P M (length v₀)) tol limit v₀
       repeating_settles t =
           let W' = swept_here in
-          W'.value-is ∙ sym (sweeps_end (priced γ c) (policy_in S L P M (length v₀)) tol (limit - (k + 1)) v (ap (λ (x : Float). le x tol) (sym W'.delta-is) ∙ t))
+          W'.value_is ∙ sym (sweeps_end (priced γ c) (policy_in S L P M (length v₀)) tol (limit - (k + 1)) v (ap (λ (x : Float). le x tol) (sym W'.delta_is) ∙ t))
           ∙ ap (λ (j : ℕ). sweeps (priced γ c) (policy_in S L P M (length v₀)) tol j v) (sym left) ∙ I.same
 
     pub repeating_ends : limit ≤ k → v ≡ sweeps (priced γ c) (policy_in S L P M (length v₀)) tol limit v₀

@@ -86,7 +86,7 @@ module _ {G : Metric} {policy : List (List Share)} {S L P : List ℕ} {M : List 
       (subst (λ (m : ℕ). Placed m (coupling_at policy k)) z (I.stored.placed k (omega arith)))
 
   pub stored_held : held S L P M n ≡ true
-  stored_held = rw (le-leb n (length S) I.in-starts, le-leb n (length L) I.in-lengths) (every_of (lies S L P M n) n (λ k h. lies_of S L P M n k (I.room k h).0 (I.room k h).1 (placed k h)))
+  stored_held = rw (le-leb n (length S) I.in_starts, le-leb n (length L) I.in_lengths) (every_of (lies S L P M n) n (λ k h. lies_of S L P M n k (I.room k h).0 (I.room k h).1 (placed k h)))
 
   -- ---- what is left behind
 

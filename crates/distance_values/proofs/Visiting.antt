@@ -80,7 +80,7 @@ module _ {S L P : List ℕ} {M : List Float} {γ : Float} {c x₀ s₀ : List Fl
   module _ {x s : List Float} {k : ℕ} (I : Stays S L P M γ c x₀ s₀ x s k) where
     module _ (more : k < length c) where
       pub pair_lies : Holds S L P M (length c) → Lies P M (length x) (get_or S k 0) (get_or S k 0 + get_or L k 0)
-      pair_lies H = rw I.next-size (H.each k more)
+      pair_lies H = rw I.next_size (H.each k more)
 
       turned : (b : Bool) → is_zero (get_or c k nan) ≡ b → (x' s' : List Float) → length x' ≡ length c → length s' ≡ length c
           → staying s' x' ≡ stay b γ (get_or c k nan) k (coupling S L P M k) (staying s x) → Stays S L P M γ c x₀ s₀ x' s' (k + 1)
@@ -100,19 +100,19 @@ module _ {S L P : List ℕ} {M : List Float} {γ : Float} {c x₀ s₀ : List Fl
       -- nothing is there
       pub stays_over : is_zero (get_or c k nan) ≡ true → (x' s' : List Float) → x' ≡ x → s' ≡ s → Stays S L P M γ c x₀ s₀ x' s' (k + 1)
       unfolding stay
-      stays_over z x' s' e f = turned true z x' s' (ap length e ∙ I.next-size) (ap length f ∙ I.spent-size) (rw (e, f))
+      stays_over z x' s' e f = turned true z x' s' (ap length e ∙ I.next_size) (ap length f ∙ I.spent_size) (rw (e, f))
 
       pub stays_through : is_zero (get_or c k nan) ≡ false → {y : List Float} → length y ≡ length x → y ≡ pour (mul binary64 γ (get_or c k nan)) (coupling S L P M k) x
           → (x' s' : List Float) → x' ≡ y → s' ≡ set s k (add binary64 (get_or s k nan) (get_or c k nan)) → Stays S L P M γ c x₀ s₀ x' s' (k + 1)
       unfolding stay
-      stays_through z n p x' s' e f = turned false z x' s' (ap length e ∙ n ∙ I.next-size) (ap length f ∙ length-set s k (add binary64 (get_or s k nan) (get_or c k nan)) ∙ I.spent-size) (rw (e, f, p))
+      stays_through z n p x' s' e f = turned false z x' s' (ap length e ∙ n ∙ I.next_size) (ap length f ∙ length-set s k (add binary64 (get_or s k nan) (get_or c k nan)) ∙ I.spent_size) (rw (e, f, p))
 
     pub stays_end : length c ≤ k → Stayed (stay_all γ c 0 (policy_in S L P M (length c)) (staying s₀ x₀)) s x
     unfolding stay_all
     stays_end h =
         let n = policy_length S L P M (length c) in
         let e = sym (no_item (λ (ps : List (List Share)). stay_all γ c k ps (staying s x)) (policy_in S L P M (length c)) k (omega arith)) ∙ I.same in
-        record { spent-is = ap (λ (w : Stay). w.spent) e; next_is = ap (λ (w : Stay). w.next) e }
+        record { spent_is = ap (λ (w : Stay). w.spent) e; next_is = ap (λ (w : Stay). w.next) e }
 
 -- ---- the next masses become the present ones
 
@@ -155,29 +155,29 @@ module _ {c₀ x₀ : List Float} (size : length x₀ ≡ length c₀) where
 
   module _ {c x : List Float} {t : Float} {k : ℕ} (I : Moving c₀ x₀ c x t k) where
     pub current_size : length c ≡ length c₀
-    current_size = let e = I.ends in ap length I.current-is ∙ over_length x₀ c₀ k (omega arith) e
+    current_size = let e = I.ends in ap length I.current_is ∙ over_length x₀ c₀ k (omega arith) e
 
     pub next_size : length x ≡ length x₀
-    next_size = let e = I.ends in blank_size x₀ k I.next-is (omega arith)
+    next_size = let e = I.ends in blank_size x₀ k I.next_is (omega arith)
 
     pub moving_on : k < length c₀ → Moving c₀ x₀ (set c k (get_or x k nan)) (set x k nought) (add binary64 t (get_or x k nan)) (k + 1)
     moving_on more =
         let n = length-replicate (length x₀) nought in
-        let y : get_or x k nan ≡ get_or x₀ k nan = ap (λ (l : List Float). get_or l k nan) I.next-is ∙ over_at (replicate (length x₀) nought) x₀ k (omega arith) in
+        let y : get_or x k nan ≡ get_or x₀ k nan = ap (λ (l : List Float). get_or l k nan) I.next_is ∙ over_at (replicate (length x₀) nought) x₀ k (omega arith) in
         record {
           ends = omega arith;
-          current_is = over_next x₀ c₀ c k nan (get_or x k nan) I.current-is y (omega arith) more;
-          next_is = blank_on x₀ k I.next-is (omega arith);
-          total_is = ap (λ (z : Float). sum_from (add binary64 t z) (drop (k + 1) x₀)) y ∙ sum_next t x₀ k (omega arith) ∙ I.total-is;
+          current_is = over_next x₀ c₀ c k nan (get_or x k nan) I.current_is y (omega arith) more;
+          next_is = blank_on x₀ k I.next_is (omega arith);
+          total_is = ap (λ (z : Float). sum_from (add binary64 t z) (drop (k + 1) x₀)) y ∙ sum_next t x₀ k (omega arith) ∙ I.total_is;
         }
 
     pub moving_ends : length c₀ ≤ k → Advanced x₀ t c x
     moving_ends done =
         let e = I.ends in
         record {
-          mass-is = sum_end t x₀ k (omega arith) ∙ I.total-is;
-          current_is = over_whole x₀ c₀ c k I.current-is (omega arith) size;
-          next_is = blank_ends x₀ k I.next-is (omega arith);
+          mass_is = sum_end t x₀ k (omega arith) ∙ I.total_is;
+          current_is = over_whole x₀ c₀ c k I.current_is (omega arith) size;
+          next_is = blank_ends x₀ k I.next_is (omega arith);
         }
 
 -- ---- the rounds
@@ -207,11 +207,11 @@ module _ {limit : ℕ} {S L P : List ℕ} {M : List Float} {γ m₀ : Float} {c�
 
   module _ {m : Float} {c x s : List Float} {k : ℕ} (I : Going limit S L P M γ m₀ c₀ s₀ m c x s k) where
     pub next_long : length x ≡ length c
-    next_long = ap length I.next-is ∙ length-replicate (length c₀) nought ∙ sym I.current-size
+    next_long = ap length I.next_is ∙ length-replicate (length c₀) nought ∙ sym I.current_size
 
     -- a round can be made
     pub round_ready : Holds S L P M (length c₀) → Holds S L P M (length c) × ((length x ≡ length c) × (length s ≡ length c))
-    round_ready H = (rw I.current-size H, (next_long, I.spent-size ∙ sym I.current-size))
+    round_ready H = (rw I.current_size H, (next_long, I.spent_size ∙ sym I.current_size))
 
     pub going_on : k < limit → lt eps m ≡ true → {x' s' : List Float} → length s' ≡ length s → length x' ≡ length x → Stayed (stay_all γ c 0 (policy_in S L P M (length c)) (staying s x)) s' x'
         → {m' : Float} {c' y : List Float} → Advanced x' m' c' y → Going limit S L P M γ m₀ c₀ s₀ m' c' y s' (k + 1)
@@ -219,29 +219,29 @@ module _ {limit : ℕ} {S L P : List ℕ} {M : List Float} {γ m₀ : Float} {c�
         let z : limit - k ≡ suc (limit - (k + 1)) = omega arith in
         record {
           ends = omega arith;
-          current_size = ap length A.current-is ∙ nx ∙ next_long ∙ I.current-size;
-          next_is = A.next-is ∙ ap (λ (n : ℕ). replicate n nought) (nx ∙ next_long ∙ I.current-size);
-          spent_size = ns ∙ I.spent-size;
+          current_size = ap length A.current_is ∙ nx ∙ next_long ∙ I.current_size;
+          next_is = A.next_is ∙ ap (λ (n : ℕ). replicate n nought) (nx ∙ next_long ∙ I.current_size);
+          spent_size = ns ∙ I.spent_size;
           same = ap (visits γ (policy_in S L P M (length c₀)) (limit - (k + 1))) here
               ∙ sym (visits_on γ (policy_in S L P M (length c₀)) (limit - (k + 1)) (visiting s c m) big)
               ∙ ap (λ (j : ℕ). visits γ (policy_in S L P M (length c₀)) j (visiting s c m)) (sym z) ∙ I.same;
         }
       where
         here : visiting s' c' m' ≡ onward γ (policy_in S L P M (length c₀)) (visiting s c m)
-        here = rw (A.mass-is, A.current-is, T.spent-is, T.next-is)
-            (sym (onward_is γ (policy_in S L P M (length c₀)) s c m (stay_all γ c 0 (policy_in S L P M (length c)) (staying s x)) (rw (I.next-is, I.current-size))))
+        here = rw (A.mass_is, A.current_is, T.spent_is, T.next_is)
+            (sym (onward_is γ (policy_in S L P M (length c₀)) s c m (stay_all γ c 0 (policy_in S L P M (length c)) (staying s x)) (rw (I.next_is, I.current_size))))
 
     pub going_settles : lt eps m ≡ false → Rested (visits γ (policy_in S L P M (length c₀)) limit (visiting s₀ c₀ m₀)) m s
     going_settles small =
         let e = sym (visits_end γ (policy_in S L P M (length c₀)) (limit - k) (visiting s c m) small) ∙ I.same in
-        record { mass-is = ap (λ (w : Visits). w.mass) e; spent-is = ap (λ (w : Visits). w.spent) e }
+        record { mass_is = ap (λ (w : Visits). w.mass) e; spent_is = ap (λ (w : Visits). w.spent) e }
 
     pub going_ends : limit ≤ k → Rested (visits γ (policy_in S L P M (length c₀)) limit (visiting s₀ c₀ m₀)) m s
     unfolding visits
     going_ends h =
         let z : limit - k ≡ 0 = omega arith in
         let e = ap (λ (j : ℕ). visits γ (policy_in S L P M (length c₀)) j (visiting s c m)) (sym z) ∙ I.same in
-        record { mass-is = ap (λ (w : Visits). w.mass) e; spent-is = ap (λ (w : Visits). w.spent) e }
+        record { mass_is = ap (λ (w : Visits). w.mass) e; spent_is = ap (λ (w : Visits). w.spent) e }
 
 -- ---- from the first pair on
 

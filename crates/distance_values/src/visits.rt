@@ -144,7 +144,7 @@ fn visits_in(
 }
 
 // Whether the couplings could be read, and the mass that is left.
-#[derive(Drop)]
+#[derive(Clone, Copy)]
 pub struct Left {
     pub done: bool,
     pub mass: f64,

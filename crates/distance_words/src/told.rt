@@ -6,7 +6,7 @@ use bisim_core::ids::StateId;
 use distance_theory::{Distance, PairContribution};
 
 // The number of the refusal, 0 if there is none, the most that a value was off, and the rounds made.
-#[derive(Drop)]
+#[derive(Clone, Copy)]
 pub struct Solved {
     pub refusal: u32,
     pub residual: f64,
@@ -14,7 +14,7 @@ pub struct Solved {
 }
 
 // Whether the contributions could be listed, how many are, and 64 records, of which these are the first.
-#[derive(Drop)]
+#[derive(Clone, Copy)]
 pub struct Listed {
     pub done: bool,
     pub count: usize,
@@ -22,14 +22,14 @@ pub struct Listed {
 }
 
 // How the distance arises: the mass that is left in `occupancy`, and the contributions.
-#[derive(Drop)]
+#[derive(Clone, Copy)]
 pub struct Accounted {
     pub mass: f64,
     pub listed: Listed,
 }
 
 // The number of the refusal, 0 if there is none, the distance, and 64 records, the contributions first. A refusal has zeros behind its number.
-#[derive(Drop)]
+#[derive(Clone, Copy)]
 pub struct Told {
     pub refusal: u32,
     pub distance: Distance,

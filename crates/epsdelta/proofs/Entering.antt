@@ -102,7 +102,7 @@ rows_stand {J} {n} {E} {S} {T'} {P} H rows = every_of (row_stands S T' P) n stan
         let t = length-slice a b T' (row_in H s h).0 in
         let p = length-slice a b P (row_in H s h).1 in
         let w = row_few H s h n (rows s h) in
-        and_second _ _ true (le-leb (length ts) 31 (omega arith)) (and_second _ _ true (eq-eqb (length ws) (length ts) (p ∙ sym t)) (sym (rates_fit ts ws (t ∙ sym p) (subst⁻¹ AllInRange (H.prob s h) (rows s h).in-range))))
+        and_second _ _ true (le-leb (length ts) 31 (omega arith)) (and_second _ _ true (eq-eqb (length ws) (length ts) (p ∙ sym t)) (sym (rates_fit ts ws (t ∙ sym p) (subst⁻¹ AllInRange (H.prob s h) (rows s h).in_range))))
 
     stand : (s : ℕ) → s < n → row_stands S T' P s ≡ true
     stand s h =
@@ -162,7 +162,7 @@ module _ (SL : Shape) (ML : Columns) (SR : Shape) (MR : Columns) (E₀ : List Fl
       × (SL.states + SR.states ≤ 2000 → (every (row_stands S T' P) (SL.states + SR.states) ≡ true) × (SL.states + SR.states ≤ length E) × (SL.states + SR.states < length S) × (SL.states + SR.states ≤ m))
   ready z =
       let (A, B) = both z in
-      (A.states-few, B.states-few, λ few. let H = held z few in (rows_stand H (union_rows A B), H.exits-long, H.starts-long, (room few A.edges_few B.edges_few).4))
+      (A.states_few, B.states_few, λ few. let H = held z few in (rows_stand H (union_rows A B), H.exits_long, H.starts_long, (room few A.edges_few B.edges_few).4))
 
   pub rows_are : n ≡ 0 → SL.states + SR.states ≤ 2000 → rows_in (SL.states + SR.states) E S T' P ≡ union (model SL ML) (model SR MR)
   rows_are z few = held_rows (held z few) total

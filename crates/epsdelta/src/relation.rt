@@ -18,14 +18,14 @@ use epsdelta_jumps::jumps::{Joined, union};
 use epsdelta_sweeps::relate::relate;
 
 // The relation is in the bytes, or the number of the first check that fails.
-#[derive(Drop)]
+#[derive(Clone, Copy)]
 pub enum Ended {
     Related,
     Refused(u32),
 }
 
 // What a run is asked: ε and ρ, and whether an initial state that is asked for is absent (check 8).
-#[derive(Drop)]
+#[derive(Clone, Copy)]
 pub struct Settings {
     pub absent: bool,
     pub epsilon: f64,

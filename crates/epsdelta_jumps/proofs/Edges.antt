@@ -99,10 +99,10 @@ module _ {ET : List ℕ} {EW : List Float} {a b s off : ℕ} {T₀ : List ℕ} {
     from = let x = I.from in omega arith;
     to = omega arith;
     few = let x = I.few in let y = I.from in omega arith;
-    t_size = I.t-size;
-    p_size = I.p-size;
-    t_past = I.t-past;
-    p_past = I.p-past;
+    t_size = I.t_size;
+    p_size = I.p_size;
+    t_past = I.t_past;
+    p_past = I.p_past;
     same = λ D O L. rest_skip (columns D O L ET EW) s off i b (jumps_of (take m T) (take m P)) h e ∙ I.same D O L;
   })
 
@@ -113,14 +113,14 @@ module _ {ET : List ℕ} {EW : List Float} {a b s off : ℕ} {T₀ : List ℕ} {
     from = let x = I.from in omega arith;
     to = omega arith;
     few = let x = I.few in let y = I.from in omega arith;
-    t_size = u ∙ I.t-size;
-    p_size = p ∙ I.p-size;
-    t_past = v ∙ past_further m m₁ T T₀ l I.t-past;
-    p_past = w ∙ past_further m m₁ P P₀ l I.p-past;
+    t_size = u ∙ I.t_size;
+    p_size = p ∙ I.p_size;
+    t_past = v ∙ past_further m m₁ T T₀ l I.t_past;
+    p_past = w ∙ past_further m m₁ P P₀ l I.p_past;
     same = λ D O L. rest_add (columns D O L ET EW) s off i b (jumps_of (take m T) (take m P)) h (λ z. e (g ∙ z)) (jumps_of (take m₁ T₁) (take m₁ P₁))
         (q ∙ ap (λ (x : ℕ). add_rate (off + x) (get_or EW i nan) (jumps_of (take m T) (take m P))) g) ∙ I.same D O L;
   })
 
   -- there is room for another jump
   pub room : b - a ≤ length T₀ → b - a ≤ length P₀ → (m < length T) × (m < length P)
-  room x y = let f = I.few in let g = I.from in let u = I.t-size in let v = I.p-size in (omega arith, omega arith)
+  room x y = let f = I.few in let g = I.from in let u = I.t_size in let v = I.p_size in (omega arith, omega arith)

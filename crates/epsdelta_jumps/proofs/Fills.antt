@@ -112,10 +112,10 @@ filled off es k at m E T P T₁ P₁ P₂ x h i t p u v e (f, g) =
     record {
       from = omega arith;
       exit = ap (set E k) (f ∙ ap (λ (l : List Float). sum (take m l)) w ∙ exit_is off es m T₁ P₁ P₂ d c e);
-      targets-kept = take_back at T T₁ a;
-      probs-kept = take_back at Q P₂ (omega arith) ∙ take_back at P P₁ b;
+      targets_kept = take_back at T T₁ a;
+      probs_kept = take_back at Q P₂ (omega arith) ∙ take_back at P P₁ b;
       prob = ap (λ (l : List ℕ). jumps_of l (slice at (at + m) (back at Q P₂))) (slice_back at T T₁ a m) ∙ ap (jumps_of (take m T₁)) (slice_back at Q P₂ (omega arith) m)
           ∙ prob_is off es m T₁ P₁ P₂ d c e P₂_is;
-      targets-past = past_back at T T₁ a m u;
-      probs-past = past_back at Q P₂ (omega arith) m (kept ∙ ap (drop m) (sym w)) ∙ past_back at P P₁ b m v;
+      targets_past = past_back at T T₁ a m u;
+      probs_past = past_back at Q P₂ (omega arith) m (kept ∙ ap (drop m) (sym w)) ∙ past_back at P P₁ b m v;
     }

@@ -62,14 +62,14 @@ module _ {n : ℕ} {O ET : List ℕ} {EW : List Float} {off at : ℕ} {E₀ : Li
   fillable a b p q f =
       let u = ends in
       let r = R.rise s h in
-      let x = R.targets-long in
-      let y = R.weights-long in
+      let x = R.targets_long in
+      let y = R.weights_long in
       let m = I.room in
-      let v = I.t-size in
-      let w = I.p-size in
-      let z = I.e-size in
+      let v = I.t_size in
+      let w = I.p_size in
+      let z = I.e_size in
       let c = R.few in
-      (omega arith, omega arith, omega arith, (let g = G.2 in omega arith), (let g = G.3 in omega arith), f, (let g = G.0 in omega arith), λ i k. let t = R.target-low i (omega arith) in omega arith)
+      (omega arith, omega arith, omega arith, (let g = G.2 in omega arith), (let g = G.3 in omega arith), f, (let g = G.0 in omega arith), λ i k. let t = R.target_low i (omega arith) in omega arith)
 
   pub turn : (a b : ℕ) → a ≡ get_or O s 0 → b ≡ get_or O (s + 1) 0 → (r : ℕ) (E' : List Float) (T' : List ℕ) (P' : List Float)
       → (r ≤ end + (b - a)) × ((D Q L : List ℕ) → Filled (row off (map (edge_at (columns D Q L ET EW) s) (span a (b - a)))) (off + s) end r E T P E' T' P')
@@ -80,22 +80,22 @@ module _ {n : ℕ} {O ET : List ℕ} {EW : List Float} {off at : ℕ} {E₀ : Li
       let u = ends in
       let m = I.room in
       let k : off + s + 1 ≡ off + (s + 1) = omega arith in
-      let sz = I.s-size in
+      let sz = I.s_size in
       let hs : off + s + 1 < length S = let g = G.1 in omega arith in
       record {
         low = omega arith;
         room = omega arith;
-        e_size = e ∙ I.e-size;
-        s_size = length-set S (off + s + 1) r ∙ I.s-size;
-        t_size = t ∙ I.t-size;
-        p_size = w ∙ I.p-size;
+        e_size = e ∙ I.e_size;
+        s_size = length-set S (off + s + 1) r ∙ I.s_size;
+        t_size = t ∙ I.t_size;
+        p_size = w ∙ I.p_size;
         last = ap (λ (x : ℕ). get_or (set S (off + s + 1) r) x 0) (sym k) ∙ get_or-set_same S (off + s + 1) r 0 hs;
         held = λ D L J E₁ S₁ T₁ P₁ j Z e₁ s₁ H.
             let es-is = ap (λ (x : ℕ). row off (map (edge_at (columns D O L ET EW) s) (span x (b - x)))) p ∙ ap (λ (x : ℕ). row off (map (edge_at (columns D O L ET EW) s) (span (get_or O s 0) (x - get_or O s 0)))) q in
             subst (λ (x : ℕ). LaidTo J x E₁ S₁ T₁ P₁ E' (set S (off + s + 1) r) T' P') k
             (laid_next J (off + s) r (I.held D L J E₁ S₁ T₁ P₁ j Z e₁ s₁ H)
             (subst⁻¹ (λ (x : ℕ). Filled (get_or J (off + s) no_row) (off + s) x r E T P E' T' P') I.last (subst⁻¹ (λ (x : Row). Filled x (off + s) end r E T P E' T' P') (Z s h ∙ sym es-is) (F D O L)))
-            (omega arith) (omega arith) (omega arith) (let g = G.2 in let z = I.t-size in omega arith) (let g = G.3 in let z = I.p-size in omega arith));
+            (omega arith) (omega arith) (omega arith) (let g = G.2 in let z = I.t_size in omega arith) (let g = G.3 in let z = I.p_size in omega arith));
       }
 
   -- where the jumps end is a small number
@@ -114,7 +114,7 @@ done {n} {O} {ET} {EW} {off} {at} {E₀} {S₀} {T₀} {P₀} {E} {S} {T} {P} {e
 pub laid_none : (J : Jumps) (E : List Float) (S T : List ℕ) (P : List Float) → 0 < length S → LaidTo J 0 E S T P E (set S 0 0) T P
 unfolding starts_from all_jumps
 laid_none J E [] T P h = absurd (omega arith)
-laid_none J E (x ∷ S) T P h = record { exits-are = refl; starts-are = refl; targets-are = refl; probs-are = refl }
+laid_none J E (x ∷ S) T P h = record { exits_are = refl; starts_are = refl; targets_are = refl; probs_are = refl }
 
 -- ---- states that are numbered from 0 on
 

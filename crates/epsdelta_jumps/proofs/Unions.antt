@@ -101,15 +101,15 @@ module _ (SL : Shape) (ML : Columns) (SR : Shape) (MR : Columns) (x y n : ℕ) (
 
 readable : {S : Shape} {M : Columns} → Accepted S M → Readable S.states M.offsets M.edge_targets M.edge_weights
 readable A =
-    let e = A.begins-last in
+    let e = A.begins_last in
     record {
-      few = A.states-few;
-      offsets-long = A.offsets-long;
-      rise = A.begins-rise;
-      targets-long = let h = A.edge-targets-long in omega arith;
-      weights-long = let h = A.edge-weights-long in omega arith;
+      few = A.states_few;
+      offsets_long = A.offsets_long;
+      rise = A.begins_rise;
+      targets_long = let h = A.edge_targets_long in omega arith;
+      weights_long = let h = A.edge_weights_long in omega arith;
       edges_few = let h = A.edges_few in omega arith;
-      target-low = λ i h. A.target-low i (omega arith);
+      target_low = λ i h. A.target_low i (omega arith);
     }
 
 -- too few places for the exit rates, the starts, the targets or the divided rates
@@ -127,8 +127,8 @@ module _ {SL : Shape} {ML : Columns} {SR : Shape} {MR : Columns} (A : Accepted S
       let (c, d) = or_f (ltb t (SL.edges + SR.edges)) (ltb p (SL.edges + SR.edges)) j in
       let c' = ltb-false t (SL.edges + SR.edges) c in
       let d' = ltb-false p (SL.edges + SR.edges) d in
-      let u = A.begins-last in
-      let v = B.begins-last in
+      let u = A.begins_last in
+      let v = B.begins_last in
       (readable A, readable B, ltb-false e (SL.states + SR.states) a, leb-false s (SL.states + SR.states) b, omega arith, omega arith)
 
   -- ---- what is made is the union

@@ -10,7 +10,7 @@ use crate::rows::both_rows;
 use bisim_core::wlts::{Shape, model_refusal};
 
 // The lists hold the rows, or the number of the first check that fails, or that a list lent is short.
-#[derive(Drop)]
+#[derive(Clone, Copy)]
 pub enum Joined {
     Rows,
     Refused(u32),

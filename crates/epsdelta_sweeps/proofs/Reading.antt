@@ -100,7 +100,7 @@ module _ (n : ℕ) (C : List ℕ) (E : List Float) (S T : List ℕ) (P : List Fl
       ∙ ap (λ (m : ℕ). le (needed ε) (run_between m R (prob J s) (prob J t)).total) (sym rows_length)
 
   sweeps_in : SweepsIn (task G) n E S T P (needed ε)
-  sweeps_in = record { states = rows_length; no-exit = λ s h. ap is_zero (exit_is s h); test = test_is }
+  sweeps_in = record { states = rows_length; no_exit = λ s h. ap is_zero (exit_is s h); test = test_is }
 
   -- the run from the marks
   pub related : {need : Float} → need ≡ needed ε → {store store' : List ℕ}
@@ -164,10 +164,10 @@ rows_known n S T P f l h =
     let at : (s : ℕ) → s < n → (get_or S s 0 ≤ get_or S (s + 1) 0) × (get_or S (s + 1) 0 ≤ length T) × (get_or S (s + 1) 0 ≤ length P) × (row_fits (entries S T s) (entries S P s) ≡ true) = λ s k. stands_known S T P s (every_at (row_stands S T P) n h s k) in
     record {
       few = f;
-      starts-long = l;
+      starts_long = l;
       rise = λ s k. (at s k).0;
-      targets-long = λ s k. (at s k).1;
-      probs-long = λ s k. (at s k).2;
+      targets_long = λ s k. (at s k).1;
+      probs_long = λ s k. (at s k).2;
       short = λ s k.
           let ts = entries S T s in
           let ws = entries S P s in

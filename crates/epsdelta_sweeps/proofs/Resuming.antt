@@ -125,7 +125,7 @@ module _ (Q : Task) (n : ℕ) {E : List Float} {S T : List ℕ} {P : List Float}
   at_asks : s < n → t < n → is_zero (get_or E s nan) ≡ false → bit_at store (s * n + t) ≡ true → At n Q z store s t false struck false → At n Q z store s t false struck true
   at_asks hs ht e h a =
       let y = a.run in
-      let g : (holds Q.states y.relation s t && not (Q.no_exit s)) ≡ true = ap (λ (b : Bool). b && not (Q.no_exit s)) (stands y a.stored ∙ h) ∙ ap not (sym (K.no-exit s hs) ∙ e) in
+      let g : (holds Q.states y.relation s t && not (Q.no_exit s)) ≡ true = ap (λ (b : Bool). b && not (Q.no_exit s)) (stands y a.stored ∙ h) ∙ ap not (sym (K.no_exit s hs) ∙ e) in
       record {
         run = y;
         more = a.more;
@@ -335,7 +335,7 @@ module _ {n : ℕ} {E : List Float} {S T : List ℕ} {P : List Float} {need plen
     turn_absent e = passed_over (λ Q K y Y. without_pair Q s t y (stands Q n K y store s t struck y Y ∙ e)) (noted_absent F H.noted e)
 
     pub turn_no_exit : is_zero (get_or E s nan) ≡ true → Moves n E S T P need plenty store s t false struck false (weight n store s t false struck + 1) store C s (t + 1) false struck false
-    turn_no_exit e = passed_over (λ Q K y Y. without_exit Q s t y (sym (K.no-exit s hs) ∙ e)) (noted_no_exit F H.noted e)
+    turn_no_exit e = passed_over (λ Q K y Y. without_exit Q s t y (sym (K.no_exit s hs) ∙ e)) (noted_no_exit F H.noted e)
 
     -- a pair that stands and has an exit waits for its test
     pub turn_asks : s < t → is_zero (get_or E s nan) ≡ false → bit_at store (s * n + t) ≡ true → Moves n E S T P need plenty store s t false struck false (weight n store s t false struck + 1) store C s t false struck true

@@ -48,8 +48,8 @@ module _ {n : ℕ} {S T : List ℕ} {P : List Float} (F : RowsFit n S T P) where
   row_fits_lem s h =
       let a = get_or S s 0 in
       let b = get_or S (s + 1) 0 in
-      let t = length-slice a b T (F.targets-long s h) in
-      let p = length-slice a b P (F.probs-long s h) in
+      let t = length-slice a b T (F.targets_long s h) in
+      let p = length-slice a b P (F.probs_long s h) in
       let w = F.short s h in
       let few : leb (length (slice a b T)) 31 ≡ true = le-leb (length (slice a b T)) 31 (omega arith) in
       let same : eqb (length (slice a b P)) (length (slice a b T)) ≡ true = eq-eqb (length (slice a b P)) (length (slice a b T)) (p ∙ sym t) in
@@ -130,7 +130,7 @@ module _ {n : ℕ} {S T : List ℕ} {P : List Float} (F : RowsFit n S T P) where
 
   -- so many targets a part has
   pub part_count : (s : ℕ) → s < n → length (part_of S s T) ≡ get_or S (s + 1) 0 - get_or S s 0
-  part_count s h = ap length (part (get_or S s 0) (get_or S (s + 1) 0) T) ∙ length-slice (get_or S s 0) (get_or S (s + 1) 0) T (F.targets-long s h)
+  part_count s h = ap length (part (get_or S s 0) (get_or S (s + 1) 0) T) ∙ length-slice (get_or S s 0) (get_or S (s + 1) 0) T (F.targets_long s h)
 
   -- where the links of the test were written into rows with room for all, the run on a network that is filled from them is the definition's test
   pub laid_test : (store : List ℕ) (s t : ℕ) → s < n → t < n → (h : List ℕ) (c : List Float) → length h ≡ 2046 → length c ≡ 2046
@@ -150,8 +150,8 @@ module _ {n : ℕ} {S T : List ℕ} {P : List Float} (F : RowsFit n S T P) where
       let done : d ≡ true =
       w.0 ∙ ap (λ (b : Bool). b && (leb q (length h) && leb q (length c))) f ∙ ap (λ (b : Bool). b && leb q (length c)) (le-leb q (length h) (omega arith)) ∙ le-leb q (length c) (omega arith) in
       let L = laid us vs ts ws n store h c w done in
-      let m = L.heads-in in
-      let g = L.heads-size in
+      let m = L.heads_in in
+      let g = L.heads_size in
       sym (
       ap (λ (v : ℕ). at_least need (flow_rows N h' c' p k v y z).answer) ex
       ∙ ap (λ (v : ℕ). at_least need (flow_rows N h' c' p k (length us + length ts + 2) v z).answer) ey

@@ -7,7 +7,7 @@ ghost use Rattle.epsdelta_theory.proofs.Unchanged.{Off, Told, Missed, QuietAt, Q
 use numbers::clear_bit;
 
 // The strikes of some states: whether they are states, and the bits of those with any of them, in this sweep, and in the sweep before with one that is not below another.
-#[derive(Drop)]
+#[derive(Clone, Copy)]
 pub struct Strikes {
     pub known: bool,
     pub recent: u64,

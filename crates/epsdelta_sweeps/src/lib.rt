@@ -1,4 +1,6 @@
 // The relation of states whose rows stand in lists: marks, and sweeps until one without a strike.
+#![tactic(auto)]
+
 mod changes; // changes.rt: strikes that are noted, and tests that need no run
 mod marks; // marks.rt: the marks of a relation
 mod network; // network.rt: flow tests on a network that is lent

@@ -14,7 +14,7 @@ use flow_core::rows::Answer;
 use flow_links::links::write_links;
 
 // The links of a flow test in rows: the places that they take, the nodes, and the test's ends.
-#[derive(Drop)]
+#[derive(Clone, Copy)]
 pub struct Laid {
     pub places: usize,
     pub nodes: usize,

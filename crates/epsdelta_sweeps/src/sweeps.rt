@@ -15,7 +15,7 @@ use flow_direct::settle::Verdict;
 use numbers::bit;
 
 // Where sweeps stand: the pair (s, t) whose turn it is, and whether the sweep has struck. With `asks` its flow test, the one back with `back`, is not known without a network.
-#[derive(Drop)]
+#[derive(Clone, Copy)]
 pub struct Place {
     pub s: usize,
     pub t: usize,

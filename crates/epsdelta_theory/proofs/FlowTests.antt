@@ -216,7 +216,7 @@ module _ (m : ℕ) (R : List Bool) (ps pt : List Jump) (in-range : AllInRange ps
         size = caps_length ls;
         heads_in = λ e h. rw nodes_are (heads_in (src + 2) src ls within_test e h);
         source_in = omega arith;
-        sink-in = omega arith;
+        sink_in = omega arith;
         ends = omega arith;
         range = λ e h. caps_capacity (src + 2) src ls within_test e h;
         finite = λ e h p. not_inf (get_or (caps ls) e nan) (caps_low (src + 2) src ls within_test e h p);

@@ -76,7 +76,7 @@ next_start J n {S₀ = S₀} {S = S} h L =
     let K = take n J in
     let l = length-take-le n J h in
     let z = starts_length 0 K in
-    ap (λ (s : List ℕ). get_or s n 0) L.starts-are ∙ get_or-append (starts_from 0 K) _ 0 n (omega arith) ∙ ap (λ (i : ℕ). get_or (starts_from 0 K) i 0) (sym l) ∙ starts_last 0 K ∙ omega arith
+    ap (λ (s : List ℕ). get_or s n 0) L.starts_are ∙ get_or-append (starts_from 0 K) _ 0 n (omega arith) ∙ ap (λ (i : ℕ). get_or (starts_from 0 K) i 0) (sym l) ∙ starts_last 0 K ∙ omega arith
 
 module _ (J : Jumps) (n r : ℕ) {E₀ : List Float} {S₀ T₀ : List ℕ} {P₀ E : List Float} {S T : List ℕ} {P E' : List Float} {T' : List ℕ} {P' : List Float}
     (L : LaidTo J n E₀ S₀ T₀ P₀ E S T P) (F : Filled (get_or J n no_row) n (get_or S n 0) r E T P E' T' P') (h : n < length J) (he : n < length E₀) (hs : n + 1 < length S₀) (ht : r ≤ length T') (hp : r ≤ length P') where
@@ -122,26 +122,26 @@ module _ (J : Jumps) (n r : ℕ) {E₀ : List Float} {S₀ T₀ : List ℕ} {P�
   pub laid_next : LaidTo J (n + 1) E₀ S₀ T₀ P₀ E' (set S (n + 1) r) T' P'
   unfolding ts ps
   laid_next = subst⁻¹ (λ (k : Jumps). Laid k E₀ S₀ T₀ P₀ E' (set S (n + 1) r) T' P') taken (record {
-    exits-are =
+    exits_are =
         let z = length-map K (λ (q : Row). q.exit) in
         let k = long in
-        F.exit ∙ ap (λ (l : List Float). set l n R.exit) L.exits-are ∙ ap (λ (k : ℕ). set (over (exits K) E₀) k R.exit) (sym (z ∙ long)) ∙ over_snoc (exits K) E₀ R.exit (omega arith)
+        F.exit ∙ ap (λ (l : List Float). set l n R.exit) L.exits_are ∙ ap (λ (k : ℕ). set (over (exits K) E₀) k R.exit) (sym (z ∙ long)) ∙ over_snoc (exits K) E₀ R.exit (omega arith)
         ∙ ap (λ (l : List Float). over l E₀) (sym (map-append (λ (q : Row). q.exit) K (R ∷ [])));
-    starts-are =
+    starts_are =
         let z = starts_length 0 K in
         let k = long in
         let y : length (starts_from 0 K) ≡ n + 1 = z ∙ ap suc long ∙ sym (add-one n) in
-        ap (λ (l : List ℕ). set l (n + 1) r) L.starts-are ∙ ap (λ (k : ℕ). set (over (starts_from 0 K) S₀) k r) (sym y) ∙ over_snoc (starts_from 0 K) S₀ r (omega arith)
+        ap (λ (l : List ℕ). set l (n + 1) r) L.starts_are ∙ ap (λ (k : ℕ). set (over (starts_from 0 K) S₀) k r) (sym y) ∙ over_snoc (starts_from 0 K) S₀ r (omega arith)
         ∙ ap (λ (k : ℕ). over (starts_from 0 K ++ (k ∷ [])) S₀) (sym end_is) ∙ ap (λ (l : List ℕ). over l S₀) (sym (starts_snoc 0 K R));
-    targets-are =
+    targets_are =
         let z = length-map (all_jumps K) (λ (j : Jump). j.target) in
         let y = length-map R.prob (λ (j : Jump). j.target) in
-        over_part (targets (all_jumps K)) (targets R.prob) T₀ T T' (get_or S n 0) r L.targets-are (z ∙ sym at_is) F.targets-kept (sym (jumps_targets ts ps (t_long ∙ sym p_long)) ∙ ap targets is_prob) (y ∙ prob_long) F.from F.targets-past
+        over_part (targets (all_jumps K)) (targets R.prob) T₀ T T' (get_or S n 0) r L.targets_are (z ∙ sym at_is) F.targets_kept (sym (jumps_targets ts ps (t_long ∙ sym p_long)) ∙ ap targets is_prob) (y ∙ prob_long) F.from F.targets_past
         ∙ ap (λ (l : List ℕ). over l T₀) (sym (map-append (λ (j : Jump). j.target) (all_jumps K) R.prob) ∙ ap targets (sym (jumps_snoc K R)));
-    probs-are =
+    probs_are =
         let z = length-map (all_jumps K) (λ (j : Jump). j.rate) in
         let y = length-map R.prob (λ (j : Jump). j.rate) in
-        over_part (rates (all_jumps K)) (rates R.prob) P₀ P P' (get_or S n 0) r L.probs-are (z ∙ sym at_is) F.probs-kept (sym (jumps_rates ts ps (t_long ∙ sym p_long)) ∙ ap rates is_prob) (y ∙ prob_long) F.from F.probs-past
+        over_part (rates (all_jumps K)) (rates R.prob) P₀ P P' (get_or S n 0) r L.probs_are (z ∙ sym at_is) F.probs_kept (sym (jumps_rates ts ps (t_long ∙ sym p_long)) ∙ ap rates is_prob) (y ∙ prob_long) F.from F.probs_past
         ∙ ap (λ (l : List Float). over l P₀) (sym (map-append (λ (j : Jump). j.rate) (all_jumps K) R.prob) ∙ ap rates (sym (jumps_snoc K R)));
   })
 
@@ -210,7 +210,7 @@ module _ {A : Type 0} (f : Jump → A) where
 
 module _ {J : Jumps} {E₀ : List Float} {S₀ T₀ : List ℕ} {P₀ E : List Float} {S T : List ℕ} {P : List Float} (L : Laid J E₀ S₀ T₀ P₀ E S T P) where
   start_at : (s : ℕ) → s ≤ length J → get_or S s 0 ≡ get_or (starts_from 0 J) s 0
-  start_at s h = ap (λ (l : List ℕ). get_or l s 0) L.starts-are ∙ get_or-append (starts_from 0 J) (drop (length (starts_from 0 J)) S₀) 0 s (let z = starts_length 0 J in omega arith)
+  start_at s h = ap (λ (l : List ℕ). get_or l s 0) L.starts_are ∙ get_or-append (starts_from 0 J) (drop (length (starts_from 0 J)) S₀) 0 s (let z = starts_length 0 J in omega arith)
 
   start_next : (s : ℕ) → s < length J → get_or S (s + 1) 0 ≡ get_or (starts_from 0 J) (suc s) 0
   start_next s h = ap (λ (k : ℕ). get_or S k 0) (add-one s) ∙ start_at (suc s) (omega arith)
@@ -225,15 +225,15 @@ module _ {J : Jumps} {E₀ : List Float} {S₀ T₀ : List ℕ} {P₀ E : List F
 
   pub laid_holds : Holds J E S T P
   laid_holds = record {
-    exits-long = let e = ap (λ (l : List Float). length l) L.exits-are in let z = length-map J (λ (r : Row). r.exit) in let o = over_long (exits J) E₀ in omega arith;
-    starts-long = let e = ap (λ (l : List ℕ). length l) L.starts-are in let z = starts_length 0 J in let o = over_long (starts_from 0 J) S₀ in omega arith;
+    exits_long = let e = ap (λ (l : List Float). length l) L.exits_are in let z = length-map J (λ (r : Row). r.exit) in let o = over_long (exits J) E₀ in omega arith;
+    starts_long = let e = ap (λ (l : List ℕ). length l) L.starts_are in let z = starts_length 0 J in let o = over_long (starts_from 0 J) S₀ in omega arith;
     first = start_at 0 (omega arith) ∙ starts_first J;
     rise = λ s h. let a = start_at s (omega arith) in let b = start_next s h in let c = starts_rise 0 J s h in omega arith;
-    targets-long = let e = ap (λ (l : List ℕ). length l) L.targets-are in let z = length-map (all_jumps J) (λ (j : Jump). j.target) in let o = over_long (targets (all_jumps J)) T₀ in let n = last_is in omega arith;
-    probs-long = let e = ap (λ (l : List Float). length l) L.probs-are in let z = length-map (all_jumps J) (λ (j : Jump). j.rate) in let o = over_long (rates (all_jumps J)) P₀ in let n = last_is in omega arith;
-    exit = λ s h. ap (λ (l : List Float). get_or l s nan) L.exits-are ∙ get_or-append (exits J) (drop (length (exits J)) E₀) nan s (let z = length-map J (λ (r : Row). r.exit) in omega arith) ∙ exits_at J s h;
+    targets_long = let e = ap (λ (l : List ℕ). length l) L.targets_are in let z = length-map (all_jumps J) (λ (j : Jump). j.target) in let o = over_long (targets (all_jumps J)) T₀ in let n = last_is in omega arith;
+    probs_long = let e = ap (λ (l : List Float). length l) L.probs_are in let z = length-map (all_jumps J) (λ (j : Jump). j.rate) in let o = over_long (rates (all_jumps J)) P₀ in let n = last_is in omega arith;
+    exit = λ s h. ap (λ (l : List Float). get_or l s nan) L.exits_are ∙ get_or-append (exits J) (drop (length (exits J)) E₀) nan s (let z = length-map J (λ (r : Row). r.exit) in omega arith) ∙ exits_at J s h;
     prob = λ s h.
-        ap (λ (l : List ℕ). jumps_of l (slice (get_or S s 0) (get_or S (s + 1) 0) P)) (part_is (λ (j : Jump). j.target) T (drop (length (targets (all_jumps J))) T₀) L.targets-are s h)
-        ∙ ap (jumps_of (targets (get_or J s no_row).prob)) (part_is (λ (j : Jump). j.rate) P (drop (length (rates (all_jumps J))) P₀) L.probs-are s h)
+        ap (λ (l : List ℕ). jumps_of l (slice (get_or S s 0) (get_or S (s + 1) 0) P)) (part_is (λ (j : Jump). j.target) T (drop (length (targets (all_jumps J))) T₀) L.targets_are s h)
+        ∙ ap (jumps_of (targets (get_or J s no_row).prob)) (part_is (λ (j : Jump). j.rate) P (drop (length (rates (all_jumps J))) P₀) L.probs_are s h)
         ∙ jumps_of_lem (get_or J s no_row).prob;
   }

@@ -129,7 +129,7 @@ module _ (holds : Float → Bool) where
   searched = by (holds one) (holds nought) refl refl
     where
       ends : (x : Search) → (holds one ≡ false → x ≡ record { least = none; tried = one ∷ [] }) → (holds one ≡ true → holds nought ≡ true → x ≡ record { least = at nought; tried = one ∷ nought ∷ [] }) → (holds one ≡ true → holds nought ≡ false → x ≡ record { least = at (halving holds).hi; tried = one ∷ nought ∷ (halving holds).tried }) → length x.tried ≤ 16 → all is_valid x.tried ≡ true → (x.least ≡ none → holds one ≡ false) → (holds one ≡ false → x.least ≡ none) → ((ε : Float) → x.least ≡ at ε → holds ε ≡ true) → Searched holds x
-      ends x p q r a b c d e = record { at_one = p; at-nought = q; between = r; runs = a; valid = b; none-fails = c; fails-none = d; at-holds = e; halvings = all_halved.count; ended = all_halved.ended; fails-below = all_halved.below }
+      ends x p q r a b c d e = record { at_one = p; at_nought = q; between = r; runs = a; valid = b; none_fails = c; fails_none = d; at_holds = e; halvings = all_halved.count; ended = all_halved.ended; fails_below = all_halved.below }
 
       by : (a b : Bool) → holds one ≡ a → holds nought ≡ b → Searched holds (search holds)
       by false b e f = subst⁻¹ (Searched holds) (search_none e) (ends _ (λ _. refl) (λ g h. absurd (false≢true (sym e ∙ g))) (λ g h. absurd (false≢true (sym e ∙ g))) (lit≤ tt) (and_i one_valid refl) (λ _. e) (λ _. refl) (λ ε g. absurd (at_or_none ε (sym g))))

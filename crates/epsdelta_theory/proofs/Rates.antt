@@ -30,7 +30,7 @@ pub record Rate (r : Float) : Type 0 where
   pub most : T (le r (power 110))
 
 pub rate_positive : (r : Float) → Rate r → T (positive r)
-rate_positive r R = between R.base r (power 110) R.base-positive tt R.over R.most
+rate_positive r R = between R.base r (power 110) R.base_positive tt R.over R.most
 
 le_self : (x : Float) → T (positive x) → T (le x x)
 le_self x p = cross→le x x p p (le_of_eq refl)
@@ -94,8 +94,8 @@ join_rate x w R W =
     let p : Plain x = plain_of x (rate_positive x R) in
     let q = plain_signed w (plain_of w (weight_positive w W)) in
     let u = add_under 110 52 round_110 x w p q R.most (joined w W) in
-    let g = grow R.base (power 110) (num x * den w + num w * den x) (den x * den w) R.base-positive R.base-fits tt (mul-pos (den_pos x) (den_pos w))
-    (part_left (num x) (num w) (den x) (den w) (num R.base) (den R.base) (le→cross R.base x R.base-positive (rate_positive x R) R.over))
+    let g = grow R.base (power 110) (num x * den w + num w * den x) (den x * den w) R.base_positive R.base_fits tt (mul-pos (den_pos x) (den_pos w))
+    (part_left (num x) (num w) (den x) (den w) (num R.base) (den R.base) (le→cross R.base x R.base_positive (rate_positive x R) R.over))
     (subst (λ (z : Float). T (le z (power 110))) (add_is x w p q) u) in
     own_rate (add binary64 x w) (subst⁻¹ (λ (z : Float). T (positive z)) (add_is x w p q) g.0) (add-fits binary64 x w) u
 
@@ -113,8 +113,8 @@ summed_add x r s R =
     let (p, l) = summed_plain x s in
     let q = plain_signed r (plain_of r (rate_positive r R)) in
     let u = add_under 200 110 round_200 x r p q l R.most in
-    let g = grow R.base (power 200) (num x * den r + num r * den x) (den x * den r) R.base-positive R.base-fits tt (mul-pos (den_pos x) (den_pos r))
-    (part_right (num x) (num r) (den x) (den r) (num R.base) (den R.base) (le→cross R.base r R.base-positive (rate_positive r R) R.over))
+    let g = grow R.base (power 200) (num x * den r + num r * den x) (den x * den r) R.base_positive R.base_fits tt (mul-pos (den_pos x) (den_pos r))
+    (part_right (num x) (num r) (den x) (den r) (num R.base) (den R.base) (le→cross R.base r R.base_positive (rate_positive r R) R.over))
     (subst (λ (z : Float). T (le z (power 200))) (add_is x r p q) u) in
     let h = subst⁻¹ (λ (z : Float). T (positive z) × T (le R.base z)) (add_is x r p q) g in
     ((h.0, add-fits binary64 x r, u), h.1)
@@ -132,7 +132,7 @@ quotient nr dr nb db nx dx h a b =
 
 module _ (r x : Float) (R : Rate r) (s : Summed x) (h : T (le R.base x)) where
   exit_positive : T (positive x)
-  exit_positive = between R.base x (power 200) R.base-positive tt h (summed_plain x s).1
+  exit_positive = between R.base x (power 200) R.base_positive tt h (summed_plain x s).1
 
   pub divided_not_negative : T (le nought (div binary64 r x))
   divided_not_negative = div_not_negative r x (rate_positive r R) exit_positive
@@ -144,7 +144,7 @@ module _ (r x : Float) (R : Rate r) (s : Summed x) (h : T (le R.base x)) where
       subst⁻¹ Low (div_is r x p q)
       (subst (λ (z : Float). T (le (round binary64 false (num r * den x) (num x * den r)) z)) low_round
       (round_mono binary64 (num r * den x) (num x * den r) (2 ^ 40) 1 (mul-pos (value_pos x (num x) (den x) q (den_pos x) (own_value x q)) (den_pos r)) (lit< tt)
-      (quotient (num r) (den r) (num R.base) (den R.base) (num x) (den x) (den_pos R.base) R.near (le→cross R.base x R.base-positive q h))))
+      (quotient (num r) (den r) (num R.base) (den R.base) (num x) (den x) (den_pos R.base) R.near (le→cross R.base x R.base_positive q h))))
 
 -- ---- an exit rate passes the rate test with itself
 

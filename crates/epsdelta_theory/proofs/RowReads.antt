@@ -62,8 +62,8 @@ module _ {J : Jumps} {n : ℕ} {E : List Float} {S T : List ℕ} {P : List Float
   pub row_in : (get_or S (s + 1) 0 ≤ length T) × (get_or S (s + 1) 0 ≤ length P)
   row_in =
       let u = starts_up S n H.rise (s + 1) n (omega arith) (omega arith) in
-      let t = H.targets-long in
-      let p = H.probs-long in
+      let t = H.targets_long in
+      let p = H.probs_long in
       (omega arith, omega arith)
 
   same : length (slice (get_or S s 0) (get_or S (s + 1) 0) T) ≡ length (slice (get_or S s 0) (get_or S (s + 1) 0) P)

@@ -103,7 +103,7 @@ unfolding sum_from
 sum_each [] x s a = tt
 sum_each (j ∷ js) x s (r, a) =
     let z = summed_add x j.rate s r in
-    (sum_over js (add binary64 x j.rate) r.base r.base-positive z.0 z.1 a, sum_each js (add binary64 x j.rate) (inr z.0) a)
+    (sum_over js (add binary64 x j.rate) r.base r.base_positive z.0 z.1 a, sum_each js (add binary64 x j.rate) (inr z.0) a)
 
 divided_in_range : (x : Float) (js : List Jump) → Summed x → (a : Rates js) → Over x js a → AllInRange (map (divided x) js)
 divided_in_range x [] s a u = tt
@@ -181,19 +181,19 @@ module _ {S : Shape} {M : Columns} (A : Accepted S M) where
   unfolding span
   edges_of_lem s zero i h = tt
   edges_of_lem s (suc k) i h = (
-    record { source = refl; target = A.target-low i (omega arith); weight = record { least = t_of (A.weight-least i (omega arith)); most = t_of (A.weight-greatest i (omega arith)) } },
+    record { source = refl; target = A.target_low i (omega arith); weight = record { least = t_of (A.weight_least i (omega arith)); most = t_of (A.weight_greatest i (omega arith)) } },
     edges_of_lem s k (suc i) (omega arith),
   )
 
   pub row_edges : (s : ℕ) → s < S.states → EdgesOf s S.states (models.row M s)
   unfolding models.row
   row_edges s h =
-      let a = A.begins-rise s h in
+      let a = A.begins_rise s h in
       let b = begins_in A (s + 1) (omega arith) in
       edges_of_lem s (begins M (s + 1) - begins M s) (begins M s) (omega arith)
 
   pub model_row : (m off s : ℕ) → off + S.states ≤ m → s < S.states → RowOf m (row off (get_or (model S M) s []))
-  model_row m off s w h = subst⁻¹ (λ (es : List Edge). RowOf m (row off es)) (model_at S M s h) (row_of m S.states off s (models.row M s) w (row_edges s h) (A.others-few s h))
+  model_row m off s w h = subst⁻¹ (λ (es : List Edge). RowOf m (row off es)) (model_at S M s h) (row_of m S.states off s (models.row M s) w (row_edges s h) (A.others_few s h))
 
 pub union_rows : {SL SR : Shape} {ML MR : Columns} → Accepted SL ML → Accepted SR MR → (s : ℕ) → s < SL.states + SR.states
     → RowOf (SL.states + SR.states) (get_or (union (model SL ML) (model SR MR)) s no_row)

@@ -40,7 +40,7 @@ module _ (G : Given) (K : Ready G) where
   either false u v p q = q
 
   claims : (R : List Bool) (s t : ℕ) → s < states G → t < states G → FlowClaim (test_network G.jumps R s t) (caps (test_links G.jumps R s t)) (length (test_links G.jumps R s t)) (test_run G.jumps R s t)
-  claims R s t h k = test_claimed G.jumps R s t (unfold prob in (K.rows s h).in-range) (unfold prob in (K.rows t k).in-range) (unfold prob in (K.rows s h).few) (unfold prob in (K.rows t k).few)
+  claims R s t h k = test_claimed G.jumps R s t (unfold prob in (K.rows s h).in_range) (unfold prob in (K.rows t k).in_range) (unfold prob in (K.rows s h).few) (unfold prob in (K.rows t k).few)
 
   cuts : (k : Strike) → In k (epsdelta G).strikes → Cut (test_network G.jumps k.before (failed_from k) (failed_to k)) (test_run G.jumps k.before (failed_from k) (failed_to k))
   unfolding epsdelta
@@ -53,12 +53,12 @@ module _ (G : Given) (K : Ready G) where
   unfolding epsdelta
   run_sound = record {
     symmetric = run_symmetric (task G);
-    reflexive = run_reflexive (task G) K.self-passes;
+    reflexive = run_reflexive (task G) K.self_passes;
     standing = run_standing (task G);
     missing = run_missing (task G);
-    strikes-failed = run_struck (task G);
+    strikes_failed = run_struck (task G);
     cut = cuts;
-    nodes-counted = test_nodes_lem G.jumps;
+    nodes_counted = test_nodes_lem G.jumps;
     bounded = λ R s t h k. (claims R s t h k).bounded;
     traced = λ R s t h k. (claims R s t h k).traced;
     trail = run_trail (task G);
@@ -80,7 +80,7 @@ module _ (SL : Shape) (ML : Columns) (SR : Shape) (MR : Columns) (cl cr : List �
     row_of s h = subst⁻¹ (λ (m : ℕ). RowOf m (get_or J s no_row)) total (union_rows A.left A.right s (subst (λ (m : ℕ). s < m) total h))
 
     passes : (x : Float) → Summed x → rates_close x x ρ ≡ true
-    passes x h = self_close x ρ (subst (λ (y : Float). T (le y ρ)) one_is (t_of A.factor-least)) (subst (λ (y : Float). T (le ρ y)) greatest_factor_is (t_of A.factor-most)) h
+    passes x h = self_close x ρ (subst (λ (y : Float). T (le y ρ)) one_is (t_of A.factor_least)) (subst (λ (y : Float). T (le ρ y)) greatest_factor_is (t_of A.factor_most)) h
 
     -- an input that is not refused
     pub ready : Ready (given SL ML SR MR cl cr ε ρ)

@@ -243,8 +243,8 @@ module _ {n : ℕ} {S T : List ℕ} {P : List Float} (F : RowsFit n S T P) {s t 
   kept : (E : List Float) (need : Float) (a b : ℕ) → a < b → b < n → Quiet S T (Apart n s t) a b → Passes n E S T P need R a b → Passes n E S T P need (clear n R s t) a b
   kept E need a b l h Q g z e =
       let (x, y) = g z (clear_within n R s t a b e) in
-      let la = F.targets-long a (omega arith) in
-      let lb = F.targets-long b h in (
+      let la = F.targets_long a (omega arith) in
+      let lb = F.targets_long b h in (
         test_same n (clear n R s t) R S T P need a b la lb (λ i j u v w r. (same (get_or T i 0) (get_or T j 0) (Q.at i j u v w r)).0) ∙ x,
         test_same n (clear n R s t) R S T P need b a lb la (λ i j u v w r. (same (get_or T j 0) (get_or T i 0) (Q.at j i w r u v)).1) ∙ y,
       )
@@ -257,8 +257,8 @@ module _ {n : ℕ} {E : List Float} {S T : List ℕ} {P : List Float} {need : Fl
       let R' = N.relation in
       let same = bytes_same n R R' (sym e ∙ N.bytes) in
       let p = N.earlier a b l h Q z (sym (packed_holds n R' a b) ∙ ap (λ (x : List ℕ). bit_at x (a * n + b)) (sym N.bytes) ∙ k) in
-      let la = F.targets-long a (omega arith) in
-      let lb = F.targets-long b h in (
+      let la = F.targets_long a (omega arith) in
+      let lb = F.targets_long b h in (
         test_same n R R' S T P need a b la lb (λ i k _ _ _ _. same (get_or T i 0) (get_or T k 0)) ∙ p.0,
         test_same n R R' S T P need b a lb la (λ i k _ _ _ _. same (get_or T i 0) (get_or T k 0)) ∙ p.1,
       )

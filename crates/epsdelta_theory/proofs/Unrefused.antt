@@ -94,8 +94,8 @@ unrefused SL ML SR MR cl cr ε ρ bytes e =
     record {
       left = A.left;
       right = A.right;
-      left_classes = A.left-classes;
-      right_classes = A.right-classes;
+      left_classes = A.left_classes;
+      right_classes = A.right_classes;
       room = A.room;
       tolerance_valid = not-false _ f.0;
       factor_least = g.0;
@@ -108,5 +108,5 @@ pub start_below : (S : Shape) (M : Columns) → Accepted S M → absent S.initia
 start_below S M A e = pick S.initial refl e
   where
     pick : (i : Initial) → S.initial ≡ i → absent i ≡ false → start i < S.states
-    pick (At s) p e = A.start-in s p
+    pick (At s) p e = A.start_in s p
     pick Absent p e = absurd (true≢false e)

@@ -1,4 +1,6 @@
 // `epsdelta` as a definition (specs/) and what is proved of every run (proofs/Theorem.antt).
+#![tactic(auto)]
+
 ghost use Rattle.std.specs.Prelude.{◌≡◌};
 ghost use Rattle.epsdelta_theory.specs.Epsdelta.{rates_close};
 

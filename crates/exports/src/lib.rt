@@ -1,5 +1,7 @@
 // The entries for C and Rust: numbers, slices and references to numbers. Where a function can refuse, it returns the refusal's number,
 // or 0 with its answer behind the references at its end, which a refusal leaves as they were.
+#![tactic(auto)]
+
 pub mod models; // models.rt: numbers, labels and models
 pub mod networks; // networks.rt: networks of links and their maximum flow
 pub mod relations; // relations.rt: relations of two models

@@ -161,10 +161,10 @@ module _ (N : FlowNetwork) (whole : length N.links ≡ 2176) (from to : ℕ) (ca
           row_back N.links N.count from to cap cost room (λ (x : Link). x.cost),
           lt-ltb from n E.from_in,
           lt-ltb to n E.to_in,
-          E.cap-fits,
-          E.cost-fits,
+          E.cap_fits,
+          E.cost_fits,
           nought_fits,
-        ) (negation_fits cost E.cost-fits)
+        ) (negation_fits cost E.cost_fits)
 
     links_fit_lem : links_fit H c p n ≡ true
     links_fit_lem = every_of (pair_fits H c p n) (length H / 2) (λ k h. pick k h (lt_or_ge (k + k + 1) N.count))

@@ -78,12 +78,12 @@ module _ (N : FlowNetwork) (whole : length N.links ≡ 2176) (places : length N.
 
   head_in : (e : ℕ) → e < n → get_or H' e 0 < nodes
   unfolding head
-  head_in e h = let d = heads_size in subst (λ (x : ℕ). get_or H' e 0 < x) (network_nodes H' nodes) (A.heads-in e (omega arith))
+  head_in e h = let d = heads_size in subst (λ (x : ℕ). get_or H' e 0 < x) (network_nodes H' nodes) (A.heads_in e (omega arith))
 
   ready : Indexable H' nodes
-  ready = let d = heads_size in let a = small in record { added = k; pairs = A.pairs; small = omega arith; heads-in = λ e h. head_in e (omega arith) }
+  ready = let d = heads_size in let a = small in record { added = k; pairs = A.pairs; small = omega arith; heads_in = λ e h. head_in e (omega arith) }
 
-  cap_fits_lem : (e : ℕ) → e < n → cap_fits (get_or c'' e nan) ≡ true
+  cap_fits : (e : ℕ) → e < n → cap_fits (get_or c'' e nan) ≡ true
   unfolding left
   cap_fits_lem e h = let d = heads_size in let (a, b) = A.range e (omega arith) in in_range (get_or c'' e nan) a b
 
@@ -119,7 +119,7 @@ module _ (N : FlowNetwork) (whole : length N.links ≡ 2176) (places : length N.
   both_ends =
       let v = network_nodes H' nodes in
       let d = heads_size in
-      ends_fit_lem H' c'' nodes s t (subst (λ (x : ℕ). s < x) v A.source_in) (subst (λ (x : ℕ). t < x) v A.sink-in) A.ends
+      ends_fit_lem H' c'' nodes s t (subst (λ (x : ℕ). s < x) v A.source_in) (subst (λ (x : ℕ). t < x) v A.sink_in) A.ends
       (every_of (λ e. leaves_finite s (get_or H' (rev e) 0) (get_or c'' e nan)) (length H') (λ e h. spares (get_or H' (rev e) 0) s (get_or c'' e nan) (A.finite e h)))
 
   pub filled_accepted : accepts_on (filled N H c n nodes) s t ≡ true
@@ -148,5 +148,5 @@ pub rows_between : {us : List ℕ} {vs : List Float} {ts : List ℕ} {ws : List 
     → (N : FlowNetwork) → length N.links ≡ 2176 → length N.list ≡ 2176 → (p : List Float) → k ≤ length p
     → (flow_rows N h' c' p k (length us + length ts + 2) (length us + length ts) (length us + length ts + 1)).answer ≡ flow_between us vs ts ws m (relation_of store)
 rows_between {us} {vs} {ts} {ws} {m} store {h} {k} {h'} {c'} L N whole places p in-costs =
-    rows_flow N whole places h' c' k (length us + length ts + 2) (length us + length ts) (length us + length ts + 1) (length (take k h') / 2) (written_accepted store L) L.heads-in L.caps-in p in-costs
+    rows_flow N whole places h' c' k (length us + length ts + 2) (length us + length ts) (length us + length ts + 1) (length (take k h') / 2) (written_accepted store L) L.heads_in L.caps_in p in-costs
     ∙ answer_is store L

@@ -65,15 +65,15 @@ grows N ls few K places room H q b s l R =
 pub record EdgeFit (n from to : ℕ) (cap cost : Float) : Type 0 where
   pub from_in : from < n
   pub to_in : to < n
-  pub cap_fits_lem : cap_fits cap ≡ true
-  pub cost_fits_lem : cost_fits cost ≡ true
+  pub cap_fits : cap_fits cap ≡ true
+  pub cost_fits : cost_fits cost ≡ true
 
 pub edge_fit : (n from to : ℕ) (cap cost : Float) → edge_fits n from to cap cost ≡ true → EdgeFit n from to cap cost
 edge_fit n from to cap cost f =
     let (a, r) = and_t (ltb from n) _ f in
     let (b, q) = and_t (ltb to n) _ r in
     let (x, y) = and_t (cap_fits cap) _ q in
-    record { from_in = ltb-true _ _ a; to_in = ltb-true _ _ b; cap_fits_lem = x; cost_fits_lem = y }
+    record { from_in = ltb-true _ _ a; to_in = ltb-true _ _ b; cap_fits = x; cost_fits = y }
 
 pub net_fit : (N : FlowNetwork) → fits_on N ≡ true → Parts (heads_of N.count N.links) (caps_of N.count N.links) (costs_of N.count N.links) N.starts N.list N.nodes
 net_fit N f = fitting _ _ _ _ _ _ f
@@ -122,12 +122,12 @@ module _ (ls : List Link) (n from to : ℕ) (cap cost : Float) (room : n + 2 ≤
       let l = row_size (λ (x : Link). x.head) in
       let k = front in
       let p = K.pairs in
-      record { added = K.added + 1; pairs = omega arith; small = omega arith; heads-in = λ e h. pick e (lt_or_ge e n) (eq_or_ne e n) (omega arith) }
+      record { added = K.added + 1; pairs = omega arith; small = omega arith; heads_in = λ e h. pick e (lt_or_ge e n) (eq_or_ne e n) (omega arith) }
     where
       front : length (heads_of n ls) ≡ n
       front = length-take-le n (map (λ (x : Link). x.head) ls) (let q = length-map ls (λ (x : Link). x.head) in omega arith)
 
       pick : (e : ℕ) → (e < n) ⊎ (n ≤ e) → (e ≡ n) ⊎ (e ≢ n) → e < n + 2 → get_or (heads_of (n + 2) more) e 0 < m
-      pick e (inl u) d h = rw (row_before (λ (x : Link). x.head) e u) (K.heads-in e (let k = front in omega arith))
+      pick e (inl u) d h = rw (row_before (λ (x : Link). x.head) e u) (K.heads_in e (let k = front in omega arith))
       pick e (inr v) (inl q) h = rw (q, row_forth (λ (x : Link). x.head)) b
       pick e (inr v) (inr d) h = let q : e ≡ n + 1 = omega arith in rw (q, row_back (λ (x : Link). x.head)) a

@@ -49,34 +49,34 @@ module _ (ls : List Link) (whole : length ls ≡ 2176) {heads₀ : List ℕ} {ca
   row_lengths =
       let w = F.within in
       let u = I.upto in
-      let a = F.caps-too in
-      let b = F.costs-too in (
-        filled_length (λ (l : Link). l.head) ls heads₀ i heads I.heads-is (omega arith) u,
-        filled_length (λ (l : Link). l.cap) ls caps₀ i caps I.caps-is (omega arith) (omega arith),
-        filled_length (λ (l : Link). l.cost) ls costs₀ i costs I.costs-is (omega arith) (omega arith),
+      let a = F.caps_too in
+      let b = F.costs_too in (
+        filled_length (λ (l : Link). l.head) ls heads₀ i heads I.heads_is (omega arith) u,
+        filled_length (λ (l : Link). l.cap) ls caps₀ i caps I.caps_is (omega arith) (omega arith),
+        filled_length (λ (l : Link). l.cost) ls costs₀ i costs I.costs_is (omega arith) (omega arith),
       )
 
   pub unpack_on : i < length heads₀ → Unpacking ls heads₀ caps₀ costs₀ (set heads i (get_or ls i past_end).head) (set caps i (get_or ls i past_end).cap) (set costs i (get_or ls i past_end).cost) (i + 1)
   unpack_on h =
       let w = F.within in
-      let a = F.caps-too in
-      let b = F.costs-too in
+      let a = F.caps_too in
+      let b = F.costs_too in
       record {
         upto = omega arith;
-        heads_is = filled_on (λ (l : Link). l.head) ls heads₀ i heads I.heads-is (omega arith) h;
-        caps_is = filled_on (λ (l : Link). l.cap) ls caps₀ i caps I.caps-is (omega arith) (omega arith);
-        costs_is = filled_on (λ (l : Link). l.cost) ls costs₀ i costs I.costs-is (omega arith) (omega arith);
+        heads_is = filled_on (λ (l : Link). l.head) ls heads₀ i heads I.heads_is (omega arith) h;
+        caps_is = filled_on (λ (l : Link). l.cap) ls caps₀ i caps I.caps_is (omega arith) (omega arith);
+        costs_is = filled_on (λ (l : Link). l.cost) ls costs₀ i costs I.costs_is (omega arith) (omega arith);
       }
 
   pub unpack_ends : length heads₀ ≤ i → Unpacked ls (length heads₀) heads caps costs
   unpack_ends h =
       let u = I.upto in
       let z : i ≡ length heads₀ = omega arith in
-      let a = F.caps-too in
-      let b = F.costs-too in (
-        I.heads-is ∙ over_end (map (λ (l : Link). l.head) ls) heads₀ i (omega arith) ∙ ap (λ (n : ℕ). heads_of n ls) z,
-        I.caps-is ∙ over_end (map (λ (l : Link). l.cap) ls) caps₀ i (omega arith) ∙ ap (λ (n : ℕ). caps_of n ls) z,
-        I.costs-is ∙ over_end (map (λ (l : Link). l.cost) ls) costs₀ i (omega arith) ∙ ap (λ (n : ℕ). costs_of n ls) z,
+      let a = F.caps_too in
+      let b = F.costs_too in (
+        I.heads_is ∙ over_end (map (λ (l : Link). l.head) ls) heads₀ i (omega arith) ∙ ap (λ (n : ℕ). heads_of n ls) z,
+        I.caps_is ∙ over_end (map (λ (l : Link). l.cap) ls) caps₀ i (omega arith) ∙ ap (λ (n : ℕ). caps_of n ls) z,
+        I.costs_is ∙ over_end (map (λ (l : Link). l.cost) ls) costs₀ i (omega arith) ∙ ap (λ (n : ℕ). costs_of n ls) z,
       )
 
 -- the heads alone

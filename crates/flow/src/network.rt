@@ -11,7 +11,7 @@ use flow_core::rows::Answer;
 
 // A link: the node that it leads to, the capacity left, and its cost for a unit.
 #[repr(C)]
-#[derive(Drop)]
+#[derive(Clone, Copy)]
 pub struct Link {
     pub head: u32,
     pub cap: f64,
@@ -20,7 +20,7 @@ pub struct Link {
 
 // A network: links 2k and 2k + 1 are an added link and its reverse; node u's list is list[starts[u]..starts[u + 1]].
 #[repr(C)]
-#[derive(Drop)]
+#[derive(Clone, Copy)]
 pub struct FlowNetwork {
     pub links: [Link; 2176],
     pub count: usize,
@@ -30,7 +30,7 @@ pub struct FlowNetwork {
 }
 
 // The number of a refusal, 0 if there is none, and a network: a new one or one with a link more; where a new one is refused, one of no nodes.
-#[derive(Drop)]
+#[derive(Clone, Copy)]
 pub struct Made {
     pub refused: u32,
     pub net: FlowNetwork,

@@ -162,7 +162,7 @@ ends H c n s t h =
 
 -- links that fit can be indexed
 pub indexable : (H : List ℕ) (c p : List Float) (n : ℕ) {k m l : ℕ} → Sized n (length H) k m l → links_fit H c p n ≡ true → Indexable H n
-indexable H c p n S f = record { added = length H / 2; pairs = let e = S.even in omega arith; small = S.small; heads-in = λ e h. (each H c p n S.even f e h).head_in }
+indexable H c p n S f = record { added = length H / 2; pairs = let e = S.even in omega arith; small = S.small; heads_in = λ e h. (each H c p n S.even f e h).head_in }
 
 pub record Parts (H : List ℕ) (c p : List Float) (starts list : List ℕ) (n : ℕ) : Type 0 where
   pub sizes : Sized n (length H) (length c) (length p) (length list)
@@ -198,9 +198,9 @@ module _ (H : List ℕ) (c p : List Float) (starts list : List ℕ) (n s t : ℕ
         small = let l = z.small in omega arith;
         pairs = let l = z.even in omega arith;
         size = z.caps;
-        heads-in = λ e h. rw (network_nodes H n) (link e h).head_in;
+        heads_in = λ e h. rw (network_nodes H n) (link e h).head_in;
         source_in = rw (network_nodes H n) ends_are.source_in;
-        sink_in = rw (network_nodes H n) ends_are.sink-in;
+        sink_in = rw (network_nodes H n) ends_are.sink_in;
         ends = ends_are.apart;
         range = λ e h. (link e h).range;
         finite = λ e h q. ends_are.finite e h q;
@@ -217,6 +217,6 @@ module _ (H : List ℕ) (c p : List Float) (starts list : List ℕ) (n s t : ℕ
         good = accepted_good (network H n s t) c (length H / 2) accepted;
         laid = laid K starts list sizes_are.list rows_are.0 rows_are.1 s t sizes_are.few;
         caps = accepted_caps (network H n s t) c (length H / 2) accepted;
-        sink_in = accepted.sink-in;
+        sink_in = accepted.sink_in;
         small = sizes_are.small;
       }

@@ -93,7 +93,7 @@ module _ {H : List ℕ} {n : ℕ} (K : Indexable H n) (starts list : List ℕ) {
 
   module _ (first : get_or starts 0 0 ≡ 0) {at : List ℕ} (S : Stands H n at₀ list at (length H)) where
     mark_ends : (u : ℕ) → u < n → get_or at u 0 ≡ get_or starts u 0 + length (get_or (node_lists H n (length H)) u [])
-    mark_ends u h = S.at-is u h ∙ ap (λ (k : ℕ). k + length (get_or (node_lists H n (length H)) u [])) (mark_at u h)
+    mark_ends u h = S.at_is u h ∙ ap (λ (k : ℕ). k + length (get_or (node_lists H n (length H)) u [])) (mark_at u h)
 
     module _ (ends : (u : ℕ) → u < n → get_or at u 0 ≡ get_or starts (suc u) 0) where
       starts_are : (u : ℕ) → u ≤ n → get_or starts u 0 ≡ get_or (starts_of H n) u 0

@@ -67,10 +67,10 @@ module _ {us : List ℕ} {vs : List Float} {ts : List ℕ} {ws : List Float} {n 
       let ls : List Link = links_of n (relation_of store) (jumps_of us vs) (jumps_of ts ws) in
       let d = heads_length ls in
       let half : length (heads ls) / 2 ≡ length ls = omega arith in
-      rw (L.heads-is, L.caps-is, sources, add-one (length (jumps_of us vs) + length (jumps_of ts ws)), half) (between us vs ts ws n L.fitting (relation_of store))
+      rw (L.heads_is, L.caps_is, sources, add-one (length (jumps_of us vs) + length (jumps_of ts ws)), half) (between us vs ts ws n L.fitting (relation_of store))
 
   run_is : max_flow (network (take k h') (length us + length ts + 2) (length us + length ts) (length us + length ts + 1)) (take k c') ≡ run_between n (relation_of store) (jumps_of us vs) (jumps_of ts ws)
-  run_is = rw (L.heads-is, L.caps-is, sources, add-one (length (jumps_of us vs) + length (jumps_of ts ws)))
+  run_is = rw (L.heads_is, L.caps_is, sources, add-one (length (jumps_of us vs) + length (jumps_of ts ws)))
 
   -- the run over the rows is the answer of the definition
   pub answer_is : (settled true (max_flow (network (take k h') (length us + length ts + 2) (length us + length ts) (length us + length ts + 1)) (take k c')) []).answer ≡ flow_between us vs ts ws n (relation_of store)

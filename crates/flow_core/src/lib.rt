@@ -1,4 +1,6 @@
 // Maximum flow (Dinic) on a small network, over lent rows of numbers.
+#![tactic(auto)]
+
 mod levels; // levels.rt: the levels of a phase
 mod augment; // augment.rt: one path, and the push along it
 mod run; // run.rt: phases, and the whole run

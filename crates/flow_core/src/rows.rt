@@ -6,7 +6,7 @@ use crate::run;
 use flow_check::check;
 
 // What a flow run answers: the flow with its phases and pushes, or the number of the refusal.
-#[derive(Drop)]
+#[derive(Clone, Copy)]
 pub enum Answer {
     Flow {
         flow: f64,

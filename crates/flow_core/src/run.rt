@@ -9,14 +9,14 @@ use crate::{augment, levels};
 use numbers::EPS;
 
 // The flow after a phase, and its pushes.
-#[derive(Drop)]
+#[derive(Clone, Copy)]
 pub struct Pushes {
     pub flow: f64,
     pub count: usize,
 }
 
 // What a round comes to: whether the levels reach the sink, and then the flow after the phase and its pushes.
-#[derive(Drop)]
+#[derive(Clone, Copy)]
 pub struct Round {
     pub reached: bool,
     pub flow: f64,
@@ -24,7 +24,7 @@ pub struct Round {
 }
 
 // What a run comes to: the flow, the phases and the pushes of all phases.
-#[derive(Drop)]
+#[derive(Clone, Copy)]
 pub struct Flowed {
     pub flow: f64,
     pub phases: usize,

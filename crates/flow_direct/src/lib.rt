@@ -1,4 +1,6 @@
 // Whether the flow between two rows of jumps is enough, without a network: pushes in the order of the flow run, until it is.
+#![tactic(auto)]
+
 mod search; // search.rt: searches by labels
 mod give; // give.rt: the first pushes, target by target
 mod path; // path.rt: a path by labels, and the push along it

@@ -9,7 +9,7 @@ use crate::search::{first_back, first_right};
 use numbers::smaller;
 
 // Where a walk ends: the label, and 0 for a target of s from where no link falls, 1 for such a target of t, 2 for a target of t with label 1.
-#[derive(Drop)]
+#[derive(Clone, Copy)]
 pub struct Stop {
     pub label: usize,
     pub side: usize,

@@ -261,7 +261,7 @@ fn reaches_plenty(
 }
 
 // What is known without a network of the flow tests between two rows, from the one to the other and back: whether both pass. With `back` the first does, and with `plenty` its flow is at least what is called so.
-#[derive(Drop)]
+#[derive(Clone, Copy)]
 pub struct Ways {
     pub known: bool,
     pub passes: bool,

@@ -10,7 +10,7 @@ use crate::step::{Step, one_step};
 use flow_routes::remains;
 
 // What one try came to: whether the search goes on, with which label of the source and which flow, and else what is known.
-#[derive(Drop)]
+#[derive(Clone, Copy)]
 pub struct Attempt {
     pub on: bool,
     pub known: bool,
@@ -20,7 +20,7 @@ pub struct Attempt {
 }
 
 // Whether it is known if the flow is enough, and whether it is.
-#[derive(Drop)]
+#[derive(Clone, Copy)]
 pub struct Verdict {
     pub known: bool,
     pub passes: bool,

@@ -8,7 +8,7 @@ use crate::search::none_at;
 use flow_routes::remains;
 
 // What a step came to: whether it pushed, how much, and whether no path is left.
-#[derive(Drop)]
+#[derive(Clone, Copy)]
 pub struct Step {
     pub pushed: bool,
     pub cut: bool,

@@ -94,7 +94,7 @@ module _ (n : ℕ) (R : List Bool) (ps pt : List Jump) (hs : Shares ps) (ht : Sh
     at_right y l = ap (λ (v : ℕ). not (S v)) (mirror_right (length ps) (length pt) y l)
 
     at_source : turned (length ps + length pt) ≡ true
-    at_source = ap (λ (v : ℕ). not (S v)) (mirror_source (length ps) (length pt)) ∙ ap not A.sink-out
+    at_source = ap (λ (v : ℕ). not (S v)) (mirror_source (length ps) (length pt)) ∙ ap not A.sink_out
 
     at_sink : turned (suc (length ps + length pt)) ≡ false
     at_sink = ap (λ (v : ℕ). not (S v)) (mirror_sink (length ps) (length pt)) ∙ ap not A.source_in
@@ -122,7 +122,7 @@ module _ (n : ℕ) (R : List Bool) (ps pt : List Jump) (hs : Shares ps) (ht : Sh
         let q = out_is n R pt ps S in
         let x : row_of (λ (v : ℕ). turned src && not (turned v)) 0 ps ≡ row_of (λ (v : ℕ). S v && not (S (suc src'))) (length pt) ps
         = row_of_same (λ (v : ℕ). turned src && not (turned v)) (λ (v : ℕ). S v && not (S (suc src'))) 0 (length pt) ps
-        (λ m l. one_side (turned src) (turned (0 + m)) (S (length pt + m)) (S (suc src')) at_source (ap turned (let z : 0 + m ≡ m = omega arith in z) ∙ at_left m l) A.sink-out) in
+        (λ m l. one_side (turned src) (turned (0 + m)) (S (length pt + m)) (S (suc src')) at_source (ap turned (let z : 0 + m ≡ m = omega arith in z) ∙ at_left m l) A.sink_out) in
         let y : row_of (λ (v : ℕ). turned v && not (turned (suc src))) (length ps) pt ≡ row_of (λ (v : ℕ). S src' && not (S v)) 0 pt
         = row_of_same (λ (v : ℕ). turned v && not (turned (suc src))) (λ (v : ℕ). S src' && not (S v)) (length ps) 0 pt
         (λ m l. other_side (S src') (turned (length ps + m)) (S (0 + m)) (turned (suc src)) A.source_in

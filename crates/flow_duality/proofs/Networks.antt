@@ -206,7 +206,7 @@ module _ (n : ℕ) (R : List Bool) (ps pt : List Jump) where
     unfolding head left links_of
     allowed_of hs ht i o h = record {
       source_in = i;
-      sink-out = o;
+      sink_out = o;
       finite = sealed_finite S (links_of n R ps pt)
           (sealed_append S (source_links src 0 ps) (sink_links (suc src) a pt ++ all_cross_links n R 0 a ps pt) (sealed_source 0 ps hs)
           (sealed_append S (sink_links (suc src) a pt) (all_cross_links n R 0 a ps pt) (sealed_sink a pt ht) (all_sealed S n R 0 a ps pt h)));
@@ -230,7 +230,7 @@ module _ (n : ℕ) (R : List Bool) (ps pt : List Jump) where
     source : Allowed N c₀ (alone N)
     source = record {
       source_in = eq-eqb src src refl;
-      sink-out = ne_eqb (suc src) src (omega arith);
+      sink_out = ne_eqb (suc src) src (omega arith);
       finite = λ e l h. first e l (eqb-true (tail N e) src (and_t (alone N (tail N e)) (not (alone N (head N e))) h).0);
     }
 

@@ -61,7 +61,7 @@ module _ {n : ℕ} {S T : List ℕ} {P : List Float} (F : RowsFit n S T P) where
     row_shares =
         let a = get_or S s 0 in
         let b = get_or S (s + 1) 0 in
-        let z = length-slice a b P (F.probs-long s h) in
+        let z = length-slice a b P (F.probs_long s h) in
         let r = F.rise s h in
         shares_of_lem (slice a b T) (slice a b P) (λ i l. share i (omega arith))
       where
@@ -74,8 +74,8 @@ module _ {n : ℕ} {S T : List ℕ} {P : List Float} (F : RowsFit n S T P) where
     row_few f =
         let a = get_or S s 0 in
         let b = get_or S (s + 1) 0 in
-        let y = length-slice a b T (F.targets-long s h) in
-        let z = length-slice a b P (F.probs-long s h) in
+        let y = length-slice a b T (F.targets_long s h) in
+        let z = length-slice a b P (F.probs_long s h) in
         let e = jumps_length (slice a b T) (slice a b P) (y ∙ sym z) in
         omega arith
 
@@ -83,7 +83,7 @@ module _ {n : ℕ} {S T : List ℕ} {P : List Float} (F : RowsFit n S T P) where
     row_targets_lem =
         let a = get_or S s 0 in
         let b = get_or S (s + 1) 0 in
-        let y = length-slice a b T (F.targets-long s h) in
+        let y = length-slice a b T (F.targets_long s h) in
         let r = F.rise s h in
         targets_of n (slice a b T) (slice a b P) (λ i l. target i (omega arith))
       where

@@ -146,7 +146,7 @@ module _ (N : Net) (G : WellFormed N) (c₀ : List Float) (B : Begins N c₀) (n
         → (val t' + out_of N S (push_path x ps c) ≤ out_of N S c₀ + nodes_most * (suc n * ulp)) × (out_of N S c₀ ≤ val t' + out_of N S (push_path x ps c) + nodes_most * (suc n * ulp))
     balanced S a =
         let p : Ends (S N.source) (out_of N S c) (out_of N S (push_path x ps c)) (val x) (length ps * ulp)
-        = path_out N S x W ps N.source N.sink c F.size a.sink-out chain A R (λ y i. (known y i, back_in y (known y i), ready S a y i)) in
+        = path_out N S x W ps N.source N.sink c F.size a.sink_out chain A R (λ y i. (known y i, back_in y (known y i), ready S a y i)) in
         let (d, e) = subst (λ (b : Bool). Ends b (out_of N S c) (out_of N S (push_path x ps c)) (val x) (length ps * ulp)) a.source_in p in
         let (f, g) = F.balance S a in
         let (w, u, v) = more in

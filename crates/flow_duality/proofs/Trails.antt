@@ -153,8 +153,8 @@ module _ (N : Net) (G : WellFormed N) (few : nodes N ≤ nodes_most) (c₀ : Lis
   module _ (added : ℕ) (small : added ≤ added_most) (r : FlowRun) (C : FlowClaim N c₀ added r) where
     count : all_pushes r.phases ≤ pushes_most
     count =
-        let p = pushes_few added r.phases C.bounded.each-phase in
-        let l = C.bounded.few-phases in
+        let p = pushes_few added r.phases C.bounded.each_phase in
+        let l = C.bounded.few_phases in
         let m : length r.phases * added ≤ (2 * row_most + 1) * added = mul-le-mul_right added (let h : length r.phases ≤ 2 * row_most + 1 = omega arith in h) in
         omega arith
 
@@ -172,7 +172,7 @@ module _ (N : Net) (G : WellFormed N) (few : nodes N ≤ nodes_most) (c₀ : Lis
     below_cut S a = let h = (ran.balance S a).0 in let f = few_ulps in omega arith
 
     pub own_cut : Allowed N c₀ (in_cut r)
-    own_cut = record { source_in = C.bounded.cut.source_in; sink-out = C.bounded.cut.sink-out; finite = λ e l h q. pick e l h q (ran.fine e l) }
+    own_cut = record { source_in = C.bounded.cut.source_in; sink_out = C.bounded.cut.sink_out; finite = λ e l h q. pick e l h q (ran.fine e l) }
       where
         pick : (e : ℕ) → e < links N → leads N (in_cut r) e ≡ true → left c₀ e ≡ inf false → Fine c₀ (all_pushes r.phases) r.total r.cap e → ⊥
         pick e l h q (inr (d, w, b)) = d q

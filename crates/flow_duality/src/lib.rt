@@ -1,4 +1,6 @@
 // When the flow of a pair's test forth says that the one back passes too: theory (proofs/), and its limits.
+#![tactic(auto)]
+
 ghost use Rattle.std.specs.Prelude.{◌≡◌};
 ghost use Rattle.flow_duality.specs.Spare.{is_share};
 

@@ -83,7 +83,7 @@ module _ {us : List ℕ} {vs : List Float} {ts : List ℕ} {ws : List Float} {n 
       let b = leb→le k (length c) (t_of y) in
       let l = most store in
       let s = few_links (length us) (length ts) F.left.few F.right.few in
-      record { heads-room = omega arith; caps-room = omega arith; small = omega arith }
+      record { heads_room = omega arith; caps_room = omega arith; small = omega arith }
 
 -- ---- what is written
 
@@ -108,7 +108,7 @@ module _ (us : List ℕ) (vs : List Float) (ts : List ℕ) (ws : List Float) (n 
       let ls = links_of n (relation_of store) (jumps_of us vs) (jumps_of ts ws) in
       let z : row_links store n us vs ts ws ≡ ls = links_are n store us vs ts ws F.left.rates F.right.rates in
       let p : k ≡ length (heads ls) = A.count ∙ ap (λ (l : List Link). 0 + (length l + length l)) z ∙ let q = heads_length ls in omega arith in
-      (sym (ap (λ (b : Bool). b && rooms us ts h c) f ∙ e), (p, (laid_over (heads ls) h h' k p (A.heads-is ∙ ap heads z) A.heads-rest, laid_over (caps ls) c c' k (p ∙ sym (caps_length ls)) (A.caps-is ∙ ap caps z) A.caps-rest)))
+      (sym (ap (λ (b : Bool). b && rooms us ts h c) f ∙ e), (p, (laid_over (heads ls) h h' k p (A.heads_is ∙ ap heads z) A.heads_rest, laid_over (caps ls) c c' k (p ∙ sym (caps_length ls)) (A.caps_is ∙ ap caps z) A.caps_rest)))
 
   pub no_room : (R : List Bool) (h : List ℕ) (c : List Float) → (has_room (length us) (length ts) (length h) && has_room (length us) (length ts) (length c)) ≡ false → Written us vs ts ws n R h c false 0 h c
   no_room R h c e = (sym (ap (λ (b : Bool). b && rooms us ts h c) f ∙ e), (refl, (refl, refl)))
@@ -145,7 +145,7 @@ module _ (us : List ℕ) (vs : List Float) (ts : List ℕ) (ws : List Float) (n 
   laid {d} {k} {h'} {c'} w t =
       let (f, r) = and_t (fits us vs ts ws n) (rooms us ts h c) (sym w.0 ∙ t) in
       let F = fit us vs ts ws n f in
-      let free = (room F store h c r).heads-room in
+      let free = (room F store h c r).heads_room in
       let m = ap length (links_are n store us vs ts ws F.left.rates F.right.rates) in
       let l = heads_length links in
       let p : k ≡ length (heads links) = w.1.0 ∙ ap (λ (b : Bool). cond b (length (heads links)) 0) t in

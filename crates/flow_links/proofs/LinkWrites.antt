@@ -51,19 +51,19 @@ pub put_added : (l : Link) (h : List ℕ) (c : List Float) (e : ℕ) → Free h 
 unfolding heads caps
 put_added l h c e F = record {
   count = omega arith;
-  heads-is = written h e l.to l.from F.heads-room;
-  caps-is = written c e l.cap nought F.caps-room;
-  heads-rest = kept h e l.to l.from;
-  caps-rest = kept c e l.cap nought;
-  heads-size = length-set (set h e l.to) (e + 1) l.from ∙ length-set h e l.to;
-  caps-size = length-set (set c e l.cap) (e + 1) nought ∙ length-set c e l.cap;
+  heads_is = written h e l.to l.from F.heads_room;
+  caps_is = written c e l.cap nought F.caps_room;
+  heads_rest = kept h e l.to l.from;
+  caps_rest = kept c e l.cap nought;
+  heads_size = length-set (set h e l.to) (e + 1) l.from ∙ length-set h e l.to;
+  caps_size = length-set (set c e l.cap) (e + 1) nought ∙ length-set c e l.cap;
 }
 
 -- ---- links after links
 
 added_none : (h : List ℕ) (c : List Float) (e : ℕ) → Added [] h c e h c e
 unfolding heads caps
-added_none h c e = record { count = omega arith; heads-is = sym (append-nil (take e h)); caps-is = sym (append-nil (take e c)); heads-rest = refl; caps-rest = refl; heads-size = refl; caps-size = refl }
+added_none h c e = record { count = omega arith; heads_is = sym (append-nil (take e h)); caps_is = sym (append-nil (take e c)); heads_rest = refl; caps_rest = refl; heads_size = refl; caps_size = refl }
 
 -- what follows later links follows earlier ones too
 rest_on : {A : Type 0} (l l' : List A) (e k : ℕ) {e' : ℕ} → e' ≡ e + k → drop e l' ≡ drop e l → drop e' l' ≡ drop e' l
@@ -76,12 +76,12 @@ added_join {xs} {ys} {h} {h'} {h''} {c} {c'} {c''} {e} {e'} A B =
     let q = B.count in
     record {
       count = omega arith;
-      heads-is = B.heads-is ∙ ap (λ (l : List ℕ). l ++ heads ys) A.heads-is ∙ append_assoc (take e h) (heads xs) (heads ys) ∙ ap (λ (l : List ℕ). take e h ++ l) (sym (heads_append xs ys));
-      caps-is = B.caps-is ∙ ap (λ (l : List Float). l ++ caps ys) A.caps-is ∙ append_assoc (take e c) (caps xs) (caps ys) ∙ ap (λ (l : List Float). take e c ++ l) (sym (caps_append xs ys));
-      heads-rest = B.heads-rest ∙ rest_on h h' e' (length ys + length ys) q A.heads-rest;
-      caps-rest = B.caps-rest ∙ rest_on c c' e' (length ys + length ys) q A.caps-rest;
-      heads-size = B.heads-size ∙ A.heads-size;
-      caps-size = B.caps-size ∙ A.caps-size;
+      heads_is = B.heads_is ∙ ap (λ (l : List ℕ). l ++ heads ys) A.heads_is ∙ append_assoc (take e h) (heads xs) (heads ys) ∙ ap (λ (l : List ℕ). take e h ++ l) (sym (heads_append xs ys));
+      caps_is = B.caps_is ∙ ap (λ (l : List Float). l ++ caps ys) A.caps_is ∙ append_assoc (take e c) (caps xs) (caps ys) ∙ ap (λ (l : List Float). take e c ++ l) (sym (caps_append xs ys));
+      heads_rest = B.heads_rest ∙ rest_on h h' e' (length ys + length ys) q A.heads_rest;
+      caps_rest = B.caps_rest ∙ rest_on c c' e' (length ys + length ys) q A.caps_rest;
+      heads_size = B.heads_size ∙ A.heads_size;
+      caps_size = B.caps_size ∙ A.caps_size;
     }
 
 -- of all links those still to come are `rest`; the others were written
@@ -112,32 +112,32 @@ module _ {all : List Link} {h₀ h : List ℕ} {c₀ c : List Float} {e₀ e : �
       let n = sym (ap length (ap (λ (l : List Link). A.done ++ l) (sym z) ∙ A.split)) ∙ length-append A.done (xs ++ rest) in
       let m = length-append xs rest in
       let p = A.added.count in
-      let a = A.added.heads-size in
-      let b = A.added.caps-size in
-      let f = F.heads-room in
-      let g = F.caps-room in
+      let a = A.added.heads_size in
+      let b = A.added.caps_size in
+      let f = F.heads_room in
+      let g = F.caps_room in
       let l = F.small in
-      record { heads-room = omega arith; caps-room = omega arith; small = omega arith }
+      record { heads_room = omega arith; caps_room = omega arith; small = omega arith }
 
 -- room for the first of the links, and for the others once these are written
 pub free_first : (xs ys : List Link) {h : List ℕ} {c : List Float} {e : ℕ} → Free h c e (length (xs ++ ys)) → Free h c e (length xs)
 free_first xs ys F =
     let n = length-append xs ys in
-    let f = F.heads-room in
-    let g = F.caps-room in
+    let f = F.heads_room in
+    let g = F.caps_room in
     let l = F.small in
-    record { heads-room = omega arith; caps-room = omega arith; small = omega arith }
+    record { heads_room = omega arith; caps_room = omega arith; small = omega arith }
 
 pub free_after : (xs ys : List Link) {h h' : List ℕ} {c c' : List Float} {e e' : ℕ} → Added xs h c e h' c' e' → Free h c e (length (xs ++ ys)) → Free h' c' e' (length ys)
 free_after xs ys A F =
     let n = length-append xs ys in
     let p = A.count in
-    let a = A.heads-size in
-    let b = A.caps-size in
-    let f = F.heads-room in
-    let g = F.caps-room in
+    let a = A.heads_size in
+    let b = A.caps_size in
+    let f = F.heads_room in
+    let g = F.caps_room in
     let l = F.small in
-    record { heads-room = omega arith; caps-room = omega arith; small = omega arith }
+    record { heads_room = omega arith; caps_room = omega arith; small = omega arith }
 
 -- ---- the turns of the loops
 

@@ -173,7 +173,7 @@ fn has_room(left: usize, right: usize, heads: usize, caps: usize) -> bool
 }
 
 // What writing comes to: whether the links were written, and how many places they take.
-#[derive(Drop)]
+#[derive(Clone, Copy)]
 pub struct Links {
     pub done: bool,
     pub places: usize,

@@ -45,12 +45,12 @@ pair_low a b i k ha hb hi hk = let l : i ≤ 31 = omega arith in let m : i * b �
 
 pub room_sized : {us ts : List ℕ} {n : ℕ} {A₀ B₀ F₀ A B F : List Float} → Room us ts n A₀ B₀ F₀ → Sized A₀ B₀ F₀ A B F → Room us ts n A B F
 room_sized R Z =
-    let a = R.room-a in
-    let b = R.room-b in
-    let f = R.room-f in
-    let x = Z.size-a in
-    let y = Z.size-b in
-    let z = Z.size-f in
+    let a = R.room_a in
+    let b = R.room_b in
+    let f = R.room_f in
+    let x = Z.size_a in
+    let y = Z.size_b in
+    let z = Z.size_f in
     record { states = R.states; lefts = R.lefts; rights = R.rights; room_a = omega arith; room_b = omega arith; room_f = omega arith }
 
 -- ---- a search
@@ -176,9 +176,9 @@ module _ {us ts : List ℕ} {n : ℕ} {store : List ℕ} {A₀ B₀ F₀ : List 
       → F' ≡ set F (i * length ts + k) (add binary64 (get_or F (i * length ts + k) nan) x) → Giving us ts n store A₀ B₀ F₀ t₀ i₀ A' B' F' (add binary64 t x) i (k + 1)
   giving_push hi hk oa ob o ex ea eb ef = rw (ea, eb, ef, ex) (record {
     sized = record {
-      size_a = length-set A i _ ∙ I.sized.size-a;
-      size_b = length-set B k _ ∙ I.sized.size-b;
-      size_f = length-set F (i * length ts + k) _ ∙ I.sized.size-f;
+      size_a = length-set A i _ ∙ I.sized.size_a;
+      size_b = length-set B k _ ∙ I.sized.size_b;
+      size_f = length-set F (i * length ts + k) _ ∙ I.sized.size_f;
     };
     state = λ G R S K.
         let (X, Y) = I.state G R S K in
@@ -209,7 +209,7 @@ given_on {f = f} l h I ea eb ef et = (giving_same I ea eb ef et, omega arith, su
 pub giving_joins : {us ts : List ℕ} {n : ℕ} {store : List ℕ} {A₀ B₀ F₀ : List Float} {t₀ : Float} {i₀ : ℕ} {A₁ B₁ F₁ : List Float} {t₁ : Float} {i₁ : ℕ} {A B F : List Float} {t : Float} {i : ℕ}
     → Giving us ts n store A₀ B₀ F₀ t₀ i₀ A₁ B₁ F₁ t₁ i₁ 0 → Giving us ts n store A₁ B₁ F₁ t₁ i₁ A B F t i 0 → Giving us ts n store A₀ B₀ F₀ t₀ i₀ A B F t i 0
 giving_joins I J = record {
-  sized = record { size_a = J.sized.size-a ∙ I.sized.size-a; size_b = J.sized.size-b ∙ I.sized.size-b; size_f = J.sized.size-f ∙ I.sized.size-f };
+  sized = record { size_a = J.sized.size_a ∙ I.sized.size_a; size_b = J.sized.size_b ∙ I.sized.size_b; size_f = J.sized.size_f ∙ I.sized.size_f };
   state = λ G R S K. let (X, Y) = I.state G R S K in J.state G R X Y;
 }
 

@@ -169,10 +169,10 @@ module _ {G : Rows} {A B : List Float} {i k : ℕ} (K : Cursor G A B i k) where
     }
 
     left_same : get_or A' i nan ≡ sub binary64 (get_or A i nan) x
-    left_same = let r = S.mapped.room-a in get_or-set_same A i (sub binary64 (get_or A i nan) x) nan (omega arith)
+    left_same = let r = S.mapped.room_a in get_or-set_same A i (sub binary64 (get_or A i nan) x) nan (omega arith)
 
     right_same : get_or B' k nan ≡ sub binary64 (get_or B k nan) x
-    right_same = let r = S.mapped.room-b in get_or-set_same B k (sub binary64 (get_or B k nan) x) nan (omega arith)
+    right_same = let r = S.mapped.room_b in get_or-set_same B k (sub binary64 (get_or B k nan) x) nan (omega arith)
 
     pub cursor_gives : Cursor G A' B' i (k + 1)
     cursor_gives = record {

@@ -120,9 +120,9 @@ module _ (m : ℕ) (R : List Bool) (ps pt : List Jump) where
     pub push_source : (i : ℕ) → i < a → Mapped (push_link x (source_link m R ps pt i) c) (set A i (sub binary64 (get_or A i nan) x)) B F
     push_source i h = record {
       size = push_link_length x (source_link m R ps pt i) c ∙ M.size;
-      room_a = let r = M.room-a in let n = length-set A i (sub binary64 (get_or A i nan) x) in omega arith;
-      room_b = M.room-b;
-      room_f = M.room-f;
+      room_a = let r = M.room_a in let n = length-set A i (sub binary64 (get_or A i nan) x) in omega arith;
+      room_b = M.room_b;
+      room_f = M.room_f;
       source = λ j g. at j g (eq_or_ne j i);
       sink = λ k g. even_other x c i (sink_link m R ps pt k) (omega arith) (omega arith) ∙ M.sink k g;
       cross = λ j k g e t. even_other x c i (cross_link m R ps pt j k) (omega arith) (omega arith) ∙ M.cross j k g e t;
@@ -133,7 +133,7 @@ module _ (m : ℕ) (R : List Bool) (ps pt : List Jump) where
         at : (j : ℕ) → j < a → (j ≡ i) ⊎ (j ≢ i) → left (push_link x (source_link m R ps pt i) c) (source_link m R ps pt j) ≡ get_or (set A i (sub binary64 (get_or A i nan) x)) j nan
         at j g (inl z) =
             let l = source_in m R ps pt i h in
-            let r = M.room-a in
+            let r = M.room_a in
             let s = M.size in
             subst⁻¹ (λ (y : ℕ). left (push_link x (source_link m R ps pt i) c) (source_link m R ps pt y) ≡ get_or (set A i (sub binary64 (get_or A i nan) x)) y nan) z
             (even_same x c i (omega arith) ∙ ap (λ (y : Float). sub binary64 y x) (M.source i h) ∙ sym (get_or-set_same A i (sub binary64 (get_or A i nan) x) nan (omega arith)))
@@ -142,9 +142,9 @@ module _ (m : ℕ) (R : List Bool) (ps pt : List Jump) where
     pub push_sink : (k : ℕ) → k < b → Mapped (push_link x (sink_link m R ps pt k) c) A (set B k (sub binary64 (get_or B k nan) x)) F
     push_sink k h = record {
       size = push_link_length x (sink_link m R ps pt k) c ∙ M.size;
-      room_a = M.room-a;
-      room_b = let r = M.room-b in let n = length-set B k (sub binary64 (get_or B k nan) x) in omega arith;
-      room_f = M.room-f;
+      room_a = M.room_a;
+      room_b = let r = M.room_b in let n = length-set B k (sub binary64 (get_or B k nan) x) in omega arith;
+      room_f = M.room_f;
       source = λ i g. even_other x c (a + k) (source_link m R ps pt i) (omega arith) (omega arith) ∙ M.source i g;
       sink = λ j g. at j g (eq_or_ne j k);
       cross = λ i j g e t. even_other x c (a + k) (cross_link m R ps pt i j) (omega arith) (omega arith) ∙ M.cross i j g e t;
@@ -155,7 +155,7 @@ module _ (m : ℕ) (R : List Bool) (ps pt : List Jump) where
         at : (j : ℕ) → j < b → (j ≡ k) ⊎ (j ≢ k) → left (push_link x (sink_link m R ps pt k) c) (sink_link m R ps pt j) ≡ get_or (set B k (sub binary64 (get_or B k nan) x)) j nan
         at j g (inl z) =
             let l = sink_in m R ps pt k h in
-            let r = M.room-b in
+            let r = M.room_b in
             let s = M.size in
             subst⁻¹ (λ (y : ℕ). left (push_link x (sink_link m R ps pt k) c) (sink_link m R ps pt y) ≡ get_or (set B k (sub binary64 (get_or B k nan) x)) y nan) z
             (even_same x c (a + k) (omega arith) ∙ ap (λ (y : Float). sub binary64 y x) (M.sink k h) ∙ sym (get_or-set_same B k (sub binary64 (get_or B k nan) x) nan (omega arith)))
@@ -169,7 +169,7 @@ module _ (m : ℕ) (R : List Bool) (ps pt : List Jump) where
       apart j q hj hq u d z = let (p, w) = cross_same m R ps pt j q i k hj hq u hi hk t (omega arith) in d p w
 
       room : i * b + k < length F
-      room = let e = entry_low a b i k hi hk in let r = M.room-f in omega arith
+      room = let e = entry_low a b i k hi hk in let r = M.room_f in omega arith
 
       in_c : suc (cross_link m R ps pt i k) < length c
       in_c = let l = cross_in m R ps pt i k hi hk t in let s = M.size in omega arith
@@ -184,9 +184,9 @@ module _ (m : ℕ) (R : List Bool) (ps pt : List Jump) where
       pub push_cross : Mapped (push_link x (cross_link m R ps pt i k) c) A B (set F (i * b + k) (add binary64 (get_or F (i * b + k) nan) x))
       push_cross = record {
         size = push_link_length x (cross_link m R ps pt i k) c ∙ M.size;
-        room_a = M.room-a;
-        room_b = M.room-b;
-        room_f = let r = M.room-f in let n = length-set F (i * b + k) (add binary64 (get_or F (i * b + k) nan) x) in omega arith;
+        room_a = M.room_a;
+        room_b = M.room_b;
+        room_f = let r = M.room_f in let n = length-set F (i * b + k) (add binary64 (get_or F (i * b + k) nan) x) in omega arith;
         source = λ j g. even_other x c place (source_link m R ps pt j) (omega arith) (omega arith) ∙ M.source j g;
         sink = λ j g. even_other x c place (sink_link m R ps pt j) (omega arith) (omega arith) ∙ M.sink j g;
         cross = λ j q hj hq u. forth j q hj hq u (pair_cases j q i k);
@@ -214,9 +214,9 @@ module _ (m : ℕ) (R : List Bool) (ps pt : List Jump) where
       pub push_back : Mapped (push_link x (suc (cross_link m R ps pt i k)) c) A B (set F (i * b + k) (sub binary64 (get_or F (i * b + k) nan) x))
       push_back = record {
         size = push_link_length x (suc (cross_link m R ps pt i k)) c ∙ M.size;
-        room_a = M.room-a;
-        room_b = M.room-b;
-        room_f = let r = M.room-f in let n = length-set F (i * b + k) (sub binary64 (get_or F (i * b + k) nan) x) in omega arith;
+        room_a = M.room_a;
+        room_b = M.room_b;
+        room_f = let r = M.room_f in let n = length-set F (i * b + k) (sub binary64 (get_or F (i * b + k) nan) x) in omega arith;
         source = λ j g. odd_other x c place (source_link m R ps pt j) (omega arith) (omega arith) ∙ M.source j g;
         sink = λ j g. odd_other x c place (sink_link m R ps pt j) (omega arith) (omega arith) ∙ M.sink j g;
         cross = λ j q hj hq u. forth j q hj hq u (pair_cases j q i k);

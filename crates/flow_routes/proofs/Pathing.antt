@@ -91,7 +91,7 @@ module _ (b : ℕ) (A₀ B₀ F₀ : List Float) (s : ℕ) (Ls Rs : List ℕ) (x
 
 -- the lists after the push are as long as before
 pub sends_sized : (A₀ B₀ F₀ : List Float) (x : Float) (i k e : ℕ) (A B F F' : List Float) → A ≡ minus x A₀ i → B ≡ minus x B₀ k → length F ≡ length F₀ → F' ≡ plus x F e → Sized A₀ B₀ F₀ A B F'
-sends_sized A₀ B₀ F₀ x i k e A B F F' ea eb z ef = record { size-a = ap length ea ∙ length-set A₀ i _; size-b = ap length eb ∙ length-set B₀ k _; size-f = ap length ef ∙ length-set F e _ ∙ z }
+sends_sized A₀ B₀ F₀ x i k e A B F F' ea eb z ef = record { size_a = ap length ea ∙ length-set A₀ i _; size_b = ap length eb ∙ length-set B₀ k _; size_f = ap length ef ∙ length-set F e _ ∙ z }
 
 pub turn_sized : (x : Float) (n e f : ℕ) (F F₁ F₂ : List Float) → length F ≡ n → F₁ ≡ plus x F e → F₂ ≡ minus x F₁ f → length F₂ ≡ n
 turn_sized x n e f F F₁ F₂ z e₁ e₂ = ap length e₂ ∙ length-set F₁ f _ ∙ ap length e₁ ∙ length-set F e _ ∙ z
@@ -149,7 +149,7 @@ module _ {us ts : List ℕ} {n : ℕ} {store : List ℕ} {A B F : List Float} {l
       → length us ≤ length l → {l' : List ℕ} {cut : Bool} → l' ≡ set l (get_or Ls g 0) (g + 1) → (cut ≡ true → (j : ℕ) → j < length us → get_or l' j 0 ≢ g) → (x : Float)
       → Stepped us ts n store A B F l r s start A B F l' r false cut x
   steps_left {g} W none room {l'} {cut} e c x = record {
-    sized = record { size-a = refl; size-b = refl; size-f = refl };
+    sized = record { size_a = refl; size_b = refl; size_f = refl };
     size_l = ap length e ∙ length-set l (get_or Ls g 0) (g + 1);
     size_r = refl;
     push = λ z. absurd (false≢true z);
@@ -171,7 +171,7 @@ module _ {us ts : List ℕ} {n : ℕ} {store : List ℕ} {A B F : List Float} {l
       → (g ≢ 1 → (i : ℕ) → i < length us → (get_or l i 0 ≡ g - 1) × (lt eps (get_or F (i * length ts + get_or Rs g 0) nan) ≡ true) → ⊥)
       → length ts ≤ length r → {r' : List ℕ} → r' ≡ set r (get_or Rs g 0) (g + 1) → (x : Float) → Stepped us ts n store A B F l r s start A B F l r' false false x
   steps_right {g} W off none room {r'} e x = record {
-    sized = record { size-a = refl; size-b = refl; size-f = refl };
+    sized = record { size_a = refl; size_b = refl; size_f = refl };
     size_l = refl;
     size_r = ap length e ∙ length-set r (get_or Rs g 0) (g + 1);
     push = λ z. absurd (false≢true z);
@@ -231,7 +231,7 @@ Settled us ts n store need A₀ B₀ F₀ l₀ r₀ t₀ known passes =
 
 pub settling_begins : (us ts : List ℕ) (n : ℕ) (store : List ℕ) (need : Float) (A B F : List Float) (l r : List ℕ) (t : Float) → Settling us ts n store need A B F l r t A B F l r 2 t
 settling_begins us ts n store need A B F l r t = record {
-  sized = record { size-a = refl; size-b = refl; size-f = refl };
+  sized = record { size_a = refl; size_b = refl; size_f = refl };
   size_l = refl;
   size_r = refl;
   some = omega arith;
@@ -245,8 +245,8 @@ module _ {us ts : List ℕ} {n : ℕ} {store : List ℕ} {need : Float} {A₀ B�
   pub settling_rises : s < 8 → {start : ℕ} → StartsAt A l s (length us) start → start ≡ length us → Settling us ts n store need A₀ B₀ F₀ l₀ r₀ t₀ A B F l r (s + 1) t
   settling_rises h Q e = record {
     sized = I.sized;
-    size_l = I.size-l;
-    size_r = I.size-r;
+    size_l = I.size_l;
+    size_r = I.size_r;
     some = omega arith;
     few = omega arith;
     short = I.short;
@@ -255,14 +255,14 @@ module _ {us ts : List ℕ} {n : ℕ} {store : List ℕ} {need : Float} {A₀ B�
 
   module _ {start : ℕ} {A' B' F' : List Float} {l' r' : List ℕ} {pushed cut : Bool} {x : Float} (Q : Stepped us ts n store A B F l r s start A' B' F' l' r' pushed cut x) (P : StartsAt A l s (length us) start) where
     size : Sized A₀ B₀ F₀ A' B' F'
-    size = record { size-a = Q.sized.size-a ∙ I.sized.size-a; size-b = Q.sized.size-b ∙ I.sized.size-b; size-f = Q.sized.size-f ∙ I.sized.size-f }
+    size = record { size_a = Q.sized.size_a ∙ I.sized.size_a; size_b = Q.sized.size_b ∙ I.sized.size_b; size_f = Q.sized.size_f ∙ I.sized.size_f }
 
     -- a step without a push
     pub settling_stays : pushed ≡ false → Settling us ts n store need A₀ B₀ F₀ l₀ r₀ t₀ A' B' F' l' r' s t
     settling_stays z = record {
       sized = size;
-      size_l = Q.size-l ∙ I.size-l;
-      size_r = Q.size-r ∙ I.size-r;
+      size_l = Q.size_l ∙ I.size_l;
+      size_r = Q.size_r ∙ I.size_r;
       some = I.some;
       few = I.few;
       short = I.short;
@@ -273,8 +273,8 @@ module _ {us ts : List ℕ} {n : ℕ} {store : List ℕ} {need : Float} {A₀ B�
     pub settling_pushes : pushed ≡ true → le need (add binary64 t x) ≡ false → Settling us ts n store need A₀ B₀ F₀ l₀ r₀ t₀ A' B' F' l' r' s (add binary64 t x)
     settling_pushes z d = record {
       sized = size;
-      size_l = Q.size-l ∙ I.size-l;
-      size_r = Q.size-r ∙ I.size-r;
+      size_l = Q.size_l ∙ I.size_l;
+      size_r = Q.size_r ∙ I.size_r;
       some = I.some;
       few = I.few;
       short = λ _. d;

@@ -86,8 +86,8 @@ labelling_on {some} {none} {B} {r₀} {r} {k} I h {x} e = record { size = length
 pub first_labelled : {G : Rows} {us ts : List ℕ} {n : ℕ} {store : List ℕ} → Reads G us ts n store → {A B : List Float} {i : ℕ} → Cursor G A B i 0 → length us ≤ i → (F : List Float) (l r : List ℕ) → length us ≤ length l → length ts ≤ length r
     → ((i : ℕ) → i < length us → get_or l i 0 ≡ label_of 2 1 (get_or A i nan)) → ((k : ℕ) → k < length ts → get_or r k 0 ≡ label_of 1 2 (get_or B k nan)) → Labelled G A B F l r 2
 first_labelled {G} {us} {ts} R {A} {B} K done F l r hl hr one two = record {
-  room-l = let e = R.lefts in omega arith;
-  room-r = let e = R.rights in omega arith;
+  room_l = let e = R.lefts in omega arith;
+  room_r = let e = R.rights in omega arith;
   labels = record {
     source = λ i h o. let e : label_of 2 1 (get_or A i nan) ≡ 2 = rw o in let a = one i (rw (← R.lefts) h) in omega arith;
     sink = λ k h o. let e : label_of 1 2 (get_or B k nan) ≡ 1 = rw o in let a = two k (rw (← R.rights) h) in omega arith;
@@ -149,9 +149,9 @@ module _ {us : List ℕ} (vs : List Float) {ts : List ℕ} (ws : List Float) {n 
       let good = accepted_good (net G) c m K.accepted in
       let a = K.reads.lefts in
       let b = K.reads.rights in
-      let ra = R.room-a in
-      let rb = R.room-b in
-      let rf : length G.ps * length G.pt ≤ length F = rw (a, b) R.room-f in
+      let ra = R.room_a in
+      let rb = R.room_b in
+      let rf : length G.ps * length G.pt ≤ length F = rw (a, b) R.room_f in
       record {
         good = good;
         rising = out_rising (net G) K.accepted.lists;

@@ -70,7 +70,7 @@ module _ (N : Net) (G : WellFormed N) (rising : (u : ℕ) → Rising (out N u)) 
       (h', omega arith, omega arith)
 
   place : (u e : ℕ) → First N c D u e → (i : ℕ) × (i < length (out N u)) × (get_or (out N u) i 0 ≡ e)
-  place u e F = subst (λ (x : ℕ). (i : ℕ) × (i < length (out N x)) × (get_or (out N x) i 0 ≡ e)) F.from (at_in e (out N (tail N e)) 0 (G.lists-all e (rw (← C.size) (residual_in c e F.on))))
+  place u e F = subst (λ (x : ℕ). (i : ℕ) × (i < length (out N x)) × (get_or (out N x) i 0 ≡ e)) F.from (at_in e (out N (tail N e)) 0 (G.lists_all e (rw (← C.size) (residual_in c e F.on))))
 
   module _ (nx : List ℕ) (dead : Dead N c L nx) where
     -- a link of such a route that a mark has passed leads to an exhausted node

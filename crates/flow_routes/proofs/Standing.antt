@@ -190,8 +190,8 @@ module _ {G : Rows} {A B F : List Float} {l r : List ℕ} {s : ℕ} (J : Labelle
   -- of a target of s that no target of t with its label is held with
   pub raise_left : (i : ℕ) → i < length l → get_or l i 0 ≤ s → ((k : ℕ) → k < length G.pt → holding G i k ≡ true → get_or r k 0 ≢ get_or l i 0) → Labelled G A B F (set l i (get_or l i 0 + 1)) r s
   raise_left i hi low none = record {
-    room_l = let n = length-set l i (get_or l i 0 + 1) in let q = J.room-l in omega arith;
-    room_r = J.room-r;
+    room_l = let n = length-set l i (get_or l i 0 + 1) in let q = J.room_l in omega arith;
+    room_r = J.room_r;
     labels = record {
       source = λ j h o. let w = I.source j h o in let y = up j in omega arith;
       sink = I.sink;
@@ -231,8 +231,8 @@ module _ {G : Rows} {A B F : List Float} {l r : List ℕ} {s : ℕ} (J : Labelle
   pub raise_right : (k : ℕ) → k < length r → lt eps (get_or B k nan) ≡ false → ((i : ℕ) → i < length G.ps → holding G i k ≡ true → lt eps (get_or F (i * length G.pt + k) nan) ≡ true → suc (get_or l i 0) ≢ get_or r k 0)
       → Labelled G A B F l (set r k (get_or r k 0 + 1)) s
   raise_right k hk off none = record {
-    room_l = J.room-l;
-    room_r = let n = length-set r k (get_or r k 0 + 1) in let q = J.room-r in omega arith;
+    room_l = J.room_l;
+    room_r = let n = length-set r k (get_or r k 0 + 1) in let q = J.room_r in omega arith;
     labels = record {
       source = I.source;
       sink = λ j h o. sink j h o (eq_or_ne j k);
@@ -271,8 +271,8 @@ module _ {G : Rows} {A B F : List Float} {l r : List ℕ} {s : ℕ} (J : Labelle
   -- of the source, where no target of s with rate left has its label
   pub raise_source : ((i : ℕ) → i < length G.ps → lt eps (get_or A i nan) ≡ true → get_or l i 0 ≢ s) → Labelled G A B F l r (s + 1)
   raise_source none = record {
-    room_l = J.room-l;
-    room_r = J.room-r;
+    room_l = J.room_l;
+    room_r = J.room_r;
     labels = record {
       source = λ i h o. let w = I.source i h o in let d = none i h o in omega arith;
       sink = I.sink;

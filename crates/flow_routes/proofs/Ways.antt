@@ -190,7 +190,7 @@ module _ {G : Rows} {A₀ F₀ : List Float} {l r : List ℕ} {s : ℕ} {Ls Rs :
       record {
         caps = _;
         mapped = push_source G.states G.relation G.ps G.pt M x px (get_or Ls s 0) X.low;
-        labelled = record { room-l = J.room-l; room-r = J.room-r; labels = keep_source J.labels (sub binary64 (get_or A (get_or Ls s 0) nan) x) (get_or Ls s 0) (omega arith) };
+        labelled = record { room_l = J.room_l; room_r = J.room_r; labels = keep_source J.labels (sub binary64 (get_or A (get_or Ls s 0) nan) x) (get_or Ls s 0) (omega arith) };
         rest = refl;
       }
 
@@ -213,8 +213,8 @@ module _ {G : Rows} {A₀ F₀ : List Float} {l r : List ℕ} {s : ℕ} {Ls Rs :
             (push_cross G.states G.relation G.ps G.pt Q.mapped x px (get_or Ls (suc (suc g)) 0) (get_or Rs (suc (suc g)) 0) T.low Y.low Y.held) x px
             (get_or Ls (suc g) 0) (get_or Rs (suc (suc g)) 0) X.low Y.low Z.held;
         labelled = record {
-          room-l = J.room-l;
-          room-r = J.room-r;
+          room_l = J.room_l;
+          room_r = J.room_r;
           labels = keep_flow (keep_flow J.labels (add binary64 (get_or F e nan) x) (get_or Ls (suc (suc g)) 0) (get_or Rs (suc (suc g)) 0) Y.low (omega arith))
               (sub binary64 (get_or (plus x F e) f nan) x) (get_or Ls (suc g) 0) (get_or Rs (suc (suc g)) 0) Y.low (omega arith);
         };
@@ -238,8 +238,8 @@ module _ {G : Rows} {A₀ F₀ : List Float} {l r : List ℕ} {s : ℕ} {Ls Rs :
             (push_sink G.states G.relation G.ps G.pt
             (push_cross G.states G.relation G.ps G.pt Q.mapped x px (get_or Ls 1 0) (get_or Rs 1 0) X.low Y.low Y.held) x px (get_or Rs 1 0) Y.low);
         labelled = record {
-          room-l = J.room-l;
-          room-r = J.room-r;
+          room_l = J.room_l;
+          room_r = J.room_r;
           labels = keep_sink (keep_flow J.labels (add binary64 (get_or F (get_or Ls 1 0 * length G.pt + get_or Rs 1 0) nan) x) (get_or Ls 1 0) (get_or Rs 1 0) Y.low (omega arith)) (sub binary64 (get_or B (get_or Rs 1 0) nan) x) (get_or Rs 1 0) (omega arith);
         };
       }

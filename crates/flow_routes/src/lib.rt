@@ -1,4 +1,6 @@
 // The flow of a flow test path by path: theory (proofs/) of `flow_direct`.
+#![tactic(auto)]
+
 ghost use Rattle.std.specs.Prelude.{◌≡◌};
 ghost use Rattle.std.specs.Float.Ieee.{lt};
 ghost use Rattle.numbers.specs.Real.{eps};

@@ -60,7 +60,7 @@ module _ {N : Net} {starts list : List ℕ} {c : List Float} {L nx : List ℕ} (
       pub placed : Placed c p n
       placed = record {
         within = there;
-        link-in = known;
+        link_in = known;
         rev_in = λ i h. let q = W.caps.size ∙ W.good.pairs in rw q (rev_in (get_or p i 0) W.good.added (rw (← q) (known i h)));
       }
 

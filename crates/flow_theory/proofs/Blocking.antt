@@ -73,7 +73,7 @@ module _ {N : Net} {starts list : List ℕ} {c₀ : List Float} {L nx₀ : List 
           let (k, P, s) = spare in
           let q : no_push (phase_now flow c nx count) pushed ≡ phase_from N L t c₀
           = ap (no_push (phase_now flow c nx count)) e ∙ sym (blocking_flow_end N L k (phase_now flow c nx count) (ap (λ (r : Pushed). le r.amount eps) (sym e) ∙ small_at x true h)) ∙ s in
-          record { flow-is = ap (λ (p : PhaseState). p.total) q; count-is = ap (λ (p : PhaseState). p.pushes) q; caps-is = ap (λ (p : PhaseState). p.cap) q }
+          record { flow_is = ap (λ (p : PhaseState). p.total) q; count_is = ap (λ (p : PhaseState). p.pushes) q; caps_is = ap (λ (p : PhaseState). p.cap) q }
 
       module _ (h : le x (of_bits binary64 4427486594234968593) ≡ false) where
         gains : (k : ℕ) → Phasing N I.good c₀ L (phase_now flow c nx count) (suc k) → Phasing N I.good c₀ L (push_counted (phase_now flow c nx count) pushed) k

@@ -16,7 +16,7 @@ use Rattle.numbers.proofs.Floats.{Plain, Low, zero_round, low_round, power_cross
 use Rattle.numbers.proofs.Comparisons.{above_eps, above_cases}
 
 pub above_low : (x : Float) → lt eps x ≡ true → Low x → Plain x
-above_low x h l = pick (above_cases x (Rattle.numbers.proofs.Comparisons.above-eps x h))
+above_low x h l = pick (above_cases x (Rattle.numbers.proofs.Comparisons.above_eps x h))
   where
     pick : Plain x ⊎ (x ≡ inf false) → Plain x
     pick (inl p) = p
@@ -39,6 +39,7 @@ sub_self (fin false m e) p =
 
 or_l : (a b : Bool) → T a → T (a || b)
 or_l true b t = tt
+or_l false b t = elim t [ ]
 
 neg_low : (m : ℕ) (e : ℤ) → Low (fin true m e)
 unfolding le lt eq

@@ -132,7 +132,7 @@ module _ (N : Net) (G : WellFormed N) (c : List Float) where
     L' = set L v (suc (level_of L u))
 
     v_in : v < length L
-    v_in = rw I.base.len (G.heads-in e inn)
+    v_in = rw I.base.len (G.heads_in e inn)
 
     keep : (x : ℕ) → HasLevel L x → level_of L' x ≡ level_of L x
     keep x s = level_other L v (suc (level_of L u)) x (λ p. s (ap (level_of L) p ∙ free))
@@ -294,7 +294,7 @@ module _ (N : Net) (G : WellFormed N) (c : List Float) where
           go' (inr P) = inr (inr P)
 
       cur' : Part N c L u (out N u)
-      cur' a l h = inl (rw (← h) (G.lists-all a (rw (← size) (residual_in c a l))))
+      cur' a l h = inl (rw (← h) (G.lists_all a (rw (← size) (residual_in c a l))))
 
       with_level : (n : ℕ) → m ≤ n → level_of L u ≡ n → Queue L n q → Inv N c L q k n u (out N u)
       with_level n le here Q = record {
@@ -389,6 +389,7 @@ module _ (N : Net) (G : WellFormed N) (c : List Float) where
 
       inq₀ : (x : ℕ) → In x (N.source ∷ []) → HasLevel L₀ x
       inq₀ x (inl p) = rw (p, zero_level) some_unset
+      inq₀ x (inr x'') = elim x'' [ ]
 
       base₀ : Base N c L₀ (N.source ∷ []) (nodes N) 0
       base₀ = record {

@@ -1,5 +1,4 @@
 -- A node's list is its part of the row: as long, entry by entry, and with the same members.
-use denote.Slice.{shr_slice_at}
 use mathlib.Core.Path.{◌≡◌, ap, subst, ◌∙◌}
 use Prim.Native.Nat.{ℕ, suc, ◌+◌, ◌-◌, ◌≤◌, ◌<◌}
 use mathlib.Core.List.{List}
@@ -16,8 +15,8 @@ use Rattle.flow_theory.proofs.LevelRows.{InRows}
 pub network_nodes : (H : List ℕ) (n : ℕ) → length (node_lists H n (length H)) ≡ n
 network_nodes H n = node_lists_length H n (length H)
 
-pub shr_slice_at : (a b j : ℕ) (l : List ℕ) → a + j < b → get_or (slice a b l) j 0 ≡ get_or l (a + j) 0
-shr_slice_at a b j l h = get_or-drop a (take b l) j 0 ∙ get_or-take b l (a + j) 0 h
+pub slice_at : (a b j : ℕ) (l : List ℕ) → a + j < b → get_or (slice a b l) j 0 ≡ get_or l (a + j) 0
+slice_at a b j l h = get_or-drop a (take b l) j 0 ∙ get_or-take b l (a + j) 0 h
 
 module _ {N : Net} {H list starts : List ℕ} {source : ℕ} (D : InRows N H list starts source) (u : ℕ) where
   -- the list of a node is as long as its part of the row
@@ -25,7 +24,7 @@ module _ {N : Net} {H list starts : List ℕ} {source : ℕ} (D : InRows N H lis
   out_length h = ap length (D.rows u h) ∙ length-slice (get_or starts u 0) (get_or starts (suc u) 0) list (D.ordered u h).1
 
   pub out_at : (j : ℕ) → u < nodes N → get_or starts u 0 + j < get_or starts (suc u) 0 → get_or (out N u) j 0 ≡ get_or list (get_or starts u 0 + j) 0
-  out_at j h l = ap (λ (x : List ℕ). get_or x j 0) (D.rows u h) ∙ shr_slice_at (get_or starts u 0) (get_or starts (suc u) 0) j list l
+  out_at j h l = ap (λ (x : List ℕ). get_or x j 0) (D.rows u h) ∙ slice_at (get_or starts u 0) (get_or starts (suc u) 0) j list l
 
   -- what stands in a node's part of the row is in its list
   pub link_in : (j : ℕ) → u < nodes N → get_or starts u 0 ≤ j → j < get_or starts (suc u) 0 → In (get_or list j 0) (out N u)

@@ -258,7 +258,7 @@ module _ (N : Net) (G : WellFormed N) (c₀ : List Float) (L : List ℕ) (B : Le
           let a = A.1 in
           let t : level_of L (tail N e) ≡ k = omega arith in
           let sp = A.2 t in
-          let (i, m, z) = at_in e (out N (tail N e)) 0 (G.lists-all e (rw (← P.caps.size) (residual_in s.cap e l))) in
+          let (i, m, z) = at_in e (out N (tail N e)) 0 (G.lists_all e (rw (← P.caps.size) (residual_in s.cap e l))) in
           let full = sp.0 in
           rw z at (P.dead (tail N e) i (omega arith) m (rw z (admissible_of N s.cap L (tail N e) e l (omega arith))))
 

@@ -76,6 +76,7 @@ push_path_hit x (e ∷ es) c y (inl p) a h l =
 push_path_hit x (e ∷ es) c y (inr i) a h l =
     push_path_hit x es (push_link x e c) y i a.1 (λ b j. h b (inr j)) (rw (push_link_length x e c) l)
     ∙ ap (λ (z : Float). sub binary64 z x) (push_link_other x e c y (apart_ne e y es a i) (h e (inl refl)))
+push_path_hit x [] c y x5 a h l = elim x5 [ ]
 
 -- ---- the least capacity on a path
 
@@ -131,10 +132,12 @@ module _ (N : Net) (c : List Float) (L nx : List ℕ) where
   path_links : (p : List ℕ) (u : ℕ) → Path N c L nx p u → (e : ℕ) → In e p → (residual c e ≡ true) × Up N L e
   path_links (a ∷ p) u P e (inl q) = rw q (P.0.on, ap (level_of L) P.0.to ∙ P.0.higher)
   path_links (a ∷ p) u P e (inr i) = path_links p (tail N a) P.1 e i
+  path_links [] u P e x'' = elim x'' [ ]
 
   path_below : (p : List ℕ) (u : ℕ) → Path N c L nx p u → (e : ℕ) → In e p → level_of L (head N e) ≤ level_of L u
   path_below (a ∷ p) u P e (inl q) = let t : level_of L (head N e) ≡ level_of L u = ap (λ (x : ℕ). level_of L (head N x)) q ∙ ap (level_of L) P.0.to in omega arith
   path_below (a ∷ p) u P e (inr i) = let r = path_below p (tail N a) P.1 e i in let h = P.0.higher in omega arith
+  path_below [] u P e x'' = elim x'' [ ]
 
   path_apart : (p : List ℕ) (u : ℕ) → Path N c L nx p u → Apart p
   path_apart [] u P = tt
@@ -181,8 +184,8 @@ module _ (N : Net) (G : WellFormed N) (c : List Float) (C : Caps N c) (L : List 
       caps = record { size = push_path_length x ps c ∙ C.size; low = λ e l f. low' e l f (push_path_cases x ps c e) };
       shrinks = λ e u l. shrinks' e u l (push_path_cases x ps c e);
       valid = λ e l. valid' e l (push_path_cases x ps c e);
-      dies = (B.at, (all B.at B.on-path).0, (all B.at B.on-path).1, dead);
-      amount = rw (← B.equal) (residual_lt c B.at (all B.at B.on-path).0);
+      dies = (B.at, (all B.at B.on_path).0, (all B.at B.on_path).1, dead);
+      amount = rw (← B.equal) (residual_lt c B.at (all B.at B.on_path).0);
     }
       where
         low' : (e : ℕ) → e < links N → tail N e ≡ N.source → (left d e ≡ left c e) ⊎ (In e ps ⊎ In (rev e) ps) → Low (left d e)
@@ -202,7 +205,7 @@ module _ (N : Net) (G : WellFormed N) (c : List Float) (C : Caps N c) (L : List 
         valid' e l (inr (inr i)) = inr (up_rev N L e (all (rev e) i).1)
 
         dead : residual d B.at ≡ false
-        dead = ap (lt eps) (hit B.at B.on-path ∙ ap (λ (z : Float). sub binary64 z x) B.equal) ∙ sub_self x B.plain
+        dead = ap (lt eps) (hit B.at B.on_path ∙ ap (λ (z : Float). sub binary64 z x) B.equal) ∙ sub_self x B.plain
 
   -- along a path to the sink that a walk found
   pub path_push : (nx p : List ℕ) → Path N c L nx p N.sink → Pushes N L c (push_path (least c (inf false) (reverse p)) (reverse p) c) (least c (inf false) (reverse p))

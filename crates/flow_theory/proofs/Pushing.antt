@@ -54,10 +54,10 @@ module _ {c₀ : List Float} {p : List ℕ} {n : ℕ} (P : Placed c₀ p n) {x :
     once = set c e (sub binary64 (get_or c e nan) x)
 
     pub e_in : e < length c
-    e_in = rw I.size (P.link-in i more)
+    e_in = rw I.size (P.link_in i more)
 
     pub back_in : bit_xor e 1 < length c
-    back_in = rw (I.size, rev_xor e) (P.rev-in i more)
+    back_in = rw (I.size, rev_xor e) (P.rev_in i more)
 
     pub pushed_on : PushesOn x c₀ p n (i + 1) (set once (bit_xor e 1) (add binary64 (get_or once (bit_xor e 1) nan) x))
     unfolding push_path push_link left

@@ -26,7 +26,7 @@ module _ {N : Net} {starts list : List ℕ} {c : List Float} {L q nx : List ℕ}
   levels_set = subst⁻¹ (Levels N c) levels_are (levels_ok N P.base.good c P.base.caps)
 
   pub sink_level_lem : N.sink < length L'
-  sink_level_lem = rw levels_set.len P.base.sink-in
+  sink_level_lem = rw levels_set.len P.base.sink_in
 
   sink_at : get_or L' N.sink 0 ≡ level_of (levels N c) N.sink
   sink_at = level_at L' N.sink sink_level_lem ∙ ap (λ (l : List ℕ). level_of l N.sink) levels_are

@@ -49,7 +49,7 @@ module _ {N : Net} {starts list : List ℕ} {c₀ : List Float} (R : Runnable N 
     state = record { total = flow; cap = c; level = I.level; phases = I.phases }
 
     pub runnable : Runnable N starts list c
-    runnable = record { good = I.good; laid = R.laid; caps = I.running.caps; sink-in = R.sink-in; small = R.small }
+    runnable = record { good = I.good; laid = R.laid; caps = I.running.caps; sink_in = R.sink_in; small = R.small }
 
     spare : (k : ℕ) × Running N I.good state (suc k) × (run N (suc k) state ≡ max_flow N c₀)
     spare = pick I.fuel I.running I.same
@@ -65,9 +65,9 @@ module _ {N : Net} {starts list : List ℕ} {c₀ : List Float} (R : Runnable N 
         let e : at_end state (levels N c) ≡ max_flow N c₀ = sym (run_end N k state Q.0) ∙ s in
         record {
           flow_is = ap (λ (r : FlowRun). r.total) e;
-          phases_is = I.phases-is ∙ ap (λ (r : FlowRun). length r.phases) e;
-          pushes_is = I.pushes-is ∙ ap (λ (r : FlowRun). all_pushes r.phases) e;
-          caps-is = Q.1 ∙ ap (λ (r : FlowRun). r.cap) e;
+          phases_is = I.phases_is ∙ ap (λ (r : FlowRun). length r.phases) e;
+          pushes_is = I.pushes_is ∙ ap (λ (r : FlowRun). all_pushes r.phases) e;
+          caps_is = Q.1 ∙ ap (λ (r : FlowRun). r.cap) e;
         }
 
     module _ {f : Float} {n : ℕ} {d : List Float} (Q : RoundRan N flow c true f n d) where
@@ -76,15 +76,15 @@ module _ {N : Net} {starts list : List ℕ} {c₀ : List Float} (R : Runnable N 
 
       flow_is : f ≡ passed.total
       unfolding phase passed
-      flow_is = Q.1.flow-is
+      flow_is = Q.1.flow_is
 
       count_is : n ≡ passed.pushes
       unfolding phase passed
-      count_is = Q.1.count-is
+      count_is = Q.1.count_is
 
       cap_is : d ≡ passed.cap
       unfolding phase passed
-      cap_is = Q.1.caps-is
+      cap_is = Q.1.caps_is
 
       lap : Phase
       lap = record { sink_level = level_of (levels N c) N.sink; pushes = n }
@@ -108,8 +108,8 @@ module _ {N : Net} {starts list : List ℕ} {c₀ : List Float} (R : Runnable N 
             fuel = k;
             level = levels N c;
             phases = lap ∷ I.phases;
-            phases_is = let p = I.phases-is in omega arith;
-            pushes_is = let p = I.pushes-is in omega arith;
+            phases_is = let p = I.phases_is in omega arith;
+            pushes_is = let p = I.pushes_is in omega arith;
             running = onward_runs k J;
             same = ap (run N k) next_is ∙ sym (run_on N k state Q.0) ∙ s;
           }
@@ -120,8 +120,8 @@ module _ {N : Net} {starts list : List ℕ} {c₀ : List Float} (R : Runnable N 
           let A = run_again in
           let l = phases_length A.good.added A.phases A.running.phases in
           let w = A.running.low in
-          let p = A.phases-is in
-          let q = A.pushes-is in
+          let p = A.phases_is in
+          let q = A.pushes_is in
           let two = A.good.pairs in
           let s = R.small in
           let b = pushes_few A.good.added A.phases (omega arith) A.running.phases in

@@ -53,9 +53,9 @@ module _ (N : Net) (G : WellFormed N) where
   unfolding at_end in_cut
   finished c s k I T L q B h = record {
     bounded = record {
-      few-phases = let n = phases_length G.added s.phases I.phases in let l = I.low in omega arith;
-      each-phase = I.phases;
-      cut = record { source_in = ap not ((ne_eqb _ _) source_set); sink-out = ap not ((eq-eqb _ _) h); none_out = λ e l i o. pick e (not_b _ i) o (residual s.cap e) refl };
+      few_phases = let n = phases_length G.added s.phases I.phases in let l = I.low in omega arith;
+      each_phase = I.phases;
+      cut = record { source_in = ap not ((ne_eqb _ _) source_set); sink_out = ap not ((eq-eqb _ _) h); none_out = λ e l i o. pick e (not_b _ i) o (residual s.cap e) refl };
     };
     traced = record { last = s; trail = T; unreached = rw (← q) h; ends = rw (← q) };
   }

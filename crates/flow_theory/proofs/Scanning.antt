@@ -78,8 +78,8 @@ module _ (H list : List ℕ) (c : List Float) (a b u : ℕ) (L₀ q₀ L q : Lis
   skipped f = record {
     begun = let x = I.begun in omega arith;
     ends = omega arith;
-    level_length = I.level-length;
-    queue_length = I.queue-length;
+    level_length = I.level_length;
+    queue_length = I.queue_length;
     longer = I.longer;
     room = I.room;
     keep = I.keep;
@@ -90,7 +90,7 @@ module _ (H list : List ℕ) (c : List Float) (a b u : ℕ) (L₀ q₀ L q : Lis
 
   module _ (on : residual c e ≡ true) (free : level_of L v ≡ unset) where
     pub v_in : v < length L
-    v_in = rw I.level-length (S.heads-in e (S.links-in j I.begun more).0)
+    v_in = rw I.level_length (S.heads_in e (S.links_in j I.begun more).0)
 
     pub level_low : suc (level_of L u) < unset
     level_low = rw I.keep S.low
@@ -105,8 +105,8 @@ module _ (H list : List ℕ) (c : List Float) (a b u : ℕ) (L₀ q₀ L q : Lis
     stored = record {
       begun = let x = I.begun in omega arith;
       ends = omega arith;
-      level_length = length-set L v (suc (level_of L u)) ∙ I.level-length;
-      queue_length = length-set q t v ∙ I.queue-length;
+      level_length = length-set L v (suc (level_of L u)) ∙ I.level_length;
+      queue_length = length-set q t v ∙ I.queue_length;
       longer = let x = I.longer in omega arith;
       room = let r = I.room in let f = fewer in rw (length-set q t v) (omega arith);
       keep = level_other L v (suc (level_of L u)) u (λ p. apart p) ∙ I.keep;
@@ -135,9 +135,9 @@ module _ {H list : List ℕ} {c : List Float} {a b u : ℕ} {L₀ q₀ L q : Lis
       → Inner H list c a b u L₀ q₀ L' q' t₀ t' (j + 1)
   turn_then S I m l f L' q' t' eL eq et =
       let on = residual_at c (get_or list j 0) true l in
-      let inn : get_or H (get_or list j 0) 0 < length L = rw I.level-length (S.heads-in (get_or list j 0) (S.links-in j I.begun m).0) in
+      let inn : get_or H (get_or list j 0) 0 < length L = rw I.level_length (S.heads_in (get_or list j 0) (S.links_in j I.begun m).0) in
       let free : level_of L (get_or H (get_or list j 0) 0) ≡ unset = sym (level_at L _ inn) ∙ (eqb-true _ _) (unset_at _ true f) in
-      let here : u < length L = rw I.level-length S.here in
+      let here : u < length L = rw I.level_length S.here in
       rw (eL, eq, et, level_at L u here, add-one (level_of L u)) (stored H list c a b u L₀ q₀ L q t₀ t j S I m on free)
 
   pub turn_else : Scannable H list c a b u L₀ q₀ t₀ → Inner H list c a b u L₀ q₀ L q t₀ t j → j < b
@@ -146,7 +146,7 @@ module _ {H list : List ℕ} {c : List Float} {a b u : ℕ} {L₀ q₀ L q : Lis
   turn_else S I m f L' q' t' eL eq et = rw (eL, eq, et) (skipped H list c a b u L₀ q₀ L q t₀ t j S I m (pick f))
     where
       inn : get_or H (get_or list j 0) 0 < length L
-      inn = rw I.level-length (S.heads-in (get_or list j 0) (S.links-in j I.begun m).0)
+      inn = rw I.level_length (S.heads_in (get_or list j 0) (S.links_in j I.begun m).0)
 
       pick : (lt (of_bits binary64 4427486594234968593) (get_or c (get_or list j 0) nan) ≡ false) ⊎ (eqb (get_or L (get_or H (get_or list j 0) 0) 0) 18446744073709551615 ≡ false)
           → (residual c (get_or list j 0) && eqb (level_of L (get_or H (get_or list j 0) 0)) unset) ≡ false
@@ -159,8 +159,8 @@ module _ {H list : List ℕ} {c : List Float} {a b u : ℕ} {L₀ q₀ L q : Lis
       let e = I.ends in
       let z : j ≡ b = omega arith in
       record {
-        level_length = I.level-length;
-        queue_length = I.queue-length;
+        level_length = I.level_length;
+        queue_length = I.queue_length;
         longer = I.longer;
         room = I.room;
         same = λ N h p k. ap (λ (es : List ℕ). scan N c u es (record { level = L; queue = slice h t q })) (sym (slice_empty b list) ∙ ap (λ (x : ℕ). slice x b list) (sym z)) ∙ I.same N h p k;
@@ -169,7 +169,7 @@ module _ {H list : List ℕ} {c : List Float} {a b u : ℕ} {L₀ q₀ L q : Lis
   pub level_fits : Scannable H list c a b u L₀ q₀ t₀ → Inner H list c a b u L₀ q₀ L q t₀ t j → get_or L u 0 + 1 < 18446744073709551616
   unfolding unset
   level_fits S I =
-      let here : u < length L = rw I.level-length S.here in
+      let here : u < length L = rw I.level_length S.here in
       let l = S.low in
       let k = I.keep in
       let z = level_at L u here in
@@ -178,7 +178,7 @@ module _ {H list : List ℕ} {c : List Float} {a b u : ℕ} {L₀ q₀ L q : Lis
   pub queue_fits : Scannable H list c a b u L₀ q₀ t₀ → Inner H list c a b u L₀ q₀ L q t₀ t j → j < b
       → eqb (get_or L (get_or H (get_or list j 0) 0) 0) 18446744073709551615 ≡ true → t < length q
   queue_fits S I m f =
-      let inn : get_or H (get_or list j 0) 0 < length L = rw I.level-length (S.heads-in (get_or list j 0) (S.links-in j I.begun m).0) in
+      let inn : get_or H (get_or list j 0) 0 < length L = rw I.level_length (S.heads_in (get_or list j 0) (S.links_in j I.begun m).0) in
       let free : level_of L (get_or H (get_or list j 0) 0) ≡ unset = sym (level_at L _ inn) ∙ (eqb-true _ _) (unset_at _ true f) in
       let p = count_pos L _ inn free in
       let r = I.room in

@@ -117,14 +117,14 @@ module _ {H list starts : List ℕ} {c : List Float} {source : ℕ} {L q : List 
 
   module _ {L₁ q₁ : List ℕ} {head tail : ℕ} (O : Outer H list starts c source (set L source 0) (set q 0 source) L₁ q₁ head tail) where
     level_is : length L₁ ≡ nodes R.net
-    level_is = O.level-length ∙ length-set L source 0 ∙ ap length R.fresh ∙ length-replicate (nodes R.net) unset
+    level_is = O.level_length ∙ length-set L source 0 ∙ ap length R.fresh ∙ length-replicate (nodes R.net) unset
 
     tail_in : tail ≤ length q₁
     tail_in = let r = O.room in omega arith
 
     module _ (more : head < tail) where
       pub node_in : get_or q₁ head 0 < nodes R.net
-      node_in = u_in R.net R.good c R.size L₁ q₁ head tail (O.search-on R.net fits_net) more tail_in
+      node_in = u_in R.net R.good c R.size L₁ q₁ head tail (O.search_on R.net fits_net) more tail_in
 
       pub node_low : get_or q₁ head 0 < 66
       node_low = let n = node_in in let p = R.laid.places in omega arith
@@ -135,13 +135,13 @@ module _ {H list starts : List ℕ} {c : List Float} {source : ℕ} {L q : List 
       pub scannable : Scannable H list c (get_or starts (get_or q₁ head 0) 0) (get_or starts (get_or q₁ head 0 + 1) 0) (get_or q₁ head 0) L₁ q₁ tail
       scannable =
           let o = R.laid.ordered (get_or q₁ head 0) node_in in
-          let low = u_low R.net R.good c R.size L₁ q₁ head tail (O.search-on R.net fits_net) more tail_in in
+          let low = u_low R.net R.good c R.size L₁ q₁ head tail (O.search_on R.net fits_net) more tail_in in
           let few = R.good.few in
           record {
             ordered = rw add-one o.0;
             within = rw add-one o.1;
-            links-in = λ j b l. let i = linked j b (rw add-one at l) in (rw (← links_of_lem R.net H list starts source R.laid) i, rw R.size i);
-            heads-in = λ e l. rw (level_is, ← R.laid.heads) (unfold head in (R.good.heads-in e (rw (ap length R.laid.heads) l)));
+            links_in = λ j b l. let i = linked j b (rw add-one at l) in (rw (← links_of_lem R.net H list starts source R.laid) i, rw R.size i);
+            heads_in = λ e l. rw (level_is, ← R.laid.heads) (unfold head in (R.good.heads_in e (rw (ap length R.laid.heads) l)));
             here = rw level_is node_in;
             low = omega arith;
             room = O.room;
@@ -152,16 +152,16 @@ module _ {H list starts : List ℕ} {c : List Float} {source : ℕ} {L q : List 
           → Outer H list starts c source (set L source 0) (set q 0 source) L₂ q₂ (head + 1) t'
       outer_again {L₂} {q₂} {t'} S = record {
         ordered = let l = S.longer in omega arith;
-        level_length = S.level-length ∙ O.level-length;
-        queue_length = S.queue-length ∙ O.queue-length;
+        level_length = S.level_length ∙ O.level_length;
+        queue_length = S.queue_length ∙ O.queue_length;
         room = S.room;
         search_on = on;
       }
         where
           on : (N : Net) → Fits N H list starts source (set L source 0) c → Searches N c L₂ q₂ (head + 1) t'
           on N F =
-              let inn = u_in N F.0 c F.3 L₁ q₁ head tail (O.search-on N F) more tail_in in
-              rw (add-one head) (searched N F.0 c F.3 L₁ q₁ head tail (O.search-on N F) more tail_in L₂ q₂ t'
+              let inn = u_in N F.0 c F.3 L₁ q₁ head tail (O.search_on N F) more tail_in in
+              rw (add-one head) (searched N F.0 c F.3 L₁ q₁ head tail (O.search_on N F) more tail_in L₂ q₂ t'
               (S.same N (suc head) F.1.heads more ∙ ap (λ (es : List ℕ). scan N c (get_or q₁ head 0) es (record { level = L₁; queue = slice (suc head) tail q₁ }))
               (ap (λ (x : ℕ). slice (get_or starts (get_or q₁ head 0) 0) (get_or starts x 0) list) (add-one (get_or q₁ head 0)) ∙ sym (F.1.rows (get_or q₁ head 0) inn))))
 
@@ -174,5 +174,5 @@ module _ {H list starts : List ℕ} {c : List Float} {source : ℕ} {L q : List 
     outer_ends le N G D fresh =
         let o = O.ordered in
         let z : head ≡ tail = omega arith in
-        let S = O.search-on N (G, D, ap (λ (l : List ℕ). set l source 0) fresh, size' ∙ sym (links_of_lem N H list starts source D)) in
+        let S = O.search_on N (G, D, ap (λ (l : List ℕ). set l source 0) fresh, size' ∙ sym (links_of_lem N H list starts source D)) in
         sym (bfs_nil N S.fuel) ∙ ap (bfs N c S.fuel L₁) (sym (slice_empty tail q₁) ∙ ap (λ (x : ℕ). slice x tail q₁) (sym z)) ∙ S.same

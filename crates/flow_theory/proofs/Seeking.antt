@@ -76,12 +76,12 @@ module _ {N : Net} {starts list : List ℕ} {c : List Float} {L nx₀ p₀ : Lis
     unfolding head
     seekable =
         let r = row_in W room I in
-        record { ordered = omega arith; within = r.1; links-in = λ j a b. known j a b }
+        record { ordered = omega arith; within = r.1; links_in = λ j a b. known j a b }
       where
         known : (j : ℕ) → from + get_or nx u 0 ≤ j → j < to → (get_or list j 0 < length N.heads) × (get_or list j 0 < length c) × (get_or N.heads (get_or list j 0) 0 < length L)
         known j a b =
             let k = (W.good.listed u (get_or list j 0) (link_in W.laid u j (u_in W room I) (omega arith) (rw (← add-one u) b))).0 in
-            (k, rw W.caps.size k, rw W.levels.len (W.good.heads-in (get_or list j 0) k))
+            (k, rw W.caps.size k, rw W.levels.len (W.good.heads_in (get_or list j 0) k))
 
     module _ {r : ℕ} (S : Sought N.heads list c L (len + 1) (from + get_or nx u 0) to r) where
       mark_at : get_or nx u 0 + (r - (from + get_or nx u 0)) ≡ r - from

@@ -105,11 +105,11 @@ made N added pairs few heads s-in ends lists = record {
   added = added;
   pairs = pairs;
   few = few;
-  heads-in = heads;
+  heads_in = heads;
   source_in = s-in;
   ends = ends;
   listed = λ u e i. enlisted N.heads (nodes N) (links N) u e (subst (λ (ls : List (List ℕ)). In e (row ls u)) lists i);
-  lists-all = λ e l. subst⁻¹ (λ (ls : List (List ℕ)). In e (row ls (tail N e))) lists
+  lists_all = λ e l. subst⁻¹ (λ (ls : List (List ℕ)). In e (row ls (tail N e))) lists
       (enlists N.heads (nodes N) (links N) e l (heads (rev e) (rw pairs (rev_in e added (rw (← pairs) l)))));
 }
 
@@ -119,7 +119,7 @@ far_off = lit< tt
 
 -- what an accepted network gives to the run
 pub accepted_good : (N : Net) (c : List Float) (added : ℕ) → Accepted N c added → WellFormed N
-accepted_good N c added A = made N added A.pairs (let f = A.few in let u = far_off in omega arith) A.heads-in A.source_in A.ends A.lists
+accepted_good N c added A = made N added A.pairs (let f = A.few in let u = far_off in omega arith) A.heads_in A.source_in A.ends A.lists
 
 pub accepted_caps : (N : Net) (c : List Float) (added : ℕ) → Accepted N c added → Caps N c
 unfolding of_bits

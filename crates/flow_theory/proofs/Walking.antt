@@ -129,7 +129,7 @@ module _ {N : Net} {starts list : List ℕ} {c : List Float} {L nx₀ p₀ : Lis
     u_low = let i = u_in in let f = W.laid.places in omega arith
 
     pub u_next : u < length nx
-    u_next = let i = u_in in let l = I.next-length in let s = W.size in omega arith
+    u_next = let i = u_in in let l = I.next_length in let s = W.size in omega arith
 
     pub u_level : u < length L
     u_level = level_in L u low
@@ -138,7 +138,7 @@ module _ {N : Net} {starts list : List ℕ} {c : List Float} {L nx₀ p₀ : Lis
     depth_low = let b = W.levels.bnd u low in let d = I.depth in omega arith
 
     pub path_room : len < length p
-    path_room = let d = depth_low in let l = I.path-length in let s = W.size in omega arith
+    path_room = let d = depth_low in let l = I.path_length in let s = W.size in omega arith
 
     pub row_in : (get_or starts u 0 ≤ get_or starts (u + 1) 0) × (get_or starts (u + 1) 0 ≤ length list)
     row_in = rw (add-one u) (W.laid.ordered u u_in)
@@ -171,7 +171,7 @@ module _ {N : Net} {starts list : List ℕ} {c : List Float} {L nx₀ p₀ : Lis
 
         pub head_in : get_or N.heads at 0 < nodes N
         unfolding head
-        head_in = W.good.heads-in at link_known.0
+        head_in = W.good.heads_in at link_known.0
 
         pub head_level : get_or N.heads at 0 < length L
         head_level = rw W.levels.len head_in
@@ -194,8 +194,8 @@ module _ {N : Net} {starts list : List ℕ} {c : List Float} {L nx₀ p₀ : Lis
           took = record {
             going = rw (add-one len, longer p len at path_room) (goes W I.going next onto);
             depth = up ∙ ap suc I.depth ∙ sym (add-one len);
-            path_length = length-set p len at ∙ I.path-length;
-            next_length = I.next-length;
+            path_length = length-set p len at ∙ I.path_length;
+            next_length = I.next_length;
           }
 
           pub took_less : gauge N L (standing (get_or N.heads at 0) (len + 1) (set p len at) nx) < gauge N L (standing u len p nx)
@@ -218,8 +218,8 @@ module _ {N : Net} {starts list : List ℕ} {c : List Float} {L nx₀ p₀ : Lis
           skipped = record {
             going = goes W I.going (standing u len p (set nx u (get_or nx u 0 + 1))) aside;
             depth = I.depth;
-            path_length = I.path-length;
-            next_length = length-set nx u (get_or nx u 0 + 1) ∙ I.next-length;
+            path_length = I.path_length;
+            next_length = length-set nx u (get_or nx u 0 + 1) ∙ I.next_length;
           }
 
           pub skipped_less : gauge N L (standing u len p (set nx u (get_or nx u 0 + 1))) < gauge N L (standing u len p nx)
@@ -263,10 +263,10 @@ module _ {N : Net} {starts list : List ℕ} {c : List Float} {L nx₀ p₀ : Lis
 
           pub from_in : from < nodes N
           unfolding head
-          from_in = W.good.heads-in (bit_xor last 1) back_in
+          from_in = W.good.heads_in (bit_xor last 1) back_in
 
           pub from_next : from < length nx
-          from_next = let i = from_in in let l = I.next-length in let s = W.size in omega arith
+          from_next = let i = from_in in let l = I.next_length in let s = W.size in omega arith
 
           pub from_mark : get_or nx from 0 < length list
           unfolding mark
@@ -287,8 +287,8 @@ module _ {N : Net} {starts list : List ℕ} {c : List Float} {L nx₀ p₀ : Lis
           back = record {
             going = goes W I.going (standing from (len - 1) p (set nx from (get_or nx from 0 + 1))) homeward;
             depth = let h = leg.0.higher in let d = I.depth in let q = ap (level_of L) from_at in omega arith;
-            path_length = I.path-length;
-            next_length = length-set nx from (get_or nx from 0 + 1) ∙ I.next-length;
+            path_length = I.path_length;
+            next_length = length-set nx from (get_or nx from 0 + 1) ∙ I.next_length;
           }
 
           pub back_less : gauge N L (standing from (len - 1) p (set nx from (get_or nx from 0 + 1))) < gauge N L (standing u len p nx)

@@ -1,4 +1,6 @@
 // The flow run as a definition (specs/) and what is proved of every run (proofs/Theorem.antt).
+#![tactic(auto)]
+
 ghost use Rattle.std.specs.Prelude.{◌≡◌};
 ghost use Rattle.flow_theory.specs.Network.{rev};
 

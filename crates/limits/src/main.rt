@@ -1,4 +1,6 @@
 // Runs `build` at each limit of document 01 and one step past it, and prints the refusal's number, 0 for none.
+#![tactic(auto)]
+
 use bisim_build::builder;
 use bisim_build::builder::Built;
 use bisim_core::wlts::Initial;

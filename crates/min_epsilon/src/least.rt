@@ -16,7 +16,7 @@ use bisimilar::related::Verdict;
 use numbers::{FINENESS, HALF, ONE};
 
 // The least ε found, none, or the number of the first check that fails.
-#[derive(Drop)]
+#[derive(Clone, Copy)]
 pub enum Least {
     At(f64),
     Absent,

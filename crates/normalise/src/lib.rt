@@ -1,4 +1,6 @@
 // `normalise` of kantorovich.rs: the observations of two chains, scaled together.
+#![tactic(auto)]
+
 ghost use Rattle.std.specs.Prelude.{◌≡◌, map, ◌≤◌, length, take};
 ghost use Rattle.numbers.specs.Lists.{over};
 ghost use Rattle.chain_theory.specs.Chain.{least_from, greatest_from};
@@ -12,7 +14,7 @@ use numbers::{GREATEST_WEIGHT, LEAST_OBSERVATION, infinity, larger, smaller};
 use parts::refusals::earlier;
 
 // By how much the greatest observation is above the least, or the number of the first check that fails.
-#[derive(Drop)]
+#[derive(Clone, Copy)]
 pub enum Normalised {
     Scale(f64),
     Refused(u32),

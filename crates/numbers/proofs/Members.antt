@@ -17,6 +17,7 @@ module _ {A : Type 0} where
   pub in_left : (x : A) (xs ys : List A) → In x xs → In x (xs ++ ys)
   in_left x (z ∷ xs) ys (inl e) = inl e
   in_left x (z ∷ xs) ys (inr h) = inr (in_left x xs ys h)
+  in_left x [] ys x'' = elim x'' [ ]
 
   pub in_right : (x : A) (xs ys : List A) → In x ys → In x (xs ++ ys)
   in_right x [] ys h = h
@@ -41,6 +42,7 @@ module _ {A : Type 0} where
       pick : In x xs ⊎ In x (y ∷ []) → In x xs ⊎ (x ≡ y)
       pick (inl i) = inl i
       pick (inr (inl e)) = inr e
+      pick (inr (inr x3)) = elim x3 [ ]
 
   pub in_reverse : (x : A) (xs : List A) → In x (reverse xs) → In x xs
   in_reverse x [] h = h
@@ -60,6 +62,7 @@ module _ {A : Type 0} where
   pub at_in : (x : A) (xs : List A) (z : A) → In x xs → (i : ℕ) × (i < length xs) × (get_or xs i z ≡ x)
   at_in x (y ∷ ys) z (inl e) = (zero, omega arith, sym e)
   at_in x (y ∷ ys) z (inr h) = let (i, l, e) = at_in x ys z h in (suc i, omega arith, e)
+  at_in x [] z x'' = elim x'' [ ]
 
   -- ---- no member twice
 

@@ -1,4 +1,6 @@
 // Numbers: `Real` of semiring.rs, the constants of document 01, the ordered search that stands in for hash maps, and the bits of a byte store.
+#![tactic(auto)]
+
 ghost use Rattle.std.specs.Prelude.{◌≡◌, ◌≤◌, min, false, length, take, [], ◌∷◌};
 ghost use Rattle.std.specs.Float.{inf};
 ghost use Rattle.numbers.specs.Real.{is_zero, is_valid, sum, one, half, tenth, least_weight, greatest_weight, greatest_joined, least_observation, greatest_factor, greatest_rate, eps, slack, margin, fineness};
@@ -56,7 +58,7 @@ fn all_constants() -> [f64; 13]
 }
 
 // A weight: a rate or a probability.
-#[derive(Drop)]
+#[derive(Clone, Copy)]
 pub struct Real(pub f64);
 
 impl Real {

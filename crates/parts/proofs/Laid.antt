@@ -54,10 +54,10 @@ grown t w (j ∷ js) = pick (grown t w js) (ltb j.target t) (eqb j.target t)
 
 module _ {js : List Jump} {m : ℕ} {T₀ : List ℕ} {P₀ : List Float} {T : List ℕ} {P : List Float} (L : LaidJumps js m T₀ P₀ T P) where
   front_targets : take m T ≡ targets js
-  front_targets = ap (take m) L.in-targets ∙ take_at (targets js) (drop (length (targets js)) T₀) m (targets_length js ∙ sym L.count)
+  front_targets = ap (take m) L.in_targets ∙ take_at (targets js) (drop (length (targets js)) T₀) m (targets_length js ∙ sym L.count)
 
   front_rates : take m P ≡ rates js
-  front_rates = ap (take m) L.in-rates ∙ take_at (rates js) (drop (length (rates js)) P₀) m (rates_length js ∙ sym L.count)
+  front_rates = ap (take m) L.in_rates ∙ take_at (rates js) (drop (length (rates js)) P₀) m (rates_length js ∙ sym L.count)
 
   pub laid_jumps : jumps_of (take m T) (take m P) ≡ js
   laid_jumps = ap (λ (l : List ℕ). jumps_of l (take m P)) front_targets ∙ ap (jumps_of (targets js)) front_rates ∙ jumps_of_lem js
@@ -67,8 +67,8 @@ module _ {js : List Jump} {m : ℕ} {T₀ : List ℕ} {P₀ : List Float} {T : L
   laid_past =
       let a : length (targets js) ≡ m = targets_length js ∙ sym L.count in
       let b : length (rates js) ≡ m = rates_length js ∙ sym L.count in (
-        ap (drop m) L.in-targets ∙ drop_at (targets js) (drop (length (targets js)) T₀) m a ∙ ap (λ (j : ℕ). drop j T₀) a,
-        ap (drop m) L.in-rates ∙ drop_at (rates js) (drop (length (rates js)) P₀) m b ∙ ap (λ (j : ℕ). drop j P₀) b,
+        ap (drop m) L.in_targets ∙ drop_at (targets js) (drop (length (targets js)) T₀) m a ∙ ap (λ (j : ℕ). drop j T₀) a,
+        ap (drop m) L.in_rates ∙ drop_at (rates js) (drop (length (rates js)) P₀) m b ∙ ap (λ (j : ℕ). drop j P₀) b,
       )
 
 -- the other way: the jumps that the first m entries are, and what is kept behind them
@@ -81,17 +81,17 @@ laid_by {js} {m} {T₀} {P₀} {T} {P} h k e f g =
     let n : m ≡ length js = sym a ∙ ap length t ∙ targets_length js in
     record {
       count = n;
-      in-targets = sym (take-append-drop m T) ∙ ap (λ (l : List ℕ). l ++ drop m T) t ∙ ap (λ (l : List ℕ). targets js ++ l) (f ∙ ap (λ (j : ℕ). drop j T₀) (n ∙ sym (targets_length js)));
-      in-rates = sym (take-append-drop m P) ∙ ap (λ (l : List Float). l ++ drop m P) p ∙ ap (λ (l : List Float). rates js ++ l) (g ∙ ap (λ (j : ℕ). drop j P₀) (n ∙ sym (rates_length js)));
+      in_targets = sym (take-append-drop m T) ∙ ap (λ (l : List ℕ). l ++ drop m T) t ∙ ap (λ (l : List ℕ). targets js ++ l) (f ∙ ap (λ (j : ℕ). drop j T₀) (n ∙ sym (targets_length js)));
+      in_rates = sym (take-append-drop m P) ∙ ap (λ (l : List Float). l ++ drop m P) p ∙ ap (λ (l : List Float). rates js ++ l) (g ∙ ap (λ (j : ℕ). drop j P₀) (n ∙ sym (rates_length js)));
     }
 
 -- none
 pub laid_none : (T : List ℕ) (P : List Float) → LaidJumps [] 0 T P T P
-laid_none T P = record { count = refl; in-targets = refl; in-rates = refl }
+laid_none T P = record { count = refl; in_targets = refl; in_rates = refl }
 
 -- the same jumps
 pub laid_same : {js ks : List Jump} {m : ℕ} {T₀ : List ℕ} {P₀ : List Float} {T : List ℕ} {P : List Float} → js ≡ ks → LaidJumps js m T₀ P₀ T P → LaidJumps ks m T₀ P₀ T P
-laid_same {js} {ks} {m} {T₀} {P₀} {T} {P} e L = record { count = L.count ∙ ap length e; in-targets = L.in-targets ∙ ap (λ (l : List Jump). over (targets l) T₀) e; in-rates = L.in-rates ∙ ap (λ (l : List Jump). over (rates l) P₀) e }
+laid_same {js} {ks} {m} {T₀} {P₀} {T} {P} e L = record { count = L.count ∙ ap length e; in_targets = L.in_targets ∙ ap (λ (l : List Jump). over (targets l) T₀) e; in_rates = L.in_rates ∙ ap (λ (l : List Jump). over (rates l) P₀) e }
 
 -- ---- one more
 
@@ -117,6 +117,6 @@ module _ (t : ℕ) (w : Float) (m : ℕ) {r : ℕ} {T : List ℕ} {P : List Floa
       let d = rates_length (add_rate t w js) in
       record {
         count = M.count;
-        in-targets = M.in-targets ∙ ap (over (targets (add_rate t w js))) L.in-targets ∙ over_over (targets js) (targets (add_rate t w js)) T₀ (omega arith);
-        in-rates = M.in-rates ∙ ap (over (rates (add_rate t w js))) L.in-rates ∙ over_over (rates js) (rates (add_rate t w js)) P₀ (omega arith);
+        in_targets = M.in_targets ∙ ap (over (targets (add_rate t w js))) L.in_targets ∙ over_over (targets js) (targets (add_rate t w js)) T₀ (omega arith);
+        in_rates = M.in_rates ∙ ap (over (rates (add_rate t w js))) L.in_rates ∙ over_over (rates js) (rates (add_rate t w js)) P₀ (omega arith);
       }

@@ -26,13 +26,13 @@ module _ (SL : Shape) (ML : Columns) (SR : Shape) (MR : Columns) (x y n : ℕ) (
 -- the rows of an accepted model can be made
 pub readable : {S : Shape} {M : Columns} → Accepted S M → Readable S.states M.offsets M.edge_targets M.edge_weights
 readable A =
-    let e = A.begins-last in
+    let e = A.begins_last in
     record {
-      few = A.states-few;
-      offsets-long = A.offsets-long;
-      rise = A.begins-rise;
-      targets-long = let h = A.edge-targets-long in omega arith;
-      weights-long = let h = A.edge-weights-long in omega arith;
+      few = A.states_few;
+      offsets_long = A.offsets_long;
+      rise = A.begins_rise;
+      targets_long = let h = A.edge_targets_long in omega arith;
+      weights_long = let h = A.edge_weights_long in omega arith;
       edges_few = let h = A.edges_few in omega arith;
-      target-low = λ i h. A.target-low i (omega arith);
+      target_low = λ i h. A.target_low i (omega arith);
     }

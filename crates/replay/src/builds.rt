@@ -6,7 +6,7 @@ use replay_text::answers::Answer;
 use replay_text::text::Reader;
 use replay_text::{answers, columns, fronts, lists, tally, text};
 
-#[derive(Drop)]
+#[derive(Clone, Copy)]
 struct Asked {
     states: usize,
     initial: Initial,

@@ -5,7 +5,7 @@ use replay_text::answers::Answer;
 use replay_text::text::Reader;
 use replay_text::{answers, fronts, lists, tally, text};
 
-#[derive(Drop)]
+#[derive(Clone, Copy)]
 struct Asked {
     count: usize,
     value: u32,

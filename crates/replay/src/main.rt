@@ -1,5 +1,7 @@
 // Runs the entries of numbers, labels and models on the stored cases of standard input, and compares each answer, and all lent memory, with the stored ones.
 // The names of lines are skipped. A case whose values are not as laid out, or with a list that is too long, differs.
+#![tactic(auto)]
+
 mod builds; // builds.rt: the kind `build`
 mod entries; // entries.rt: the places of the counts
 mod labels; // labels.rt: the kinds `intern` and `label`

@@ -57,7 +57,7 @@ fn check_counts(
     answers::check_one(buf, u, counts, entries::NUM_LABELS, c)
 }
 
-#[derive(Drop)]
+#[derive(Clone, Copy)]
 struct Asked {
     s: u32,
     id: u32,

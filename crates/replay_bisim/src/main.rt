@@ -1,5 +1,7 @@
 // Runs `bisim_distance` on the stored cases of standard input, and compares each answer, its contributions and what scratch holds then with the stored ones.
 // The names of lines are skipped. A case whose values are not as laid out, or with a list that is too long, differs.
+#![tactic(auto)]
+
 mod models; // models.rt: the kind `bisim_distance`
 mod side; // side.rt: a model in the text
 

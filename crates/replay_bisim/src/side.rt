@@ -7,7 +7,7 @@ use replay_text::text::Reader;
 use replay_text::{columns, text};
 
 // Its lists are in two stores, label values, offsets, labels and targets in one, weights and observations in the other; where each ends.
-#[derive(Drop)]
+#[derive(Clone, Copy)]
 pub struct Side {
     pub shape: Shape,
     pub values: usize,

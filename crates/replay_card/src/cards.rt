@@ -30,7 +30,7 @@ fn filled_from(out: &[u8], from: usize, byte: u8) -> bool {
 }
 
 // The answer as numbers, and how many bytes of the store are text.
-#[derive(Drop)]
+#[derive(Clone, Copy)]
 struct Told {
     answer: Answer,
     written: usize,
@@ -62,7 +62,7 @@ fn answer(card: &[u8], out: &mut [u8], byte: u8) -> Told {
 }
 
 // What a case gives: how many bytes the card has, how many are lent, and what they hold.
-#[derive(Drop)]
+#[derive(Clone, Copy)]
 struct Given {
     size: usize,
     room: usize,

@@ -1,5 +1,7 @@
 // Runs the report on the stored cards of standard input, and compares each answer and the whole store with the stored ones.
 // The names of lines are skipped. A case whose values are not as laid out, or with a list that is too long, differs.
+#![tactic(auto)]
+
 mod cards; // cards.rt: a stored card, its report and the store
 
 use replay_text::text::Reader;

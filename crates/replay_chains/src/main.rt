@@ -1,5 +1,7 @@
 // Runs the entries about chains on the stored cases of standard input, and compares each answer, and all lent memory, with the stored ones.
 // The names of lines are skipped. A case whose values are not as laid out, or with a list that is too long, differs.
+#![tactic(auto)]
+
 mod entries; // entries.rt: the places of the counts
 mod made; // made.rt: the kind `uniformise`
 mod models; // models.rt: the kinds that begin with a model

@@ -7,7 +7,7 @@ use normalise::{Normalised, normalise};
 use replay_text::text::Reader;
 use replay_text::{fronts, lists, tally, text};
 
-#[derive(Drop)]
+#[derive(Clone, Copy)]
 struct ShapeRead {
     chain: ChainShape,
     r: Reader,

@@ -12,7 +12,7 @@ use replay_text::{tally, text};
 pub const DISTANCE: usize = 0;
 
 // A chain, whose lists are in two stores: offsets and targets, probabilities and observations, and where each list ends.
-#[derive(Drop)]
+#[derive(Clone, Copy)]
 struct Side {
     chain: ChainShape,
     offsets: usize,

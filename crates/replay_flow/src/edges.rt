@@ -54,7 +54,7 @@ fn expect_lists(
     lists::expect_list(buf, s, lists::front(&list, n))
 }
 
-#[derive(Drop)]
+#[derive(Clone, Copy)]
 struct Asked {
     from: u32,
     to: u32,

@@ -3,7 +3,7 @@ use flow::network::{FlowNetwork, Link};
 use replay_text::text;
 
 // From where on the rows are kept: heads and costs of the links, their capacities, the starts, the node lists.
-#[derive(Drop)]
+#[derive(Clone, Copy)]
 pub struct From {
     pub links: usize,
     pub caps: usize,

@@ -6,7 +6,7 @@ use flow::network;
 use flow::network::{FlowNetwork, Made};
 use flow_core::rows::Answer;
 
-#[derive(Drop)]
+#[derive(Clone, Copy)]
 pub struct Ran {
     pub answer: Answer,
     pub net: FlowNetwork,

@@ -1,5 +1,7 @@
 // Runs the entries of networks on the stored cases of standard input, and compares each answer, and all lent memory, with the stored ones.
 // The names of lines are skipped. A case whose values are not as laid out, or with a list that is too long, differs.
+#![tactic(auto)]
+
 mod edges; // edges.rt: the kind `edge`
 mod entries; // entries.rt: the places of the counts
 mod flows; // flows.rt: the kind `flow`

@@ -4,7 +4,7 @@ use replay_text::text::Reader;
 use replay_text::{lists, text};
 
 // A network, and how many links, starts and places of the node lists the case lists.
-#[derive(Drop)]
+#[derive(Clone, Copy)]
 pub struct Listed {
     pub net: FlowNetwork,
     pub links: usize,
@@ -64,7 +64,7 @@ pub fn unpack(
     }
 }
 
-#[derive(Drop)]
+#[derive(Clone, Copy)]
 struct LinksRead {
     links: [Link; 2176],
     n: usize,

@@ -6,7 +6,7 @@ use distance_theory::MetricOptions;
 use replay_text::text::Reader;
 use replay_text::{lists, text};
 
-#[derive(Drop)]
+#[derive(Clone, Copy)]
 pub struct Asked {
     pub gamma: f64,
     pub options: MetricOptions,
@@ -34,7 +34,7 @@ pub fn read(buf: &mut [u8; 65536], r: Reader) -> Asked
 }
 
 // How many entries are lent, by list.
-#[derive(Drop)]
+#[derive(Clone, Copy)]
 pub struct Rooms {
     pub a: usize,
     pub b: usize,

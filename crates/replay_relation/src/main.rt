@@ -1,5 +1,7 @@
 // Runs the entries about relations on the stored cases of standard input, and compares each answer, and all lent memory, with the stored ones.
 // The names of lines are skipped. A case whose values are not as laid out, or with a list that is too long, differs.
+#![tactic(auto)]
+
 mod entries; // entries.rt: the places of the counts
 mod outcomes; // outcomes.rt: the answers of the entries, as numbers
 mod relations; // relations.rt: the kinds `relation` and `related`

@@ -10,7 +10,7 @@ use replay_text::text::Reader;
 use replay_text::{answers, columns, fronts, lists, tally, text};
 
 // What is asked, and where its stored answers begin.
-#[derive(Drop)]
+#[derive(Clone, Copy)]
 struct Asked {
     r: Reader,
     left: Shape,

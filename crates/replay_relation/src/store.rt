@@ -3,7 +3,7 @@ use replay_text::text::Reader;
 use replay_text::{lists, text};
 
 // How many bytes are lent, and how many of them are listed.
-#[derive(Drop)]
+#[derive(Clone, Copy)]
 pub struct Lent {
     pub room: usize,
     pub n: usize,

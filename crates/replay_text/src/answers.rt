@@ -6,7 +6,7 @@ ghost use Rattle.replay_text.specs.Tally.{Counted};
 use crate::text::Reader;
 use crate::{tally, text};
 
-#[derive(Drop)]
+#[derive(Clone, Copy)]
 pub struct Answer {
     pub refusal: u32,
     pub first: u64,

@@ -8,14 +8,14 @@ use crate::{lists, text};
 use bisim_core::ids::StateId;
 use bisim_core::wlts::{Initial, Shape};
 
-#[derive(Drop)]
+#[derive(Clone, Copy)]
 pub struct ShapeRead {
     pub shape: Shape,
     pub r: Reader,
 }
 
 // How many entries each column has.
-#[derive(Drop)]
+#[derive(Clone, Copy)]
 pub struct Columns {
     pub label_values: usize,
     pub offsets: usize,

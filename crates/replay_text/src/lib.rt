@@ -1,4 +1,6 @@
 // What a program that replays stored answers needs.
+#![tactic(auto)]
+
 pub mod answers; // answers.rt: answers as numbers
 pub mod columns; // columns.rt: a built model in the text
 pub mod fronts; // fronts.rt: the front of a list that is lent

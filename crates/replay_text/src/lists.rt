@@ -6,7 +6,7 @@ use crate::text;
 use crate::text::{NumberRead, Reader};
 
 // How many entries a list has.
-#[derive(Drop)]
+#[derive(Clone, Copy)]
 pub struct Listed {
     pub n: usize,
     pub r: Reader,

@@ -15,7 +15,7 @@ pub const ABSENT: u64 = 18446744073709551615;
 
 // Where the reader is: buf[at..end] is read and still to come, `byte` is the byte at hand (256 at the end of the input).
 // `faults` is 0 where the text has been as laid out so far, `differences` where the answers have been the stored ones since the last count.
-#[derive(Drop)]
+#[derive(Clone, Copy)]
 pub struct Reader {
     pub at: usize,
     pub end: usize,
@@ -24,13 +24,13 @@ pub struct Reader {
     pub differences: u32,
 }
 
-#[derive(Drop)]
+#[derive(Clone, Copy)]
 pub struct NumberRead {
     pub x: u64,
     pub r: Reader,
 }
 
-#[derive(Drop)]
+#[derive(Clone, Copy)]
 pub struct RealRead {
     pub x: f64,
     pub r: Reader,

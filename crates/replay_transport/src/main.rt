@@ -1,5 +1,7 @@
 // Runs `transport` on the stored cases of standard input, and compares each answer and the whole lent columns with the stored ones.
 // The names of lines are skipped. A case whose values are not as laid out, or with a list that is too long, differs.
+#![tactic(auto)]
+
 mod plans; // plans.rt: a stored case, its answer and its columns
 
 use replay_text::text::Reader;

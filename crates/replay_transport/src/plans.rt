@@ -29,7 +29,7 @@ fn expect_answer(buf: &mut [u8; 65536], r: Reader, t: Transported) -> Reader {
 }
 
 // What a case lends beside the columns.
-#[derive(Drop)]
+#[derive(Clone, Copy)]
 struct Given {
     rows: usize,
     columns: usize,

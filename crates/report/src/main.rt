@@ -1,4 +1,6 @@
 // The report program: a card on standard input, its report on standard output. Of a longer input the first 10,500 bytes decide.
+#![tactic(auto)]
+
 ghost use Rattle.std.specs.Prelude.{◌≡◌, List, ℕ, ◌≤◌, length, take};
 ghost use Rattle.card_report.specs.Report.{Printed};
 ghost use Rattle.card.specs.Printing.{printed};

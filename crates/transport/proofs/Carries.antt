@@ -35,16 +35,16 @@ module _ {a b costs : List Float} {H : List ℕ} {c p : List Float} {list rows c
   count = links_length a b costs C.base.enough
 
   heads_size : length H ≡ length (links a b costs) + length (links a b costs)
-  heads_size = ap length C.heads-is ∙ heads_length (links a b costs)
+  heads_size = ap length C.heads_is ∙ heads_length (links a b costs)
 
   caps_size : length c ≡ length (links a b costs) + length (links a b costs)
-  caps_size = ap length C.caps-is ∙ caps_length (links a b costs)
+  caps_size = ap length C.caps_is ∙ caps_length (links a b costs)
 
   prices_size : length p ≡ length (links a b costs) + length (links a b costs)
-  prices_size = ap length C.prices-is ∙ prices_length (links a b costs)
+  prices_size = ap length C.prices_is ∙ prices_length (links a b costs)
 
   few : length (links a b costs) ≤ 1088
-  few = let f = C.base.few-a in let g = C.base.few-b in let l = cells_few m n f g in let k = count in omega arith
+  few = let f = C.base.few_a in let g = C.base.few_b in let l = cells_few m n f g in let k = count in omega arith
 
   index : Indexable H (m + n + 2)
   index =
@@ -53,12 +53,12 @@ module _ {a b costs : List Float} {H : List ℕ} {c p : List Float} {list rows c
         added = length (links a b costs);
         pairs = heads_size;
         small = let h = heads_size in omega arith;
-        heads-in = λ e i. rw C.heads-is (heads_inside (m + n + 2) (links a b costs) (links_inside a b costs) e (rw (← C.heads-is) i));
+        heads_in = λ e i. rw C.heads_is (heads_inside (m + n + 2) (links a b costs) (links_inside a b costs) e (rw (← C.heads_is) i));
       }
 
   can : sendable a b H c p (length list) ≡ true
   can =
-      let h = heads_size in let x = caps_size in let y = prices_size in let f = C.base.few-a in let g = C.base.few-b in
+      let h = heads_size in let x = caps_size in let y = prices_size in let f = C.base.few_a in let g = C.base.few_b in
       let i : length c ≡ length H = omega arith in
       let j : length p ≡ length H = omega arith in
       let starts : List ℕ = replicate 67 0 in
@@ -69,7 +69,7 @@ module _ {a b costs : List Float} {H : List ℕ} {c p : List Float} {list rows c
 
   run_is : rows_shipped a b H c p ≡ shipped a b costs
   unfolding shipped
-  run_is = rw (C.heads-is, C.caps-is, C.prices-is, add-one (m + n))
+  run_is = rw (C.heads_is, C.caps_is, C.prices_is, add-one (m + n))
 
   module _ {d : Bool} {x : Float} {c' : List Float} {l' : List ℕ} (S : sent d x c' l' ≡ send a b H c p list) where
     cap_is : c' ≡ (shipped a b costs).cap
@@ -78,16 +78,16 @@ module _ {a b costs : List Float} {H : List ℕ} {c p : List Float} {list rows c
     pub plannable : length c' ≡ length c → Plannable c' (2 * (m + n)) m n costs rows columns masses
     plannable z =
         let l = caps_size in
-        let f = C.base.few-a in let g = C.base.few-b in
+        let f = C.base.few_a in let g = C.base.few_b in
         record {
-          few-m = C.base.few-a;
-          few-n = C.base.few-b;
-          first-few = omega arith;
-          caps-in = λ k h. let i = moved_in a b costs k C.base.enough h in omega arith;
-          costs-in = C.base.enough;
-          rows-room = C.base.rows-room;
-          columns-room = C.base.columns-room;
-          masses-room = C.base.masses-room;
+          few_m = C.base.few_a;
+          few_n = C.base.few_b;
+          first_few = omega arith;
+          caps_in = λ k h. let i = moved_in a b costs k C.base.enough h in omega arith;
+          costs_in = C.base.enough;
+          rows_room = C.base.rows_room;
+          columns_room = C.base.columns_room;
+          masses_room = C.base.masses_room;
         }
 
     pub planned : {y : Float} {t : ℕ} {rows' columns' : List ℕ} {masses' : List Float}
@@ -104,13 +104,13 @@ module _ {a b costs : List Float} {h : List ℕ} {c p : List Float} {list rows c
   places = 2 * (length a + length b + length a * length b)
 
   roomy : has_room (length a) (length b) (length costs) (length h) (length c) (length p) ≡ true
-  roomy = rw (le-leb (length a) 32 L.base.few-a, le-leb (length b) 32 L.base.few-b, le-leb (length a * length b) (length costs) L.base.enough, le-leb places (length h) L.heads-room, le-leb places (length c) L.caps-room, le-leb places (length p) L.prices-room)
+  roomy = rw (le-leb (length a) 32 L.base.few_a, le-leb (length b) 32 L.base.few_b, le-leb (length a * length b) (length costs) L.base.enough, le-leb places (length h) L.heads_room, le-leb places (length c) L.caps_room, le-leb places (length p) L.prices_room)
 
   total : length (links a b costs) + length (links a b costs) ≡ places
   total = let k = links_length a b costs L.base.enough in omega arith
 
   pub places_few : places ≤ 2176
-  places_few = let f = cells_few (length a) (length b) L.base.few-a L.base.few-b in let x = L.base.few-a in let y = L.base.few-b in omega arith
+  places_few = let f = cells_few (length a) (length b) L.base.few_a L.base.few_b in let x = L.base.few_a in let y = L.base.few_b in omega arith
 
   module _ (r : Bool) (h' : List ℕ) (c' p' : List Float) (W : wrote r h' c' p' ≡ write a b costs h c p) where
     laid : wrote r h' c' p' ≡ wrote true (over (heads (links a b costs)) h) (over (caps (links a b costs)) c) (over (prices (links a b costs)) p)
@@ -119,10 +119,10 @@ module _ {a b costs : List Float} {h : List ℕ} {c p : List Float} {list rows c
     pub carried : Carried a b costs (take places h') (take places c') (take places p') list rows columns masses
     carried = record {
       base = L.base;
-      heads-is = heads_are;
-      caps-is = ap (λ (w : Written). take places w.caps) laid ∙ take_at (caps (links a b costs)) _ places (caps_length (links a b costs) ∙ total);
-      prices-is = ap (λ (w : Written). take places w.prices) laid ∙ take_at (prices (links a b costs)) _ places (prices_length (links a b costs) ∙ total);
-      room = let k = ap length heads_are ∙ heads_length (links a b costs) ∙ total in let l = L.list-room in omega arith;
+      heads_is = heads_are;
+      caps_is = ap (λ (w : Written). take places w.caps) laid ∙ take_at (caps (links a b costs)) _ places (caps_length (links a b costs) ∙ total);
+      prices_is = ap (λ (w : Written). take places w.prices) laid ∙ take_at (prices (links a b costs)) _ places (prices_length (links a b costs) ∙ total);
+      room = let k = ap length heads_are ∙ heads_length (links a b costs) ∙ total in let l = L.list_room in omega arith;
     }
       where
         heads_are : take places h' ≡ heads (links a b costs)
@@ -133,10 +133,10 @@ pub small_room : {a b costs : List Float} {rows columns : List ℕ} {masses : Li
     → (h : List ℕ) (c p : List Float) (list : List ℕ) → length h ≡ 160 → length c ≡ 160 → length p ≡ 160 → length list ≡ 160 → Loadable a b costs h c p list rows columns masses
 small_room {a} {b} R f g h c p list x y z w =
     let q : length a * length b ≤ 8 * 8 = mul-le-mul f g in
-    record { base = R; heads-room = omega arith; caps-room = omega arith; prices-room = omega arith; list-room = omega arith }
+    record { base = R; heads_room = omega arith; caps_room = omega arith; prices_room = omega arith; list_room = omega arith }
 
 pub large_room : {a b costs : List Float} {rows columns : List ℕ} {masses : List Float} → Roomy a b costs rows columns masses
     → (h : List ℕ) (c p : List Float) (list : List ℕ) → length h ≡ 2176 → length c ≡ 2176 → length p ≡ 2176 → length list ≡ 2176 → Loadable a b costs h c p list rows columns masses
 large_room {a} {b} R h c p list x y z w =
-    let f = R.few-a in let g = R.few-b in let q = cells_few (length a) (length b) f g in
-    record { base = R; heads-room = omega arith; caps-room = omega arith; prices-room = omega arith; list-room = omega arith }
+    let f = R.few_a in let g = R.few_b in let q = cells_few (length a) (length b) f g in
+    record { base = R; heads_room = omega arith; caps_room = omega arith; prices_room = omega arith; list_room = omega arith }

@@ -143,7 +143,7 @@ module _ (a b costs : List Float) (rows columns : List ℕ) (masses : List Float
   fits_in : short (length a) (length b) (length costs) (length rows) (length columns) (length masses) ≡ false → leb (length a) 32 ≡ true → leb (length b) 32 ≡ true → Roomy a b costs rows columns masses
   fits_in h f g =
       let (c, r, k, m) = long_enough (length a) (length b) (length costs) (length rows) (length columns) (length masses) h in
-      record { few-a = leb-true (length a) 32 f; few-b = leb-true (length b) 32 g; enough = c; rows-room = r; columns-room = k; masses-room = m }
+      record { few_a = leb-true (length a) 32 f; few_b = leb-true (length b) 32 g; enough = c; rows_room = r; columns_room = k; masses_room = m }
 
   -- the number of a refusal, and nothing changed
   pub refuses : (n k : ℕ) → k ≡ n → k ≢ 0 → ends (says.Refused k) rows columns masses ≡ settled n (transport a b costs) rows columns masses
@@ -153,7 +153,7 @@ module _ (a b costs : List Float) (rows columns : List ℕ) (masses : List Float
   -- no refusal: the plan
   pub answered : (n : ℕ) → n ≡ 0 → {x : Float} {t : ℕ} {rows' columns' : List ℕ} {masses' : List Float} → Transported a b costs rows columns masses x t rows' columns' masses'
       → ends (says.Plan x t) rows' columns' masses' ≡ settled n (transport a b costs) rows columns masses
-  answered n z T = rw (z, T.total-is, T.cells_is, T.rows_is, T.columns-is, T.masses-is)
+  answered n z T = rw (z, T.total_is, T.cells_is, T.rows_is, T.columns_is, T.masses_is)
 
   pub roomy : (right : Bool) → transport_refusal right a b (length costs) (length rows) (length columns) (length masses) ≡ 0 → Roomy a b costs rows columns masses
   unfolding masses_fit

@@ -9,7 +9,7 @@ use crate::plan::Plan;
 use crate::{check, whole};
 
 // What `transport` answers: what the plan costs and its number of cells, or the number of the refusal.
-#[derive(Drop)]
+#[derive(Clone, Copy)]
 pub enum Transported {
     Plan { total: f64, cells: usize },
     Refused(u32),

@@ -1,4 +1,6 @@
 // `transport` of flow.rs: a plan that takes one list of masses to another, by successive shortest paths.
+#![tactic(auto)]
+
 mod plan; // plan.rt: the plan
 mod whole; // whole.rt: links, rounds and plan
 mod check; // check.rt: refusals

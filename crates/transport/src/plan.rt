@@ -7,7 +7,7 @@ ghost use Rattle.transport_theory.proofs.PlanRows.{Plannable, Planned};
 use numbers::EPS;
 
 // What a plan costs, and its number of cells.
-#[derive(Drop)]
+#[derive(Clone, Copy)]
 pub struct Plan {
     pub total: f64,
     pub cells: usize,

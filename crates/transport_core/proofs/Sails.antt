@@ -40,20 +40,20 @@ module _ {a b : List Float} {H : List ℕ} {c p : List Float} {list : List ℕ} 
   good : WellFormed (network H (s + 2) s (s + 1))
   unfolding head
   good =
-      let k = network_nodes H (s + 2) in let u = unset_large in let f = L.few-a in let g = L.few-b in
+      let k = network_nodes H (s + 2) in let u = unset_large in let f = L.few_a in let g = L.few_b in
       made (network H (s + 2) s (s + 1)) L.index.added L.index.pairs (omega arith)
-      (λ e h. let i = L.index.heads-in e h in omega arith)
+      (λ e h. let i = L.index.heads_in e h in omega arith)
       (omega arith) (omega arith) (ap (λ (x : ℕ). node_lists H x (length H)) (sym k))
 
   sailable : (st : List ℕ) → length st ≡ 67 → (r : Bool) (st' l' : List ℕ) → Relisted H (s + 2) st list r st' l' → Sailable (row_roads H p (s + 2) s (s + 1)) st' l' c
   sailable st z r st' l' e =
-      let f = L.few-a in let g = L.few-b in let k = network_nodes H (s + 2) in
+      let f = L.few_a in let g = L.few_b in let k = network_nodes H (s + 2) in
       record {
         good = good;
         laid = enlisted L.index (omega arith) st list (omega arith) L.room r st' l' s (s + 1) e;
-        sink-in = omega arith;
-        caps-size = L.caps-size;
-        costs-size = L.prices-size;
+        sink_in = omega arith;
+        caps_size = L.caps_size;
+        costs_size = L.prices_size;
         small = L.index.small;
       }
 
@@ -111,11 +111,11 @@ module _ (a b : List Float) (H : List ℕ) (c p : List Float) (l : List ℕ) whe
             let (f, g) = and_t (Refusal.sizes_fit n (length H) (length H) (length H) (length l)) _ can in
             let (i, j) = and_t (ltb n 67) _ g in
             record {
-              few-a = leb-true (length a) 32 x;
-              few-b = leb-true (length b) 32 y;
+              few_a = leb-true (length a) 32 x;
+              few_b = leb-true (length b) 32 y;
               index = listable_indexable H n st l f j;
-              caps-size = eqb-true (length c) (length H) u;
-              prices-size = eqb-true (length p) (length H) v;
+              caps_size = eqb-true (length c) (length H) u;
+              prices_size = eqb-true (length p) (length H) v;
               room = (sized n (length H) (length H) (length H) (length l) f).list;
             }
 
@@ -125,7 +125,7 @@ module _ (a b : List Float) (H : List ℕ) (c p : List Float) (l : List ℕ) whe
         pub sends : {x : Float} {c' : List Float} → Shipped (shipped_rows a b H c p) x c' → sent true x c' l' ≡ send a b H c p l
         sends S =
             let k : l' ≡ over (list_of H n) l = E.1.1 ∙ ap (λ (t : Bool). cond t (over (list_of H n) l) l) q in
-            rw (z, can, S.remaining-is, S.cap-is, k)
+            rw (z, can, S.remaining_is, S.cap_is, k)
 
 -- the rounds with their bounds worked out
 pub told_links : (a b : List Float) (H : List ℕ) (c p : List Float) {ta tb big low x : Float} {c' : List Float} → ta ≡ sum a → tb ≡ sum b → big ≡ larger ta one → low ≡ smaller ta tb

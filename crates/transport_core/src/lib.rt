@@ -1,4 +1,6 @@
 // The rounds of `transport` on links that stand in rows of numbers.
+#![tactic(auto)]
+
 mod search; // search.rt: a shortest path, by Bellman-Ford
 mod path; // path.rt: the path, and the push along it
 mod run; // run.rt: rounds

@@ -6,7 +6,7 @@ ghost use Rattle.transport_theory.proofs.WalkRows.{Walkable, Walked};
 ghost use Rattle.std.specs.Prelude.{◌≡◌, length, take};
 
 // What a walk back comes to: whether it ends at the source, and how many links are on the path.
-#[derive(Drop)]
+#[derive(Clone, Copy)]
 pub struct Trail {
     pub home: bool,
     pub length: usize,

@@ -57,7 +57,7 @@ fn sizes_fit(m: usize, n: usize, heads: usize, caps: usize, prices: usize) -> bo
 }
 
 // What the rounds come to: whether they were made, and what remains then.
-#[derive(Drop)]
+#[derive(Clone, Copy)]
 pub struct Sent {
     pub done: bool,
     pub remaining: f64,

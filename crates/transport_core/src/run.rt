@@ -12,7 +12,7 @@ use transport_theory::is_infinite;
 const UNSET: usize = 18446744073709551615;
 
 // What a round comes to: whether it pushed, and what remains.
-#[derive(Drop)]
+#[derive(Clone, Copy)]
 pub struct Round {
     pub pushed: bool,
     pub remaining: f64,

@@ -122,44 +122,44 @@ module _ {a b costs : List Float} {h₀ : List ℕ} {c₀ p₀ : List Float} (S 
   count_is = let l = links_length a b costs S.enough in omega arith
 
   pub count_few : length ls ≤ 1088
-  count_few = let l = count_is in let f = S.few-a in let g = S.few-b in let m = cells_few (length a) (length b) f g in omega arith
+  count_few = let l = count_is in let f = S.few_a in let g = S.few_b in let m = cells_few (length a) (length b) f g in omega arith
 
   pub wrote_none : Wrote ls h₀ c₀ p₀ 0 h₀ c₀ p₀
-  wrote_none = record { upto = omega arith; heads-is = refl; caps-is = refl; prices-is = refl }
+  wrote_none = record { upto = omega arith; heads_is = refl; caps_is = refl; prices_is = refl }
 
   module _ {k : ℕ} {h : List ℕ} {c p : List Float} (W : Wrote ls h₀ c₀ p₀ k h c p) where
     pub heads_size : length h ≡ length h₀
-    heads_size = ap length W.heads-is ∙ over_length (heads ls) h₀ (k + k) (let l = heads_length ls in let u = W.upto in omega arith) (let r = S.heads-room in let u = W.upto in omega arith)
+    heads_size = ap length W.heads_is ∙ over_length (heads ls) h₀ (k + k) (let l = heads_length ls in let u = W.upto in omega arith) (let r = S.heads_room in let u = W.upto in omega arith)
 
     pub caps_size : length c ≡ length c₀
-    caps_size = ap length W.caps-is ∙ over_length (caps ls) c₀ (k + k) (let l = caps_length ls in let u = W.upto in omega arith) (let r = S.caps-room in let u = W.upto in omega arith)
+    caps_size = ap length W.caps_is ∙ over_length (caps ls) c₀ (k + k) (let l = caps_length ls in let u = W.upto in omega arith) (let r = S.caps_room in let u = W.upto in omega arith)
 
     pub prices_size : length p ≡ length p₀
-    prices_size = ap length W.prices-is ∙ over_length (prices ls) p₀ (k + k) (let l = prices_length ls in let u = W.upto in omega arith) (let r = S.prices-room in let u = W.upto in omega arith)
+    prices_size = ap length W.prices_is ∙ over_length (prices ls) p₀ (k + k) (let l = prices_length ls in let u = W.upto in omega arith) (let r = S.prices_room in let u = W.upto in omega arith)
 
     module _ (more : k < length ls) where
       pub writable_on : Writable a b costs h c p
-      writable_on = record { few-a = S.few-a; few-b = S.few-b; enough = S.enough; heads-room = rw heads_size S.heads-room; caps-room = rw caps_size S.caps-room; prices-room = rw prices_size S.prices-room }
+      writable_on = record { few_a = S.few_a; few_b = S.few_b; enough = S.enough; heads_room = rw heads_size S.heads_room; caps_room = rw caps_size S.caps_room; prices_room = rw prices_size S.prices_room }
 
       pub wrote_next : {h' : List ℕ} {c' p' : List Float} → Put (link_at ls k) h c p (k + k) h' c' p' → Wrote ls h₀ c₀ p₀ (k + 1) h' c' p'
       wrote_next P =
           let lh = heads_length ls in let lc = caps_length ls in let lp = prices_length ls in
-          let rh = S.heads-room in let rc = S.caps-room in let rp = S.prices-room in
+          let rh = S.heads_room in let rc = S.caps_room in let rp = S.prices_room in
           let H = heads_at ls k more in let C = caps_at ls k more in let Q = prices_at ls k more in
           record {
             upto = omega arith;
-            heads-is = P.heads-is ∙ pair_next (heads ls) h₀ h k 0 _ _ W.heads-is H.0 H.1 (omega arith) (omega arith);
-            caps-is = P.caps-is ∙ pair_next (caps ls) c₀ c k nan _ _ W.caps-is C.0 C.1 (omega arith) (omega arith);
-            prices-is = P.prices-is ∙ pair_next (prices ls) p₀ p k nan _ _ W.prices-is Q.0 Q.1 (omega arith) (omega arith);
+            heads_is = P.heads_is ∙ pair_next (heads ls) h₀ h k 0 _ _ W.heads_is H.0 H.1 (omega arith) (omega arith);
+            caps_is = P.caps_is ∙ pair_next (caps ls) c₀ c k nan _ _ W.caps_is C.0 C.1 (omega arith) (omega arith);
+            prices_is = P.prices_is ∙ pair_next (prices ls) p₀ p k nan _ _ W.prices_is Q.0 Q.1 (omega arith) (omega arith);
           }
 
     -- all links stand in the rows
     pub wrote_all : length ls ≤ k → (h ≡ Lists.over (heads ls) h₀) × (c ≡ Lists.over (caps ls) c₀) × (p ≡ Lists.over (prices ls) p₀)
     wrote_all le =
         let u = W.upto in (
-          over_done (heads ls) h₀ h (k + k) W.heads-is (let l = heads_length ls in omega arith),
-          over_done (caps ls) c₀ c (k + k) W.caps-is (let l = caps_length ls in omega arith),
-          over_done (prices ls) p₀ p (k + k) W.prices-is (let l = prices_length ls in omega arith),
+          over_done (heads ls) h₀ h (k + k) W.heads_is (let l = heads_length ls in omega arith),
+          over_done (caps ls) c₀ c (k + k) W.caps_is (let l = caps_length ls in omega arith),
+          over_done (prices ls) p₀ p (k + k) W.prices_is (let l = prices_length ls in omega arith),
         )
 
 -- ---- one link
@@ -170,8 +170,8 @@ module _ {a b costs : List Float} {h : List ℕ} {c p : List Float} (S : Writabl
 
   pub space : Space h c p (k + k)
   space =
-      let n = count_few S in let rh = S.heads-room in let rc = S.caps-room in let rp = S.prices-room in
-      record { heads-room = omega arith; caps-room = omega arith; prices-room = omega arith; small = omega arith }
+      let n = count_few S in let rh = S.heads_room in let rc = S.caps_room in let rp = S.prices_room in
+      record { heads_room = omega arith; caps_room = omega arith; prices_room = omega arith; small = omega arith }
 
   pub cell_some : length a + length b ≤ k → (0 < length b) × (k - (length a + length b) < length a * length b) × (k - (length a + length b) < length costs)
       × ((k - (length a + length b)) / length b < length a) × ((k - (length a + length b)) % length b < length b)

@@ -42,7 +42,7 @@ module _ (R : Roads) (G : WellFormed R.net) (few : links R.net ≤ unset) (c : L
   grown_by e d t = record { dist = set t.dist (head N e) d; via = set t.via (head N e) e; changed = true }
 
   by_same : (e : ℕ) (d : Float) (t : Tree) → e < links N → Grown N t → by (grown_by e d t) (head N e) ≡ e
-  by_same e d t h g = get_or-set_same t.via (head N e) e 0 (let s = g.via-size in let i = G.heads-in e h in omega arith)
+  by_same e d t h g = get_or-set_same t.via (head N e) e 0 (let s = g.via_size in let i = G.heads_in e h in omega arith)
 
   by_other : (e : ℕ) (d : Float) (t : Tree) (w : ℕ) → w ≢ head N e → by (grown_by e d t) w ≡ by t w
   by_other e d t w n = get_or-set_other t.via (head N e) w e 0 n
@@ -58,8 +58,8 @@ module _ (R : Roads) (G : WellFormed R.net) (few : links R.net ≤ unset) (c : L
 
   grown_on : (u e : ℕ) (d : Float) (t : Tree) → e < links N → tail N e ≡ u → Reached N t u → Grown N t → Grown N (grown_by e d t)
   grown_on u e d t h q r g = record {
-    dist_size = length-set t.dist (head N e) d ∙ g.dist-size;
-    via_size = length-set t.via (head N e) e ∙ g.via-size;
+    dist_size = length-set t.dist (head N e) d ∙ g.dist_size;
+    via_size = length-set t.via (head N e) e ∙ g.via_size;
     rooted = λ v l i. root v l i (eq_or_ne v (head N e));
     backed = λ v l i. back v l i (eq_or_ne v (head N e));
   }
@@ -116,7 +116,7 @@ module _ (R : Roads) (G : WellFormed R.net) (few : links R.net ≤ unset) (c : L
     where
       r : Grown N (whole_pass R c t)
       r = passed (nodes N) 0 (record { dist = t.dist; via = t.via; changed = false }) (omega arith)
-          (record { dist_size = g.dist-size; via_size = g.via-size; rooted = g.rooted; backed = g.backed })
+          (record { dist_size = g.dist_size; via_size = g.via_size; rooted = g.rooted; backed = g.backed })
 
       pick : ((s : Tree) → Grown N s → Grown N (search R c k s)) → (b : Bool)
           → Grown N (elim b as (λ z. Tree) [ true ↦ search R c k (whole_pass R c t) | false ↦ whole_pass R c t ])
@@ -149,7 +149,7 @@ module _ (R : Roads) (G : WellFormed R.net) (few : links R.net ≤ unset) (c : L
   pub walk_step : (t : Tree) (v : ℕ) → Grown N t → v < nodes N → Reached N t v → v ≢ N.source → (by t v < links N) × (tail N (by t v) < nodes N) × Reached N t (tail N (by t v))
   walk_step t v g h (inl p) n = absurd (n p)
   walk_step t v g h (inr l) n =
-      (l, G.heads-in (rev (by t v)) (let p = G.pairs in let i = rev_in (by t v) G.added (omega arith) in omega arith), (g.backed v h l).1)
+      (l, G.heads_in (rev (by t v)) (let p = G.pairs in let i = rev_in (by t v) G.added (omega arith) in omega arith), (g.backed v h l).1)
 
 -- ---- the walk back
 

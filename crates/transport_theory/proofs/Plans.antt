@@ -89,7 +89,7 @@ module _ {c : List Float} {first m n : ℕ} {costs : List Float} {rows₀ column
   p = plan n first c count 0
 
   pub count_few : m * n ≤ 1024
-  count_few = cells_few m n S.few-m S.few-n
+  count_few = cells_few m n S.few_m S.few_n
 
   pub plan_starts : Planning c first n count costs rows₀ columns₀ masses₀ nought 0 0 rows₀ columns₀ masses₀
   unfolding sum
@@ -108,13 +108,13 @@ module _ {c : List Float} {first m n : ℕ} {costs : List Float} {rows₀ column
     most = let a = I.cells_in in let b = plan_length n first c count 0 in omega arith
 
     pub rows_size : length rows ≡ length rows₀
-    rows_size = ap length I.rows_is ∙ over_length (map (λ (x : Cell). x.row) p) rows₀ t (rw (length-map p (λ (x : Cell). x.row)) I.cells_in) (let a = most in let b = S.rows-room in omega arith)
+    rows_size = ap length I.rows_is ∙ over_length (map (λ (x : Cell). x.row) p) rows₀ t (rw (length-map p (λ (x : Cell). x.row)) I.cells_in) (let a = most in let b = S.rows_room in omega arith)
 
     pub columns_size : length columns ≡ length columns₀
-    columns_size = ap length I.columns-is ∙ over_length (map (λ (x : Cell). x.column) p) columns₀ t (rw (length-map p (λ (x : Cell). x.column)) I.cells_in) (let a = most in let b = S.columns-room in omega arith)
+    columns_size = ap length I.columns_is ∙ over_length (map (λ (x : Cell). x.column) p) columns₀ t (rw (length-map p (λ (x : Cell). x.column)) I.cells_in) (let a = most in let b = S.columns_room in omega arith)
 
     pub masses_size : length masses ≡ length masses₀
-    masses_size = ap length I.masses-is ∙ over_length (map (λ (x : Cell). x.mass) p) masses₀ t (rw (length-map p (λ (x : Cell). x.mass)) I.cells_in) (let a = most in let b = S.masses-room in omega arith)
+    masses_size = ap length I.masses_is ∙ over_length (map (λ (x : Cell). x.mass) p) masses₀ t (rw (length-map p (λ (x : Cell). x.mass)) I.cells_in) (let a = most in let b = S.masses_room in omega arith)
 
     module _ (more : k < m * n) where
       pub some : 0 < n
@@ -127,7 +127,7 @@ module _ {c : List Float} {first m n : ℕ} {costs : List Float} {rows₀ column
       column_low = mod-lt k some
 
       pub place_in : bit_xor (first + 2 * k) 1 < length c
-      place_in = rw (rev_xor (first + 2 * k)) (S.caps-in k more)
+      place_in = rw (rev_xor (first + 2 * k)) (S.caps_in k more)
 
       abbrev x : Float
       x = get_or c (bit_xor (first + 2 * k) 1) nan
@@ -148,26 +148,26 @@ module _ {c : List Float} {first m n : ℕ} {costs : List Float} {rows₀ column
           rw (a, b, d, e, g) (record {
             upto = omega arith;
             cells_in = I.cells_in;
-            plan_is = I.plan-is ∙ plan_step n first c count k false more z;
-            total_is = ap (sum_from total) (sym (bills_step first c costs count k false more S.costs-in z)) ∙ I.total-is;
+            plan_is = I.plan_is ∙ plan_step n first c count k false more z;
+            total_is = ap (sum_from total) (sym (bills_step first c costs count k false more S.costs_in z)) ∙ I.total_is;
             rows_is = I.rows_is;
-            columns_is = I.columns-is;
-            masses_is = I.masses-is;
+            columns_is = I.columns_is;
+            masses_is = I.masses_is;
           })
 
       module _ (f : lt eps x ≡ true) where
         here : (t < length p) × (get_or p t blank ≡ cell) × (drop (t + 1) p ≡ plan n first c (count - (k + 1)) (k + 1))
         unfolding keep
-        here = rest_some p t cell (plan n first c (count - (k + 1)) (k + 1)) blank (I.plan-is ∙ plan_step n first c count k true more (ap (lt eps) (sym x_is) ∙ f))
+        here = rest_some p t cell (plan n first c (count - (k + 1)) (k + 1)) blank (I.plan_is ∙ plan_step n first c count k true more (ap (lt eps) (sym x_is) ∙ f))
 
         pub rows_in_lem : t < length rows
-        rows_in_lem = let h = here.0 in let b = plan_length n first c count 0 in let r = S.rows-room in let s = rows_size in omega arith
+        rows_in_lem = let h = here.0 in let b = plan_length n first c count 0 in let r = S.rows_room in let s = rows_size in omega arith
 
         pub columns_in : t < length columns
-        columns_in = let h = here.0 in let b = plan_length n first c count 0 in let r = S.columns-room in let s = columns_size in omega arith
+        columns_in = let h = here.0 in let b = plan_length n first c count 0 in let r = S.columns_room in let s = columns_size in omega arith
 
         pub masses_in : t < length masses
-        masses_in = let h = here.0 in let b = plan_length n first c count 0 in let r = S.masses-room in let s = masses_size in omega arith
+        masses_in = let h = here.0 in let b = plan_length n first c count 0 in let r = S.masses_room in let s = masses_size in omega arith
 
         pub t_few : t < 1024
         t_few = let h = here.0 in let b = plan_length n first c count 0 in let l = count_few in omega arith
@@ -182,16 +182,16 @@ module _ {c : List Float} {first m n : ℕ} {costs : List Float} {rows₀ column
             let z = ap (lt eps) (sym x_is) ∙ f in
             let h = here.0 in
             let l = plan_length n first c count 0 in
-            let r = S.rows-room in let s = S.columns-room in let u = S.masses-room in
+            let r = S.rows_room in let s = S.columns_room in let u = S.masses_room in
             let mr = length-map p (λ (y : Cell). y.row) in let mc = length-map p (λ (y : Cell). y.column) in let mm = length-map p (λ (y : Cell). y.mass) in
             rw (a, b, d, e, g, x_is) (record {
               upto = omega arith;
               cells_in = omega arith;
               plan_is = here.2;
-              total_is = ap (sum_from total) (sym (bills_step first c costs count k true more S.costs-in z)) ∙ I.total-is;
+              total_is = ap (sum_from total) (sym (bills_step first c costs count k true more S.costs_in z)) ∙ I.total_is;
               rows_is = over_next (map (λ (y : Cell). y.row) p) rows₀ rows t 0 (k / n) I.rows_is (field_at (λ (y : Cell). y.row)) (omega arith) (omega arith);
-              columns_is = over_next (map (λ (y : Cell). y.column) p) columns₀ columns t 0 (k % n) I.columns-is (field_at (λ (y : Cell). y.column)) (omega arith) (omega arith);
-              masses_is = over_next (map (λ (y : Cell). y.mass) p) masses₀ masses t nan (moved first c k) I.masses-is (field_at (λ (y : Cell). y.mass)) (omega arith) (omega arith);
+              columns_is = over_next (map (λ (y : Cell). y.column) p) columns₀ columns t 0 (k % n) I.columns_is (field_at (λ (y : Cell). y.column)) (omega arith) (omega arith);
+              masses_is = over_next (map (λ (y : Cell). y.mass) p) masses₀ masses t nan (moved first c k) I.masses_is (field_at (λ (y : Cell). y.mass)) (omega arith) (omega arith);
             })
 
     pub plan_ends : m * n ≤ k → Planned p (sum (bills first c (take count costs) 0)) rows₀ columns₀ masses₀ total t rows columns masses
@@ -199,13 +199,13 @@ module _ {c : List Float} {first m n : ℕ} {costs : List Float} {rows₀ column
     plan_ends le =
         let u = I.upto in
         let q : count ≡ k = omega arith in
-        let none : length p ≤ t = rest_none p t (I.plan-is ∙ ap (λ (j : ℕ). plan n first c j k) (let z : count - k ≡ 0 = omega arith in z)) in
+        let none : length p ≤ t = rest_none p t (I.plan_is ∙ ap (λ (j : ℕ). plan n first c j k) (let z : count - k ≡ 0 = omega arith in z)) in
         let i = I.cells_in in
         let e : t ≡ length p = omega arith in
         record {
-          total_is = ap (λ (l : List Float). sum_from total (bills first c l k)) (sym (slice_empty count costs) ∙ ap (λ (j : ℕ). slice j count costs) q) ∙ I.total-is;
+          total_is = ap (λ (l : List Float). sum_from total (bills first c l k)) (sym (slice_empty count costs) ∙ ap (λ (j : ℕ). slice j count costs) q) ∙ I.total_is;
           cells_is = e;
           rows_is = over_done (map (λ (y : Cell). y.row) p) rows₀ rows t I.rows_is (e ∙ sym (length-map p (λ (y : Cell). y.row)));
-          columns_is = over_done (map (λ (y : Cell). y.column) p) columns₀ columns t I.columns-is (e ∙ sym (length-map p (λ (y : Cell). y.column)));
-          masses_is = over_done (map (λ (y : Cell). y.mass) p) masses₀ masses t I.masses-is (e ∙ sym (length-map p (λ (y : Cell). y.mass)));
+          columns_is = over_done (map (λ (y : Cell). y.column) p) columns₀ columns t I.columns_is (e ∙ sym (length-map p (λ (y : Cell). y.column)));
+          masses_is = over_done (map (λ (y : Cell). y.mass) p) masses₀ masses t I.masses_is (e ∙ sym (length-map p (λ (y : Cell). y.mass)));
         }

@@ -57,22 +57,22 @@ module _ {H list : List ℕ} {c p : List Float} {a b u : ℕ} {d₀ : List Float
       v = get_or H e 0
 
       pub e_in : e < length H
-      e_in = S.links-in j I.begun more
+      e_in = S.links_in j I.begun more
 
       pub e_caps : e < length c
-      e_caps = rw S.caps-size e_in
+      e_caps = rw S.caps_size e_in
 
       pub e_costs : e < length p
-      e_costs = rw S.costs-size e_in
+      e_costs = rw S.costs_size e_in
 
       pub v_dist : v < length d
-      v_dist = rw I.dist-length (S.heads-in e e_in)
+      v_dist = rw I.dist_length (S.heads_in e e_in)
 
       pub v_via : v < length w
-      v_via = rw (I.via-length, S.via-size) (S.heads-in e e_in)
+      v_via = rw (I.via_length, S.via_size) (S.heads_in e e_in)
 
       pub u_dist : u < length d
-      u_dist = rw I.dist-length S.here
+      u_dist = rw I.dist_length S.here
 
       -- the tree after this link
       turned : (s : Bool) → (residual c e && nearer p d u e v) ≡ s → (d' : List Float) (w' : List ℕ) (ch' : Bool)
@@ -81,8 +81,8 @@ module _ {H list : List ℕ} {c p : List Float} {a b u : ℕ} {d₀ : List Float
       turned t z d' w' ch' l m q = record {
         begun = let x = I.begun in omega arith;
         ends = omega arith;
-        dist_length = l ∙ I.dist-length;
-        via_length = m ∙ I.via-length;
+        dist_length = l ∙ I.dist_length;
+        via_length = m ∙ I.via_length;
         same = λ R x y. rw (add-one j)
             (ap (relax_all R c u (slice (suc j) b list)) (q ∙ ap (λ (s : Bool). shorten s v e (way p d u e) (tree d w ch)) (sym z) ∙ sym (relax_is R c u e (tree d w ch) H p x y))
             ∙ sym (relax_step R c u j b list (tree d w ch) more S.within) ∙ I.same R x y);
@@ -132,7 +132,7 @@ module _ {H list starts : List ℕ} {c p d₀ : List Float} {w₀ : List ℕ} (S
   pass_starts = record { ends = omega arith; dist_length = refl; via_length = refl; same = λ R L n. ap (λ (k : ℕ). pass R c k 0 (tree d₀ w₀ false)) (let q : length d₀ - 0 ≡ nodes R.net = omega arith in q) }
 
   pub nodes_few : length d₀ ≤ 66
-  nodes_few = rw S.dist-size S.laid.laid.places
+  nodes_few = rw S.dist_size S.laid.laid.places
 
   links_are : links S.roads.net ≡ length H
   links_are = ap length S.laid.laid.heads
@@ -140,29 +140,29 @@ module _ {H list starts : List ℕ} {c p d₀ : List Float} {w₀ : List ℕ} (S
   module _ {d : List Float} {w : List ℕ} {ch : Bool} {u : ℕ} (I : Passing H list starts c p d₀ w₀ d w ch u) where
     module _ (more : u < length d) where
       pub node_low : u < 66
-      node_low = let a = I.dist-length in let f = nodes_few in omega arith
+      node_low = let a = I.dist_length in let f = nodes_few in omega arith
 
       node_in : u < nodes S.roads.net
-      node_in = let a = I.dist-length in let f = S.dist-size in omega arith
+      node_in = let a = I.dist_length in let f = S.dist_size in omega arith
 
       pub relaxable : Relaxable H list c p (get_or starts u 0) (get_or starts (u + 1) 0) u d w
       unfolding head
       relaxable = rw (add-one u) (record {
         ordered = (S.laid.laid.ordered u node_in).0;
         within = (S.laid.laid.ordered u node_in).1;
-        links-in = λ j a b. rw (← links_are) (S.laid.good.listed u (get_or list j 0) (link_in S.laid.laid u j node_in a b)).0;
-        heads-in = λ e h. heads e h;
-        caps-size = S.caps-size;
-        costs-size = S.costs-size;
+        links_in = λ j a b. rw (← links_are) (S.laid.good.listed u (get_or list j 0) (link_in S.laid.laid u j node_in a b)).0;
+        heads_in = λ e h. heads e h;
+        caps_size = S.caps_size;
+        costs_size = S.costs_size;
         here = more;
-        via-size = I.via-length ∙ S.via-size ∙ sym I.dist-length;
+        via_size = I.via_length ∙ S.via_size ∙ sym I.dist_length;
       })
         where
           heads : (e : ℕ) → e < length H → get_or H e 0 < length d
           heads e h =
-              let k = S.laid.good.heads-in e (rw links_are h) in
-              let a = I.dist-length in
-              let f = S.dist-size in
+              let k = S.laid.good.heads_in e (rw links_are h) in
+              let a = I.dist_length in
+              let f = S.dist_size in
               let g : get_or S.roads.net.heads e 0 ≡ get_or H e 0 = ap (λ (l : List ℕ). get_or l e 0) S.laid.laid.heads in
               omega arith
 
@@ -170,11 +170,11 @@ module _ {H list starts : List ℕ} {c p d₀ : List Float} {w₀ : List ℕ} (S
       pub pass_over : infinite (get_or d u nan) ≡ true → (d' : List Float) (w' : List ℕ) (ch' : Bool) → d' ≡ d → w' ≡ w → ch' ≡ ch → Passing H list starts c p d₀ w₀ d' w' ch' (u + 1)
       unfolding leave
       pass_over f d' w' ch' x y z = rw (x, y, z) (record {
-        ends = let a = I.dist-length in omega arith;
-        dist_length = I.dist-length;
-        via_length = I.via-length;
+        ends = let a = I.dist_length in omega arith;
+        dist_length = I.dist_length;
+        via_length = I.via_length;
         same = λ R L n.
-            sym (pass_step R c (length d₀) u (tree d w ch) (let a = I.dist-length in omega arith) ∙ ap (λ (s : Bool). pass R c (length d₀ - (u + 1)) (u + 1) (leave R c s u (tree d w ch))) f)
+            sym (pass_step R c (length d₀) u (tree d w ch) (let a = I.dist_length in omega arith) ∙ ap (λ (s : Bool). pass R c (length d₀ - (u + 1)) (u + 1) (leave R c s u (tree d w ch))) f)
             ∙ I.same R L n;
       })
 
@@ -184,20 +184,20 @@ module _ {H list starts : List ℕ} {c p d₀ : List Float} {w₀ : List ℕ} (S
           → (d'' : List Float) (w'' : List ℕ) (ch'' : Bool) → d'' ≡ d' → w'' ≡ w' → ch'' ≡ ch' → Passing H list starts c p d₀ w₀ d'' w'' ch'' (u + 1)
       unfolding leave
       pass_through f {d'} {w'} {ch'} l m X d'' w'' ch'' x y z = rw (x, y, z) (record {
-        ends = let a = I.dist-length in omega arith;
-        dist_length = l ∙ I.dist-length;
-        via_length = m ∙ I.via-length;
+        ends = let a = I.dist_length in omega arith;
+        dist_length = l ∙ I.dist_length;
+        via_length = m ∙ I.via_length;
         same = λ R L n.
-            let inn : u < nodes R.net = let a = I.dist-length in omega arith in
+            let inn : u < nodes R.net = let a = I.dist_length in omega arith in
             let q : slice (get_or starts u 0) (get_or starts (u + 1) 0) list ≡ out R.net u = ap (λ (x : ℕ). slice (get_or starts u 0) (get_or starts x 0) list) (add-one u) ∙ sym (L.laid.rows u inn) in
             ap (pass R c (length d₀ - (u + 1)) (u + 1)) (X R L.laid.heads L.cost ∙ ap (λ (es : List ℕ). relax_all R c u es (tree d w ch)) q)
-            ∙ sym (pass_step R c (length d₀) u (tree d w ch) (let a = I.dist-length in omega arith) ∙ ap (λ (s : Bool). pass R c (length d₀ - (u + 1)) (u + 1) (leave R c s u (tree d w ch))) f)
+            ∙ sym (pass_step R c (length d₀) u (tree d w ch) (let a = I.dist_length in omega arith) ∙ ap (λ (s : Bool). pass R c (length d₀ - (u + 1)) (u + 1) (leave R c s u (tree d w ch))) f)
             ∙ I.same R L n;
       })
 
     pub pass_ends : length d ≤ u → Passed H list starts c p d₀ w₀ d w ch
     unfolding pass
-    pass_ends le R L n = ap (λ (k : ℕ). pass R c k u (tree d w ch)) (let q : 0 ≡ length d₀ - u = let a = I.dist-length in omega arith in q) ∙ I.same R L n
+    pass_ends le R L n = ap (λ (k : ℕ). pass R c k u (tree d w ch)) (let q : 0 ≡ length d₀ - u = let a = I.dist_length in omega arith in q) ∙ I.same R L n
 
 -- ---- the passes
 
@@ -227,33 +227,33 @@ module _ {H list starts : List ℕ} {c p d₀ : List Float} {w₀ : List ℕ} (S
     passable = record {
       roads = S.roads;
       laid = S.laid;
-      caps-size = S.caps-size;
-      costs-size = S.costs-size;
-      dist-size = I.dist-length ∙ S.dist-size;
-      via-size = I.via-length ∙ S.via-size ∙ sym I.dist-length;
+      caps_size = S.caps_size;
+      costs_size = S.costs_size;
+      dist_size = I.dist_length ∙ S.dist_size;
+      via_size = I.via_length ∙ S.via_size ∙ sym I.dist_length;
     }
 
     module _ (more : k < length d) {d' : List Float} {w' : List ℕ} {ch' : Bool} (l : length d' ≡ length d) (m : length w' ≡ length w) (P : Passed H list starts c p d w d' w' ch') where
       after : (b : Bool) → ch' ≡ b → (R : Roads) → InRoads R H list starts p → length d₀ ≡ nodes R.net
           → elim b as (λ z. Tree) [ true ↦ search R c (length d₀ - (k + 1)) (tree d' w' ch') | false ↦ tree d' w' ch' ] ≡ search R c (nodes R.net) (tree d₀ w₀ false)
       after b z R L n =
-          sym (search_step R c (length d₀) k d w I.flag (tree d' w' ch') b (let a = I.dist-length in omega arith) (P R L (I.dist-length ∙ n)) z) ∙ I.same R L n
+          sym (search_step R c (length d₀) k d w I.flag (tree d' w' ch') b (let a = I.dist_length in omega arith) (P R L (I.dist_length ∙ n)) z) ∙ I.same R L n
 
       pub search_on : ch' ≡ true → Searching H list starts c p d₀ w₀ d' w' (k + 1)
       search_on z = record {
-        ends = let a = I.dist-length in omega arith;
-        dist_length = l ∙ I.dist-length;
-        via_length = m ∙ I.via-length;
+        ends = let a = I.dist_length in omega arith;
+        dist_length = l ∙ I.dist_length;
+        via_length = m ∙ I.via_length;
         flag = ch';
         same = after true z;
       }
 
       pub search_settles : ch' ≡ false → Searched H list starts c p d₀ w₀ d' w'
-      search_settles z R L n = let q = after false z R L n in record { dist-is = ap (λ (t : Tree). t.dist) q; via-is = ap (λ (t : Tree). t.via) q }
+      search_settles z R L n = let q = after false z R L n in record { dist_is = ap (λ (t : Tree). t.dist) q; via_is = ap (λ (t : Tree). t.via) q }
 
     pub search_ends : length d ≤ k → Searched H list starts c p d₀ w₀ d w
     unfolding search
     search_ends le R L n =
         let q : tree d w I.flag ≡ search R c (nodes R.net) (tree d₀ w₀ false)
-        = ap (λ (j : ℕ). search R c j (tree d w I.flag)) (let x : 0 ≡ length d₀ - k = let a = I.dist-length in omega arith in x) ∙ I.same R L n in
-        record { dist-is = ap (λ (t : Tree). t.dist) q; via-is = ap (λ (t : Tree). t.via) q }
+        = ap (λ (j : ℕ). search R c j (tree d w I.flag)) (let x : 0 ≡ length d₀ - k = let a = I.dist_length in omega arith in x) ∙ I.same R L n in
+        record { dist_is = ap (λ (t : Tree). t.dist) q; via_is = ap (λ (t : Tree). t.via) q }

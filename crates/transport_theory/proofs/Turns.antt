@@ -36,11 +36,11 @@ unset_large = let l : 2176 < 18446744073709551615 = lit< tt in omega arith
 
 module _ {N : Net} {w p : List ℕ} {c : List Float} (M : Movable N w c p) {q : List ℕ} {home : Bool} {n : ℕ} (W : Walked N w q home n) where
   pub move_placed : Placed c q n
-  move_placed = path_placed N w q home n c W M.caps-size M.route-in
+  move_placed = path_placed N w q home n c W M.caps_size M.route_in
 
   move_ships : (x : Float) (k : ℕ) → move N false w (shipment c x k) ≡ ship (home && not (le (least c x (take n q)) eps)) (least c x (take n q)) (take n q) (shipment c x k)
   unfolding move
-  move_ships x k = rw (W.path-is, W.home-is)
+  move_ships x k = rw (W.path_is, W.home_is)
 
   -- the path does not come from the source
   pub move_cycle : home ≡ false → (x : Float) → Moved N w c x false x c
@@ -71,28 +71,28 @@ module _ {R : Roads} {starts list : List ℕ} {c d : List Float} {w p : List ℕ
   d₁ = set d N.source nought
 
   d₁_size : length d₁ ≡ nodes N
-  d₁_size = length-set d N.source nought ∙ ap length P.dist-is ∙ length-replicate (nodes N) (inf false)
+  d₁_size = length-set d N.source nought ∙ ap length P.dist_is ∙ length-replicate (nodes N) (inf false)
 
   -- a link and a distance for each node
   pub round_sizes : length w ≡ length d
-  round_sizes = ap length P.via-is ∙ length-replicate (nodes N) unset ∙ sym (ap length P.dist-is ∙ length-replicate (nodes N) (inf false))
+  round_sizes = ap length P.via_is ∙ length-replicate (nodes N) unset ∙ sym (ap length P.dist_is ∙ length-replicate (nodes N) (inf false))
 
   pub source_in : N.source < length d
-  source_in = rw (P.dist-is, length-replicate (nodes N) (inf false)) P.base.good.source_in
+  source_in = rw (P.dist_is, length-replicate (nodes N) (inf false)) P.base.good.source_in
 
   pub round_passable : Passable N.heads list starts c R.cost d₁ w
   round_passable = record {
     roads = R;
     laid = L;
-    caps-size = P.base.caps-size;
-    costs-size = P.base.costs-size;
-    dist-size = d₁_size;
-    via-size = ap length P.via-is ∙ length-replicate (nodes N) unset ∙ sym d₁_size;
+    caps_size = P.base.caps_size;
+    costs_size = P.base.costs_size;
+    dist_size = d₁_size;
+    via_size = ap length P.via_is ∙ length-replicate (nodes N) unset ∙ sym d₁_size;
   }
 
   module _ {d' : List Float} {w' : List ℕ} (F : Searched N.heads list starts c R.cost d₁ w d' w') where
     begins : tree d₁ w false ≡ sprout N
-    begins = rw (P.dist-is, P.via-is)
+    begins = rw (P.dist_is, P.via_is)
 
     found : Found (shortest R c) d' w'
     unfolding shortest
@@ -105,15 +105,15 @@ module _ {R : Roads} {starts list : List ℕ} {c d : List Float} {w p : List ℕ
     grown = shortest_grown R P.base.good small c
 
     pub sink_dist : N.sink < length d'
-    sink_dist = let s = grown.dist-size in let q = ap length found.dist-is in let t = P.base.sink-in in omega arith
+    sink_dist = let s = grown.dist_size in let q = ap length found.dist_is in let t = P.base.sink_in in omega arith
 
     sink_far : (b : Bool) → infinite (get_or d' N.sink nan) ≡ b → infinite (far (shortest R c) N.sink) ≡ b
-    sink_far b h = ap (λ (l : List Float). infinite (get_or l N.sink nan)) (sym found.dist-is) ∙ h
+    sink_far b h = ap (λ (l : List Float). infinite (get_or l N.sink nan)) (sym found.dist_is) ∙ h
 
     turn_is : (b : Bool) → infinite (get_or d' N.sink nan) ≡ b → (x : Float) (k : ℕ) → turn R (shipment c x k) ≡ move N b w' (shipment c x k)
     unfolding turn
     turn_is b h x k =
-        ap (λ (s : Bool). move N s (shortest R c).via (shipment c x k)) (sink_far b h) ∙ ap (λ (l : List ℕ). move N b l (shipment c x k)) (sym found.via-is)
+        ap (λ (s : Bool). move N s (shortest R c).via (shipment c x k)) (sink_far b h) ∙ ap (λ (l : List ℕ). move N b l (shipment c x k)) (sym found.via_is)
 
     -- the sink is not reached
     pub round_lost : infinite (get_or d' N.sink nan) ≡ true → (x : Float) → Turned R c x false x c
@@ -122,7 +122,7 @@ module _ {R : Roads} {starts list : List ℕ} {c d : List Float} {w p : List ℕ
 
     module _ (h : infinite (get_or d' N.sink nan) ≡ false) where
       reached : Reached N (shortest R c) N.sink
-      reached = grown.rooted N.sink P.base.sink-in (sink_far false h)
+      reached = grown.rooted N.sink P.base.sink_in (sink_far false h)
 
       rev_links : (e : ℕ) → e < links N → rev e < links N
       rev_links e l = let a = P.base.good.pairs in let i = rev_in e P.base.good.added (omega arith) in omega arith
@@ -131,19 +131,19 @@ module _ {R : Roads} {starts list : List ℕ} {c d : List Float} {w p : List ℕ
       walkable = record {
         back = λ v i r n.
             let s = walk_step R P.base.good small c (shortest R c) v grown i r n in
-            record { link-in = s.0; rev_in = rev_links _ s.0; node_in = s.1; reached = s.2 };
-        sink-in = P.base.sink-in;
+            record { link_in = s.0; rev_in = rev_links _ s.0; node_in = s.1; reached = s.2 };
+        sink_in = P.base.sink_in;
         reached = reached;
-        size = grown.via-size;
+        size = grown.via_size;
         room = P.room;
         few = P.base.laid.places;
       }
 
       pub round_movable : Movable N w' c p
-      round_movable = subst⁻¹ (λ (l : List ℕ). Movable N l c p) found.via-is (record {
+      round_movable = subst⁻¹ (λ (l : List ℕ). Movable N l c p) found.via_is (record {
         walkable = walkable;
-        caps-size = P.base.caps-size;
-        route_in = λ e i. let l = route_in R P.base.good small c (shortest R c) grown (suc (nodes N)) N.sink P.base.sink-in reached e i in (l, rev_links e l);
+        caps_size = P.base.caps_size;
+        route_in = λ e i. let l = route_in R P.base.good small c (shortest R c) grown (suc (nodes N)) N.sink P.base.sink_in reached e i in (l, rev_links e l);
       })
 
       pub round_moved : (b : Bool) (x y : Float) (e : List Float) → Moved N w' c x b y e → Turned R c x b y e
@@ -177,8 +177,8 @@ module _ (H : List ℕ) (prices : List Float) (n s t : ℕ) {starts list : List 
   round_ready far z = subst⁻¹ (λ (m : ℕ). RoundReady (row_roads H prices m s t) starts list c (take n (replicate 66 far)) (take n (replicate 66 18446744073709551615)) (replicate 67 0)) (fresh_size far)
       (record {
         base = B;
-        dist-is = ap (λ (x : Float). take n (replicate 66 x)) z ∙ made (inf false);
-        via-is = made 18446744073709551615;
+        dist_is = ap (λ (x : Float). take n (replicate 66 x)) z ∙ made (inf false);
+        via_is = made 18446744073709551615;
         room = let a = B.laid.places in omega arith;
       })
 
@@ -204,11 +204,11 @@ module _ {R : Roads} {much : Float} {most : ℕ} {c₀ : List Float} {x₀ : Flo
 
   module _ {starts list : List ℕ} (B : Sailable R starts list c₀) where
     pub ship_ready : {c : List Float} {x : Float} {k : ℕ} → Shipping R much most c₀ x₀ c x k → Sailable R starts list c
-    ship_ready I = record { good = B.good; laid = B.laid; sink-in = B.sink-in; caps-size = I.size ∙ B.caps-size; costs-size = B.costs-size; small = B.small }
+    ship_ready I = record { good = B.good; laid = B.laid; sink_in = B.sink_in; caps_size = I.size ∙ B.caps_size; costs_size = B.costs_size; small = B.small }
 
   module _ {c : List Float} {x : Float} {k : ℕ} (I : Shipping R much most c₀ x₀ c x k) where
     told : (s : Shipment) → s ≡ rounds R much most (shipment c₀ x₀ 0) → Shipped (rounds R much most (shipment c₀ x₀ 0)) s.remaining s.cap
-    told s q = record { remaining-is = ap (λ (r : Shipment). r.remaining) q; cap-is = ap (λ (r : Shipment). r.cap) q }
+    told s q = record { remaining_is = ap (λ (r : Shipment). r.remaining) q; cap_is = ap (λ (r : Shipment). r.cap) q }
 
     -- all rounds are made
     pub ship_most : most ≤ k → Shipped (rounds R much most (shipment c₀ x₀ 0)) x c

@@ -40,7 +40,7 @@ module _ (H : List ℕ) (k s t : ℕ) {w p₀ : List ℕ} (W : Walkable (network
   N = network H k s t
 
   pub walk_starts : Walking N w p₀ p₀ t 0
-  walk_starts = record { upto = omega arith; here = W.sink-in; reached = W.reached; size = refl; route_is = ap (λ (j : ℕ). route N w j t) all; ends_is = ap (λ (j : ℕ). ends N w j t) all }
+  walk_starts = record { upto = omega arith; here = W.sink_in; reached = W.reached; size = refl; route_is = ap (λ (j : ℕ). route N w j t) all; ends_is = ap (λ (j : ℕ). ends N w j t) all }
     where
       all : suc (nodes N) - 0 ≡ suc (nodes N)
       all = omega arith
@@ -60,10 +60,10 @@ module _ (H : List ℕ) (k s t : ℕ) {w p₀ : List ℕ} (W : Walkable (network
       step = W.back v I.here I.reached away
 
       pub e_in : e < length H
-      e_in = step.link-in
+      e_in = step.link_in
 
       pub back_in : bit_xor e 1 < length H
-      back_in = rw (rev_xor e) step.rev-in
+      back_in = rw (rev_xor e) step.rev_in
 
       module _ (more : n ≤ length w) where
         pub path_room : n < length p
@@ -83,7 +83,7 @@ module _ (H : List ℕ) (k s t : ℕ) {w p₀ : List ℕ} (W : Walkable (network
                   ap (λ (l : List ℕ). l ++ route N w (suc (nodes N) - (n + 1)) (tail N e)) (ap (λ (j : ℕ). take j (set p n e)) (add-one n) ∙ take-suc-set p n e path_room)
                   ∙ assoc (take n p) e (route N w (suc (nodes N) - (n + 1)) (tail N e))
                   ∙ ap (λ (l : List ℕ). take n p ++ l) (sym (ap (λ (j : ℕ). route N w j v) q ∙ route_step N w (suc (nodes N) - (n + 1)) v away))
-                  ∙ I.route-is;
+                  ∙ I.route_is;
               ends_is = sym (ap (λ (j : ℕ). ends N w j v) q ∙ ends_step N w (suc (nodes N) - (n + 1)) v away) ∙ I.ends_is;
             })
           where
@@ -100,25 +100,25 @@ module _ (H : List ℕ) (k s t : ℕ) {w p₀ : List ℕ} (W : Walkable (network
           let q : suc (nodes N) - n ≡ 0 = omega arith in
           record {
             within = let b = I.size in let d = W.room in omega arith;
-            path-is = sym (append-nil (take n p)) ∙ ap (λ (j : ℕ). take n p ++ route N w j v) (sym q) ∙ I.route-is;
-            home-is = sym (ne_eqb (ends N w (suc (nodes N)) t) s (λ x. away (ap (λ (j : ℕ). ends N w j v) (sym q) ∙ I.ends_is ∙ x)));
+            path_is = sym (append-nil (take n p)) ∙ ap (λ (j : ℕ). take n p ++ route N w j v) (sym q) ∙ I.route_is;
+            home_is = sym (ne_eqb (ends N w (suc (nodes N)) t) s (λ x. away (ap (λ (j : ℕ). ends N w j v) (sym q) ∙ I.ends_is ∙ x)));
           }
 
     pub walk_home : v ≡ s → Walked N w p true n
     walk_home x = record {
       within = let a = I.upto in let b = I.size in let d = W.room in omega arith;
-      path-is = sym (append-nil (take n p)) ∙ ap (λ (l : List ℕ). take n p ++ l) (sym (route_home N w (suc (nodes N) - n) v x)) ∙ I.route-is;
-      home-is = sym (eq-eqb (ends N w (suc (nodes N)) t) s (sym I.ends_is ∙ ends_home N w (suc (nodes N) - n) v x ∙ x));
+      path_is = sym (append-nil (take n p)) ∙ ap (λ (l : List ℕ). take n p ++ l) (sym (route_home N w (suc (nodes N) - n) v x)) ∙ I.route_is;
+      home_is = sym (eq-eqb (ends N w (suc (nodes N)) t) s (sym I.ends_is ∙ ends_home N w (suc (nodes N) - n) v x ∙ x));
     }
 
 -- the links of the path, and their reverses, are there
 pub path_placed : (N : Net) (w p : List ℕ) (home : Bool) (n : ℕ) (c : List Float) → Walked N w p home n → length c ≡ links N
     → ((e : ℕ) → In e (route N w (suc (nodes N)) N.sink) → (e < links N) × (rev e < links N)) → Placed c p n
-path_placed N w p home n c W size inn = record { within = W.within; link-in = λ i h. rw size (each i h).0; rev-in = λ i h. rw size (each i h).1 }
+path_placed N w p home n c W size inn = record { within = W.within; link_in = λ i h. rw size (each i h).0; rev_in = λ i h. rw size (each i h).1 }
   where
     each : (i : ℕ) → i < n → (get_or p i 0 < links N) × (rev (get_or p i 0) < links N)
     each i h = subst (λ (x : ℕ). (x < links N) × (rev x < links N)) (get_or-take n p i 0 h)
-        (inn (get_or (take n p) i 0) (subst (In (get_or (take n p) i 0)) W.path-is (in_at (take n p) i 0 (let l = length-take-le n p W.within in omega arith))))
+        (inn (get_or (take n p) i 0) (subst (In (get_or (take n p) i 0)) W.path_is (in_at (take n p) i 0 (let l = length-take-le n p W.within in omega arith))))
 
 -- ---- the least of what remains and the capacities on the path
 

@@ -1,4 +1,6 @@
 // `transport` as a definition (specs/) and its laws (proofs/).
+#![tactic(auto)]
+
 ghost use Rattle.std.specs.Prelude.{◌≡◌};
 ghost use Rattle.transport_theory.specs.Shortest.{infinite};
 

@@ -13,16 +13,16 @@ abbrev decreases-loop : tie.decreases-loop
 decreases-loop buf₀ counts₀ store₀ r₀ turns₀ buf counts store r turns = 1000000 - turns
 
 start-requires : tie.Need-start-requires invariant-loop decreases-loop
-start-requires c κs = search rules
+start-requires c = search rules
 
 loop-holds : tie.Need-loop-init invariant-loop decreases-loop
 loop-holds c = search rules
 
 at-end-requires : tie.Need-at-end-requires invariant-loop decreases-loop
-at-end-requires c κs = search rules
+at-end-requires c = search rules
 
 run-case-requires : tie.Need-run-case-requires invariant-loop decreases-loop
-run-case-requires c κs = search rules
+run-case-requires c = search rules
 
 add-turns : tie.Need-overflow-add-turns invariant-loop decreases-loop
 add-turns c = search rules

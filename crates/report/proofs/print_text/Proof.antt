@@ -12,7 +12,7 @@ slice-aggregate-write-all : tie.Need-slice-aggregate-write-all
 slice-aggregate-write-all c = simp length-take (omega arith)
 
 write-all-requires : tie.Need-write-all-requires
-write-all-requires c κs = search rules
+write-all-requires c = search rules
 
 enum_told : tie.Need-enum-told
 enum_told c = search rules

@@ -11,7 +11,7 @@ slice-aggregate-report : tie.Need-slice-aggregate-report
 slice-aggregate-report c = sym (length-take-le _ _ (let p = c.before.before.before.requires in let n = p.0 in let k = p.1 in omega arith))
 
 report-requires : tie.Need-report-requires
-report-requires c κs = search rules
+report-requires c = search rules
 
 same_length : tie.Need-same-length
 same_length c = search rules

@@ -29,13 +29,13 @@ array-copy-out-b : tie.Need-array-copy-out-b invariant-loop decreases-loop
 array-copy-out-b c = search rules
 
 same-ends-requires : tie.Need-same-ends-requires invariant-loop decreases-loop
-same-ends-requires c κs = search rules
+same-ends-requires c = search rules
 
 returns : tie.Need-returns invariant-loop decreases-loop
 returns c = search rules
 
 alike-requires : tie.Need-alike-requires invariant-loop decreases-loop
-alike-requires c κs = search rules
+alike-requires c = search rules
 
 returns-2 : tie.Need-returns-2 invariant-loop decreases-loop
 returns-2 c = search rules

@@ -8,15 +8,15 @@ use Rattle.replay_measures.proofs.scratch.codes_marked.Statement.{statement}
 use Rattle.replay_measures.proofs.scratch.codes_marked.Tie as tie
 
 mark-codes-requires : tie.Need-mark-codes-requires
-mark-codes-requires c κs = search rules
+mark-codes-requires c = search rules
 
 codes-front-mut-requires : tie.Need-codes-front-mut-requires
-codes-front-mut-requires c κs = search rules
+codes-front-mut-requires c = search rules
 
 returns : tie.Need-returns
 returns c =
-    c.codes-front-mut.ensures
-    ∙ ap (λ (l : List ℕ). take c.before.before.before.before.before.before.args.n l) c.before.before.before.mark-codes.ensures
+    c.codes_front_mut.ensures
+    ∙ ap (λ (l : List ℕ). take c.before.before.before.before.before.before.args.n l) c.before.before.before.mark_codes.ensures
 
 pub codes_marked_spec : {M : Type 1} → statement M
 codes_marked_spec = tie.close (tie.spec mark-codes-requires codes-front-mut-requires returns)

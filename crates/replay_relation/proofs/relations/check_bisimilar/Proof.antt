@@ -4,22 +4,22 @@ use Rattle.replay_relation.proofs.relations.check_bisimilar.Statement.{statement
 use Rattle.replay_relation.proofs.relations.check_bisimilar.Tie as tie
 
 fill-requires : tie.Need-fill-requires
-fill-requires c κs = search rules
+fill-requires c = search rules
 
 epsdelta-bisimilar-requires : tie.Need-epsdelta-bisimilar-requires
-epsdelta-bisimilar-requires c κs = search rules
+epsdelta-bisimilar-requires c = search rules
 
 of-verdict-requires : tie.Need-of-verdict-requires
-of-verdict-requires c κs = search rules
+of-verdict-requires c = search rules
 
 expect-one-requires : tie.Need-expect-one-requires
-expect-one-requires c κs = search rules
+expect-one-requires c = search rules
 
 expect-requires : tie.Need-expect-requires
-expect-requires c κs = search rules
+expect-requires c = search rules
 
 count-requires : tie.Need-count-requires
-count-requires c κs = search rules
+count-requires c = search rules
 
 same_length : tie.Need-same-length
 same_length c = search (rules, c.before.before.before.before.before.before.before.before.before.lent2.given, c.before.before.before.before.before.before.before.before.before.before.before.before.before.lent.given)

@@ -16,7 +16,7 @@ loop-holds : tie.Need-loop-init invariant-loop decreases-loop
 loop-holds c = search rules
 
 byte-at-requires : tie.Need-byte-at-requires invariant-loop decreases-loop
-byte-at-requires c κs = search rules
+byte-at-requires c = search rules
 
 slice-write-store : tie.Need-slice-write-store invariant-loop decreases-loop
 slice-write-store c = search rules

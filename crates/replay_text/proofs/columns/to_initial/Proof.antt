@@ -8,7 +8,7 @@ returns : tie.Need-returns
 returns c = search rules
 
 narrow-requires : tie.Need-narrow-requires
-narrow-requires c κs = search rules
+narrow-requires c = search rules
 
 returns-2 : tie.Need-returns-2
 returns-2 c = λ e. absurd (omega arith)

@@ -13,10 +13,10 @@ abbrev decreases-loop : tie.decreases-loop
 decreases-loop buf₀ xs s₀ i₀ buf s i = length xs - i
 
 name-requires : tie.Need-name-requires invariant-loop decreases-loop
-name-requires c κs = search rules
+name-requires c = search rules
 
 expect-requires : tie.Need-expect-requires invariant-loop decreases-loop
-expect-requires c κs = search rules
+expect-requires c = search rules
 
 loop-holds : tie.Need-loop-init invariant-loop decreases-loop
 loop-holds c = search rules
@@ -25,13 +25,13 @@ shared-slice-read-wide : tie.Need-shared-slice-read-wide invariant-loop decrease
 shared-slice-read-wide c = search rules
 
 wide-requires : tie.Need-wide-requires invariant-loop decreases-loop
-wide-requires c κs = search rules
+wide-requires c = search rules
 
 long-requires : tie.Need-long-requires invariant-loop decreases-loop
-long-requires c κs = search rules
+long-requires c = search rules
 
 expect-pair-requires : tie.Need-expect-pair-requires invariant-loop decreases-loop
-expect-pair-requires c κs = search rules
+expect-pair-requires c = search rules
 
 add-i : tie.Need-overflow-add-i invariant-loop decreases-loop
 add-i c = search rules
@@ -43,7 +43,7 @@ loop-again : tie.Need-loop-preserved invariant-loop decreases-loop
 loop-again c = search rules
 
 closed-requires : tie.Need-closed-requires invariant-loop decreases-loop
-closed-requires c κs = search rules
+closed-requires c = search rules
 
 returns : tie.Need-returns invariant-loop decreases-loop
 returns c = search rules

@@ -14,19 +14,19 @@ abbrev decreases-loop : tie.decreases-loop
 decreases-loop buf₀ out₀ n s₀ i₀ buf out s i = n - i
 
 number-field-requires : tie.Need-number-field-requires invariant-loop decreases-loop
-number-field-requires c κs = search rules
+number-field-requires c = search rules
 
 sized-requires : tie.Need-sized-requires invariant-loop decreases-loop
-sized-requires c κs = search rules
+sized-requires c = search rules
 
 loop-holds : tie.Need-loop-init invariant-loop decreases-loop
 loop-holds c = search rules
 
 pair-requires : tie.Need-pair-requires invariant-loop decreases-loop
-pair-requires c κs = search rules
+pair-requires c = search rules
 
 byte-requires : tie.Need-byte-requires invariant-loop decreases-loop
-byte-requires c κs = search rules
+byte-requires c = search rules
 
 slice-write-out : tie.Need-slice-write-out invariant-loop decreases-loop
 slice-write-out c = search rules
@@ -41,7 +41,7 @@ loop-again : tie.Need-loop-preserved invariant-loop decreases-loop
 loop-again c = search rules
 
 closed-requires : tie.Need-closed-requires invariant-loop decreases-loop
-closed-requires c κs = search rules
+closed-requires c = search rules
 
 same_length : tie.Need-same-length invariant-loop decreases-loop
 same_length c = search rules

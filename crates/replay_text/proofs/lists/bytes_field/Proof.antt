@@ -14,19 +14,19 @@ abbrev decreases-loop : tie.decreases-loop
 decreases-loop buf₀ out₀ n s₀ i₀ buf out s i = n - i
 
 number-field-requires : tie.Need-number-field-requires invariant-loop decreases-loop
-number-field-requires c κs = search rules
+number-field-requires c = search rules
 
 sized-requires : tie.Need-sized-requires invariant-loop decreases-loop
-sized-requires c κs = search rules
+sized-requires c = search rules
 
 loop-holds : tie.Need-loop-init invariant-loop decreases-loop
 loop-holds c = search rules
 
 short-requires : tie.Need-short-requires invariant-loop decreases-loop
-short-requires c κs = search rules
+short-requires c = search rules
 
 byte-requires : tie.Need-byte-requires invariant-loop decreases-loop
-byte-requires c κs = search rules
+byte-requires c = search rules
 
 slice-write-out : tie.Need-slice-write-out invariant-loop decreases-loop
 slice-write-out c = search rules

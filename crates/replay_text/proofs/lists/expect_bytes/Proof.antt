@@ -14,10 +14,10 @@ abbrev decreases-loop : tie.decreases-loop
 decreases-loop buf₀ xs s₀ i₀ buf s i = length xs - i
 
 name-requires : tie.Need-name-requires invariant-loop decreases-loop
-name-requires c κs = search rules
+name-requires c = search rules
 
 expect-requires : tie.Need-expect-requires invariant-loop decreases-loop
-expect-requires c κs = search rules
+expect-requires c = search rules
 
 loop-holds : tie.Need-loop-init invariant-loop decreases-loop
 loop-holds c = search rules
@@ -26,13 +26,13 @@ shared-slice-read-wide : tie.Need-shared-slice-read-wide invariant-loop decrease
 shared-slice-read-wide c = search rules
 
 wide-requires : tie.Need-wide-requires invariant-loop decreases-loop
-wide-requires c κs = search rules
+wide-requires c = search rules
 
 long-requires : tie.Need-long-requires invariant-loop decreases-loop
-long-requires c κs = search rules
+long-requires c = search rules
 
 expect-requires-2 : tie.Need-expect-requires-2 invariant-loop decreases-loop
-expect-requires-2 c κs = search rules
+expect-requires-2 c = search rules
 
 add-i : tie.Need-overflow-add-i invariant-loop decreases-loop
 add-i c = search rules

@@ -14,10 +14,10 @@ abbrev decreases-loop : tie.decreases-loop
 decreases-loop buf₀ xs s₀ i₀ buf s i = length xs - i
 
 name-requires : tie.Need-name-requires invariant-loop decreases-loop
-name-requires c κs = search rules
+name-requires c = search rules
 
 expect-requires : tie.Need-expect-requires invariant-loop decreases-loop
-expect-requires c κs = search rules
+expect-requires c = search rules
 
 loop-holds : tie.Need-loop-init invariant-loop decreases-loop
 loop-holds c = search rules
@@ -29,7 +29,7 @@ shared-slice-read-expect-real : tie.Need-shared-slice-read-expect-real invariant
 shared-slice-read-expect-real c = search rules
 
 expect-real-requires : tie.Need-expect-real-requires invariant-loop decreases-loop
-expect-real-requires c κs = search rules
+expect-real-requires c = search rules
 
 add-i : tie.Need-overflow-add-i invariant-loop decreases-loop
 add-i c = search rules

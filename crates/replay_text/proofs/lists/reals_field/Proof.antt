@@ -14,16 +14,16 @@ abbrev decreases-loop : tie.decreases-loop
 decreases-loop buf₀ out₀ n s₀ i₀ buf out s i = n - i
 
 number-field-requires : tie.Need-number-field-requires invariant-loop decreases-loop
-number-field-requires c κs = search rules
+number-field-requires c = search rules
 
 sized-requires : tie.Need-sized-requires invariant-loop decreases-loop
-sized-requires c κs = search rules
+sized-requires c = search rules
 
 loop-holds : tie.Need-loop-init invariant-loop decreases-loop
 loop-holds c = search rules
 
 real-requires : tie.Need-real-requires invariant-loop decreases-loop
-real-requires c κs = search rules
+real-requires c = search rules
 
 mul-out : tie.Need-overflow-mul-out invariant-loop decreases-loop
 mul-out c = search rules

@@ -4,13 +4,13 @@ use Rattle.replay_text.proofs.tally.count.Statement.{statement}
 use Rattle.replay_text.proofs.tally.count.Tie as tie
 
 agrees-requires : tie.Need-agrees-requires
-agrees-requires c κs = search rules
+agrees-requires c = search rules
 
 tally-requires : tie.Need-tally-requires
-tally-requires c κs = search rules
+tally-requires c = search rules
 
 marked-requires : tie.Need-marked-requires
-marked-requires c κs = search rules
+marked-requires c = search rules
 
 returns : tie.Need-returns
 returns c = (cc, search rules)

@@ -8,16 +8,16 @@ use Rattle.replay_text.proofs.tally.tally.Statement.{statement}
 use Rattle.replay_text.proofs.tally.tally.Tie as tie
 
 place-requires : tie.Need-place-requires
-place-requires c κs = search rules
+place-requires c = search rules
 
 one-more-requires : tie.Need-one-more-requires
-one-more-requires c κs = search rules
+one-more-requires c = search rules
 
 place-requires-2 : tie.Need-place-requires-2
-place-requires-2 c κs = search rules
+place-requires-2 c = search rules
 
 one-more-requires-2 : tie.Need-one-more-requires-2
-one-more-requires-2 c κs = search rules
+one-more-requires-2 c = search rules
 
 -- one more at each of two places
 twice : (l l₁ l₂ : List ℕ) (i j i' j' : ℕ) → l₁ ≡ more l i → l₂ ≡ more l₁ j → i ≡ i' → j ≡ j' → l₂ ≡ more (more l i') j'

@@ -10,10 +10,10 @@ returns : tie.Need-returns
 returns c = ((λ e. let z : ◌≡◌ {A = ℕ} 0 1 = cc in omega arith), search rules)
 
 raised-requires : tie.Need-raised-requires
-raised-requires c κs = search rules
+raised-requires c = search rules
 
 marked-requires : tie.Need-marked-requires
-marked-requires c κs = search rules
+marked-requires c = search rules
 
 returns-2 : tie.Need-returns-2
 returns-2 c =

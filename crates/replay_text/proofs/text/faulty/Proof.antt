@@ -5,10 +5,10 @@ use Rattle.replay_text.proofs.text.faulty.Statement.{statement}
 use Rattle.replay_text.proofs.text.faulty.Tie as tie
 
 raised-requires : tie.Need-raised-requires
-raised-requires c κs = search rules
+raised-requires c = search rules
 
 marked-requires : tie.Need-marked-requires
-marked-requires c κs = search rules
+marked-requires c = search rules
 
 returns : tie.Need-returns
 returns c =

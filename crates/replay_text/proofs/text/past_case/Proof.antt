@@ -17,10 +17,10 @@ loop-holds : tie.Need-loop-init invariant-loop decreases-loop
 loop-holds c = search rules
 
 within-line-requires : tie.Need-within-line-requires invariant-loop decreases-loop
-within-line-requires c κs = search rules
+within-line-requires c = search rules
 
 past-line-requires : tie.Need-past-line-requires invariant-loop decreases-loop
-past-line-requires c κs = search rules
+past-line-requires c = search rules
 
 add-turns : tie.Need-overflow-add-turns invariant-loop decreases-loop
 add-turns c = search rules
@@ -32,7 +32,7 @@ loop-again : tie.Need-loop-preserved invariant-loop decreases-loop
 loop-again c = search rules
 
 advance-requires : tie.Need-advance-requires invariant-loop decreases-loop
-advance-requires c κs = search rules
+advance-requires c = search rules
 
 returns : tie.Need-returns invariant-loop decreases-loop
 returns c = search rules

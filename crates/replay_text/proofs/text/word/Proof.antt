@@ -17,13 +17,13 @@ loop-holds : tie.Need-loop-init invariant-loop decreases-loop
 loop-holds c = search rules
 
 within-word-requires : tie.Need-within-word-requires invariant-loop decreases-loop
-within-word-requires c κs = search rules
+within-word-requires c = search rules
 
 lettered-requires : tie.Need-lettered-requires invariant-loop decreases-loop
-lettered-requires c κs = search rules
+lettered-requires c = search rules
 
 advance-requires : tie.Need-advance-requires invariant-loop decreases-loop
-advance-requires c κs = search rules
+advance-requires c = search rules
 
 add-size : tie.Need-overflow-add-size invariant-loop decreases-loop
 add-size c = search rules
@@ -35,7 +35,7 @@ loop-again : tie.Need-loop-preserved invariant-loop decreases-loop
 loop-again c = search rules
 
 ended-requires : tie.Need-ended-requires invariant-loop decreases-loop
-ended-requires c κs = search rules
+ended-requires c = search rules
 
 returns : tie.Need-returns invariant-loop decreases-loop
 returns c = search rules

@@ -1,0 +1,23 @@
+-- The count given comes first; then `plan_in` is called, with work space for few or for as many as there may be, and its outcome is that of the call.
+use native.Mathlib.Omega.{arith}
+use lib.ListN.{get_or-replicate}
+use Rattle.bisim_core.specs.Data.{transitions}
+use Rattle.build_theory.proofs.Plan.{lists}
+use Rattle.bisim_edges.proofs.Plans.{too_many}
+use Rattle.bisim_edges.proofs.planner.plan.Goals as goal
+
+pub returns-then-given-gt4096 : goal.returns-then-given-gt4096
+returns-then-given-gt4096 c = let s = c in
+    too_many (record { states = s.args.states; initial = s.args.initial; C = transitions s.args.sources.now s.args.labels.now s.args.targets.now s.args.weights.now; given = s.args.given; short = s.args.short; M = lists s.args.label_values-1.now s.args.triples-1.now s.args.edge_weights-1.now }) c.if-given-gt4096.true
+
+pub plan_in-requires : goal.plan_in-requires
+plan_in-requires c = (c.if-given-gt4096.false, c.if-given-le256.true, λ j h. get_or-replicate 256 j 0 0 (let l = c.if-given-le256.true in omega arith))
+
+pub returns-then-given-le256 : goal.returns-then-given-le256
+returns-then-given-le256 c = c.plan_in.ensures
+
+pub plan_in-requires-2 : goal.plan_in-requires-2
+plan_in-requires-2 c = (c.if-given-gt4096.false, c.if-given-gt4096.false, λ j h. get_or-replicate 4096 j 0 0 (let l = c.if-given-gt4096.false in omega arith))
+
+pub returns : goal.returns
+returns c = c.plan_in-2.ensures

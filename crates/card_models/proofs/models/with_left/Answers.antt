@@ -1,0 +1,15 @@
+-- By the case of the right model.
+use Rattle.card_models.proofs.Cases.{with_model, with_refused}
+use Rattle.card_models.proofs.models.with_left.Goals as goal
+
+pub returns-in-Model : goal.returns-in-Model
+returns-in-Model c =
+    let a = c.args in
+    let g = c.right-1.given in
+    with_model a.a g.0.0 a.right-1 g.1
+
+pub returns-in-Refused : goal.returns-in-Refused
+returns-in-Refused c =
+    let a = c.args in
+    let g = c.right-in-Refused-1.given in
+    with_refused a.a g.0.0 a.right-1 g.1

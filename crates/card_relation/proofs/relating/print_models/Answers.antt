@@ -1,0 +1,23 @@
+-- `relating::print_models` meets its contract: what `epsdelta` ends with is the definition's, and `finish` prints it.
+use lib.ListN.{replicate}
+use Rattle.bisim_core.specs.Data.{columns}
+use Rattle.epsdelta_theory.specs.Refusal.{epsdelta_refusal}
+use Rattle.epsdelta_theory.specs.Epsdelta.{given}
+use Rattle.epsdelta_theory.specs.Claim.{final}
+use Rattle.card_relation.proofs.Relates.{retold, final_length, same_relation}
+use Rattle.card_relation.proofs.relating.print_models.Goals as goal
+
+pub returns : goal.returns
+returns c =
+    let a = c.args in
+    let p = c.requires in
+    let SL = a.left in
+    let ML = columns a.left_values.now a.left_offsets.now a.left_labels.now a.left_targets.now a.left_weights.now in
+    let SR = a.right in
+    let MR = columns a.right_values.now a.right_offsets.now a.right_labels.now a.right_targets.now a.right_weights.now in
+    let cl = a.left_classes.now in
+    let cr = a.right_classes.now in
+    let x = c.parts.result in
+    let y = c.parts-2.result in
+    retold (same_relation SL ML SR MR cl cr a.epsilon a.rho c.parts.ensures c.parts-2.ensures p.0 p.1)
+    (c.finish.ensures (epsdelta_refusal SL ML SR MR cl cr x y 512) (replicate 512 0) (final (given SL ML SR MR cl cr x y)) c.epsdelta-ended.ensures.0 (final_length SL ML SR MR cl cr x y))

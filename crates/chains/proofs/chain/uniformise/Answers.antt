@@ -1,0 +1,21 @@
+-- A refusal leaves the lists; else the model is accepted and no list is short, and what `lay` leaves is the chain.
+use Rattle.bisim_core.specs.Data.{Columns, columns}
+use Rattle.chain_theory.specs.Columns.{ChainColumns, chain_columns}
+use Rattle.chains.proofs.Answers.{enough, made, made_length, made_at, laid_is, answer_refused, ready_to, answer_made}
+use Rattle.chains.proofs.chain.uniformise.Goals as goal
+
+pub returns-then-refusal-ne0 : goal.returns-then-refusal-ne0
+returns-then-refusal-ne0 c =
+    answer_refused c.args.shape (given s) c.args.rate c.args.observations.now (lent s) _ c.uniformise_refusal-refusal.ensures c.if-refusal-ne0.true
+
+pub lay-chain-requires : goal.lay-chain-requires
+lay-chain-requires c =
+    enough (ready_to c.args.shape (given s) c.args.rate c.args.observations.now (lent s) _ c.uniformise_refusal-refusal.ensures c.if-refusal-ne0.false)
+
+pub returns : goal.returns
+returns c =
+    let S = c.args.shape in
+    let M = given s in
+    let q = c.args.rate in
+    answer_made S M q c.args.observations.now (lent s) _ c.uniformise_refusal-refusal.ensures c.if-refusal-ne0.false _
+    (laid_is S M q c.args.observations.now (lent s) _ _ _ _ _ _ _ c.start.ensures (c.lay_chain.ensures.0 c.args.label_values.now c.args.edge_labels.now (made S M q) (made_length S M q) (made_at S M q)) c.lay_chain.ensures.1)

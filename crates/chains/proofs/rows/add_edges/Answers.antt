@@ -1,0 +1,32 @@
+use mathlib.Core.Path.{sym, ◌∙◌}
+use mathlib.Core.Logic.{⊎_elim}
+use native.Mathlib.Omega.{arith}
+use Rattle.chains.proofs.Entries.{adding, turn_skip, turn_add, added}
+use Rattle.chains.proofs.rows.add_edges.Goals as goal
+
+pub loop-i-init : goal.loop-i-init
+loop-i-init c = adding _ _ _ _ _ _ _ _ c.requires.0
+
+pub loop-i-preserved : goal.loop-i-preserved
+loop-i-preserved c =
+    let h = c.loop-i-test.true in
+    let I = c.loop-i.invariant in
+    let e = c.wide.ensures in
+    let p = c.requires in
+    ⊎_elim
+    (λ w. turn_add I h p.3 p.4 (λ q. w.0.taken (e ∙ q)) _ _ _ w.4.kept.0 w.4.kept.1.0 w.4.ensures.0 _ _ _ w.9 w.10 w.11)
+    (λ w. turn_skip I h (sym e ∙ w.0.left) _ _ _ w.1 w.2 w.3)
+    c.if-wide-s.branch
+
+pub shape_of-targets : goal.shape_of-targets
+shape_of-targets c = c.loop-i.invariant.t_size
+
+pub shape_of-probs : goal.shape_of-probs
+shape_of-probs c = c.loop-i.invariant.p_size
+
+pub returns : goal.returns
+returns c =
+    let I = c.loop-i.invariant in
+    let h = c.loop-i-test.false in
+    let q = I.to in
+    (let f = I.few in let g = I.from in omega arith, added I (omega arith))

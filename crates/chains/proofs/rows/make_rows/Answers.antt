@@ -1,0 +1,110 @@
+use mathlib.Core.Path.{◌∙◌}
+use Prim.Native.Nat.{◌+◌, ◌≤◌, ◌<◌}
+use native.Mathlib.Omega.{arith}
+use lib.ListN.{length, length-set, set}
+use Rattle.chains.proofs.Rowing.{rowing, near, makeable, within, turn, rowed, Long, small}
+use Rattle.chains.proofs.rows.make_rows.Goals as goal
+
+pub loop-s-init : goal.loop-s-init
+loop-s-init c =
+    let h : 0 < length c.args.starts.now = let p = c.requires.1 in omega arith in
+    rowing _ _ _ _ _ c.args.starts.now _ _ h
+
+pub offset_bounds-targets-end : goal.offset_bounds-targets-end
+offset_bounds-targets-end c =
+    let next : (c.loop-s.end < length c.loop-s.targets-1) × (c.loop-s.end < length c.loop-s.probs-1) × (c.loop-s.end ≤ 6096) = let l = c in
+        let s = l in
+        let h = c.loop-s-test.true in
+        let q = near s.requires.0 (long s) l.loop-s.invariant h in
+        (q.0, q.1, small s.requires.0 (long s) l.loop-s.invariant h) in
+    let q = next in let e = q.2 in omega arith
+
+pub slice_bounds-make_row-count : goal.slice_bounds-make_row-count
+slice_bounds-make_row-count c =
+    let next : (c.loop-s.end < length c.loop-s.targets-1) × (c.loop-s.end < length c.loop-s.probs-1) × (c.loop-s.end ≤ 6096) = let l = c in
+        let s = l in
+        let h = c.loop-s-test.true in
+        let q = near s.requires.0 (long s) l.loop-s.invariant h in
+        (q.0, q.1, small s.requires.0 (long s) l.loop-s.invariant h) in
+    let q = next in let e = q.0 in omega arith
+
+pub slice_bounds-make_row-start : goal.slice_bounds-make_row-start
+slice_bounds-make_row-start c =
+    let next : (c.loop-s.end < length c.loop-s.targets-1) × (c.loop-s.end < length c.loop-s.probs-1) × (c.loop-s.end ≤ 6096) = let l = c in
+        let s = l in
+        let h = c.loop-s-test.true in
+        let q = near s.requires.0 (long s) l.loop-s.invariant h in
+        (q.0, q.1, small s.requires.0 (long s) l.loop-s.invariant h) in
+    let q = next in let e = q.0 in omega arith
+
+pub offset_bounds-probs-end : goal.offset_bounds-probs-end
+offset_bounds-probs-end c =
+    let next : (c.loop-s.end < length c.loop-s.targets-1) × (c.loop-s.end < length c.loop-s.probs-1) × (c.loop-s.end ≤ 6096) = let l = c in
+        let s = l in
+        let h = c.loop-s-test.true in
+        let q = near s.requires.0 (long s) l.loop-s.invariant h in
+        (q.0, q.1, small s.requires.0 (long s) l.loop-s.invariant h) in
+    let q = next in let e = q.2 in omega arith
+
+pub slice_bounds-make_row-count-in-loop-s : goal.slice_bounds-make_row-count-in-loop-s
+slice_bounds-make_row-count-in-loop-s c =
+    let next : (c.loop-s.end < length c.loop-s.targets-1) × (c.loop-s.end < length c.loop-s.probs-1) × (c.loop-s.end ≤ 6096) = let l = c in
+        let s = l in
+        let h = c.loop-s-test.true in
+        let q = near s.requires.0 (long s) l.loop-s.invariant h in
+        (q.0, q.1, small s.requires.0 (long s) l.loop-s.invariant h) in
+    let q = next in let e = q.1 in omega arith
+
+pub slice_bounds-make_row-start-in-loop-s : goal.slice_bounds-make_row-start-in-loop-s
+slice_bounds-make_row-start-in-loop-s c =
+    let next : (c.loop-s.end < length c.loop-s.targets-1) × (c.loop-s.end < length c.loop-s.probs-1) × (c.loop-s.end ≤ 6096) = let l = c in
+        let s = l in
+        let h = c.loop-s-test.true in
+        let q = near s.requires.0 (long s) l.loop-s.invariant h in
+        (q.0, q.1, small s.requires.0 (long s) l.loop-s.invariant h) in
+    let q = next in let e = q.1 in omega arith
+
+pub make_row-m-requires : goal.make_row-m-requires
+make_row-m-requires c =
+    let s = l in
+    makeable s.requires.0 (long s) c.loop-s.invariant c.loop-s-test.true _ _ c.wide-from.ensures c.wide-to.ensures
+
+pub overflow_add-end : goal.overflow_add-end
+overflow_add-end c =
+    let last : c.loop-s.end + c.make_row-m.result ≤ 6096 = let l = c in
+        let s = l in
+        within s.requires.0 (long s) l.loop-s.invariant c.loop-s-test.true _ _ c.wide-from.ensures c.wide-to.ensures _ c.make_row-m.ensures.0 in
+    let e = last in omega arith
+
+pub overflow_cast-starts : goal.overflow_cast-starts
+overflow_cast-starts c =
+    let last : c.loop-s.end + c.make_row-m.result ≤ 6096 = let l = c in
+        let s = l in
+        within s.requires.0 (long s) l.loop-s.invariant c.loop-s-test.true _ _ c.wide-from.ensures c.wide-to.ensures _ c.make_row-m.ensures.0 in
+    let e = last in omega arith
+
+pub bounds-starts-s : goal.bounds-starts-s
+bounds-starts-s c =
+    let s = l in
+    let h = c.loop-s-test.true in
+    let z = c.loop-s.invariant.s_size in
+    let g = (long s).0 in
+    omega arith
+
+pub loop-s-preserved : goal.loop-s-preserved
+loop-s-preserved c =
+    let s = l in
+    turn s.requires.0 (long s) c.loop-s.invariant c.loop-s-test.true _ _ c.wide-from.ensures c.wide-to.ensures _ _ _ c.make_row-m.ensures c.make_row-m.auto.1.1.1.1.1.1.0 c.make_row-m.auto.1.1.1.1.1.1.1.0
+
+pub shape_of-starts : goal.shape_of-starts
+shape_of-starts c = c.loop-s.invariant.s_size ∙ length-set c.args.starts.now 0 0
+
+pub shape_of-targets : goal.shape_of-targets
+shape_of-targets c = c.loop-s.invariant.t_size
+
+pub shape_of-probs : goal.shape_of-probs
+shape_of-probs c = c.loop-s.invariant.p_size
+
+pub returns : goal.returns
+returns c =
+    rowed c.args.starts.now c.loop-s.invariant (let h = c.loop-s-test.false in let l = c.loop-s.invariant.low in omega arith)

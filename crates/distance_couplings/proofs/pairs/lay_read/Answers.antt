@@ -1,0 +1,8 @@
+-- The rows are read from their offsets.
+use lib.ListN.{length}
+use Rattle.distance_theory.proofs.Index.{look_up}
+use Rattle.distance_couplings.proofs.Moves.{read_laid}
+use Rattle.distance_couplings.proofs.pairs.lay_read.Goals as goal
+
+pub returns : goal.returns
+returns c = read_laid c.args.left_offsets.now c.args.left_targets.now c.args.left_probs.now c.args.right_offsets.now c.args.right_targets.now c.args.right_probs.now c.args.x c.args.y c.requires.0 c.requires.1 c.wide-left_from.result c.wide-left_to.result c.wide-right_from.result c.wide-right_to.result c.wide-left_from.ensures c.wide-left_to.ensures c.wide-right_from.ensures c.wide-right_to.ensures (look_up c.args.codes.now) (length c.args.codes.now) c.args.places-1.now c.args.masses-1.now _ c.lay_independent.ensures

@@ -1,0 +1,24 @@
+-- By the ways that it ends.
+use mathlib.Core.Bool.{not}
+use mathlib.Core.Path.{ap, sym, ◌∙◌}
+use lib.ListN.{length}
+use borrow.Author.Tests.{not-false}
+use Rattle.chain_theory.specs.Columns.{chain_columns}
+use Rattle.distance_run.proofs.Fitting.{both_fit}
+use Rattle.distance_run.proofs.Running.{run_refused, run_clears}
+use Rattle.distance_run.proofs.run.run.Goals as goal
+
+pub returns-then-not-able : goal.returns-then-not-able
+returns-then-not-able c =
+    let a = c.args in
+    run_refused a.left (chain_columns a.left_offsets.now a.left_targets.now a.left_probs.now a.left_seen.now) a.right (chain_columns a.right_offsets.now a.right_targets.now a.right_probs.now a.right_seen.now) a.gamma a.options a.lefts-1.now a.rights-1.now a.codes-1.now a.places-1.now a.masses-1.now (both_fit a.left (chain_columns a.left_offsets.now a.left_targets.now a.left_probs.now a.left_seen.now) a.right (chain_columns a.right_offsets.now a.right_targets.now a.right_probs.now a.right_seen.now) a.options.top (length a.lefts-1.now) (length a.rights-1.now) (length a.codes-1.now) c.fits-2.ensures c.fits3.ensures c.runnable-able.ensures) (ap not c.if-not-able.true) c.refused.ensures
+
+pub run_pairs-told-requires : goal.run_pairs-told-requires
+run_pairs-told-requires c =
+    let a = c.args in
+    sym (both_fit a.left (chain_columns a.left_offsets.now a.left_targets.now a.left_probs.now a.left_seen.now) a.right (chain_columns a.right_offsets.now a.right_targets.now a.right_probs.now a.right_seen.now) a.options.top (length a.lefts-1.now) (length a.rights-1.now) (length a.codes-1.now) c.fits-2.ensures c.fits3.ensures c.runnable-able.ensures) ∙ c.if-not-able.false
+
+pub returns : goal.returns
+returns c =
+    let a = c.args in
+    run_clears a.left (chain_columns a.left_offsets.now a.left_targets.now a.left_probs.now a.left_seen.now) a.right (chain_columns a.right_offsets.now a.right_targets.now a.right_probs.now a.right_seen.now) a.gamma a.options a.lefts-1.now a.rights-1.now a.codes-1.now a.places-1.now a.masses-1.now (both_fit a.left (chain_columns a.left_offsets.now a.left_targets.now a.left_probs.now a.left_seen.now) a.right (chain_columns a.right_offsets.now a.right_targets.now a.right_probs.now a.right_seen.now) a.options.top (length a.lefts-1.now) (length a.rights-1.now) (length a.codes-1.now) c.fits-2.ensures c.fits3.ensures c.runnable-able.ensures) (ap not c.if-not-able.false) c.run_pairs-told.ensures c.clear.ensures c.run_pairs-told.auto.1.1.1.1.1.1.1.1.1.1.1.1.0 c.run_pairs-told.auto.1.1.1.1.1.1.1.1.1.1.1.1.1.0 c.run_pairs-told.auto.1.1.1.1.1.1.1.1.1.1.1.1.1.1.0 c.run_pairs-told.auto.1.1.1.1.1.1.1.1.1.1.1.1.1.1.1.0 c.run_pairs-told.auto.1.1.1.1.1.1.1.1.1.1.1.1.1.1.1.1.0

@@ -1,0 +1,30 @@
+-- `relation::epsdelta_in` meets its contract: what `union` refuses comes first, then what is left (Entering).
+use lib.ListN.{length}
+use Rattle.bisim_core.specs.Data.{columns}
+use Rattle.bisim_core.specs.Model.{model}
+use Rattle.epsdelta_theory.specs.Jumps.{union}
+use Rattle.epsdelta.proofs.Entering.{ready, rows_are, done}
+use Rattle.epsdelta.proofs.relation.epsdelta_in.Goals as goal
+
+pub finish-requires : goal.finish-requires
+finish-requires c =
+    let a = c.args in
+    let SL = a.left in
+    let ML = columns a.left_values.now a.left_offsets.now a.left_labels.now a.left_targets.now a.left_weights.now in
+    let SR = a.right in
+    let MR = columns a.right_values.now a.right_offsets.now a.right_labels.now a.right_targets.now a.right_weights.now in
+    let u = c.union-joined.ensures in
+    ready SL ML SR MR a.exits-1.now a.starts-1.now a.targets-1.now a.probs-1.now (length a.classes-1.now) c.requires u.0 u.1 c.refused.ensures
+
+pub returns : goal.returns
+returns c =
+    let a = c.args in
+    let SL = a.left in
+    let ML = columns a.left_values.now a.left_offsets.now a.left_labels.now a.left_targets.now a.left_weights.now in
+    let SR = a.right in
+    let MR = columns a.right_values.now a.right_offsets.now a.right_labels.now a.right_targets.now a.right_weights.now in
+    let u = c.union-joined.ensures in
+    let r = c.refused.ensures in
+    let m = length a.classes-1.now in
+    done SL ML SR MR a.exits-1.now a.starts-1.now a.targets-1.now a.probs-1.now m c.requires u.0 u.1 r a.settings.absent a.left_classes.now a.right_classes.now a.settings.epsilon a.settings.rho a.relation-1.now
+    (c.finish.ensures (union (model SL ML) (model SR MR)) (rows_are SL ML SR MR a.exits-1.now a.starts-1.now a.targets-1.now a.probs-1.now m c.requires u.0 u.1 r))

@@ -1,0 +1,6 @@
+-- `relation::epsdelta_small` meets its contract: the lists are long enough (Entering).
+use Rattle.epsdelta.proofs.Entering.{small_enough}
+use Rattle.epsdelta.proofs.relation.epsdelta_small.Goals as goal
+
+pub epsdelta_in-requires : goal.epsdelta_in-requires
+epsdelta_in-requires c = small_enough c.args.left c.args.right c.requires

@@ -1,0 +1,25 @@
+-- The sum is that of the first m rates, and `divide` divides these by it.
+use mathlib.Core.Path.{◌≡◌, sym, ap, ◌∙◌}
+use mathlib.Core.List.{List}
+use Prim.Native.Nat.{ℕ}
+use lib.Ieee.{Float}
+use Rattle.numbers.specs.Lists.{over}
+use lib.Seq.{length-take-le}
+use Rattle.epsdelta_jumps.proofs.Edges.{quotients}
+use Rattle.epsdelta_jumps.proofs.rates.finish.Goals as goal
+
+-- the first m rates, divided by x, where x is y
+divided : (P Q : List Float) (m : ℕ) (x y : Float) → Q ≡ over (quotients x m P) P → x ≡ y → Q ≡ over (quotients y m P) P
+divided P Q m x y d e = d ∙ ap (λ (z : Float). over (quotients z m P) P) e
+
+pub slice_bounds-sum-end-2 : goal.slice_bounds-sum-end-2
+slice_bounds-sum-end-2 c = sym (length-take-le c.args.m c.args.probs-1.now c.requires)
+
+pub returns : goal.returns
+returns c =
+    let v = c in
+    let s = v in
+    let m = s.args.m in
+    let P = s.args.probs-1.now in
+    let e = v.value-x.ensures ∙ v.sum.ensures in
+    (e, divided P c.divide.new.0 m v.value-x.result _ c.divide.ensures e)

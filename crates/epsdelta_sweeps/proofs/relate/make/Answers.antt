@@ -1,0 +1,17 @@
+-- `relate::make` meets its contract: from the marks of the task the run is the one of the definition (Reading).
+use Rattle.epsdelta_sweeps.proofs.Reading.{marks_bytes, marks_even, needed_formed, related}
+use Rattle.epsdelta_sweeps.proofs.relate.make.Goals as goal
+
+pub plenty_of-plenty-requires : goal.plenty_of-plenty-requires
+plenty_of-plenty-requires c = (c.requires.0, needed_formed c.args.epsilon c.needed-need.ensures)
+
+pub run-requires : goal.run-requires
+run-requires c =
+    let a = c.args in
+    let l = c.marks.new.1.1.1.1.0 in
+    ((c.requires.0, c.requires.1, c.plenty_of-plenty.ensures, marks_even a.states a.classes.now a.exits.now a.rho l c.marks.ensures), marks_bytes a.states a.classes.now a.exits.now a.rho l c.marks.ensures)
+
+pub returns : goal.returns
+returns c =
+    let a = c.args in
+    related a.states a.classes.now a.exits.now a.starts.now a.targets.now a.probs.now a.epsilon a.rho c.needed-need.ensures c.marks.ensures c.run.ensures

@@ -1,0 +1,21 @@
+-- `run::run_large` meets its contract: 4,001 words are enough for 2,000 states; the sweeps from the first pair on, and where they ask, those on a network from there (Resuming).
+use native.Mathlib.Omega.{arith}
+use Rattle.epsdelta_sweeps.proofs.Noting.{first_words}
+use Rattle.epsdelta_sweeps.proofs.Resuming.{held_start, moves_then, runs_to}
+use Rattle.epsdelta_sweeps.proofs.run.run_large.Goals as goal
+
+pub advance-p-requires : goal.advance-p-requires
+advance-p-requires c =
+    let p = c.requires in
+    let f = p.0.0.few in
+    let (w, z) = first_words c.args.states 4001 (omega arith) in
+    (p.0.0, p.0.1, omega arith, (λ k. omega arith), held_start p.1 p.0.2 p.0.3 w z)
+
+pub with_rows-requires : goal.with_rows-requires
+with_rows-requires c = let p = c.requires in (p.0.0, p.0.1, c.advance-p.ensures.0.held, c.advance-p.ensures.1)
+
+pub returns-then-p : goal.returns-then-p
+returns-then-p c = let r = c.with_rows.ensures in runs_to (moves_then c.advance-p.ensures.0 (omega arith) r.0) r.1 (r.2, r.3, r.4)
+
+pub returns-else-p : goal.returns-else-p
+returns-else-p c = runs_to c.advance-p.ensures.0 c.if-p.false (c.advance-p.ensures.1 c.if-p.false)

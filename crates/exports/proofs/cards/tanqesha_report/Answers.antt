@@ -1,0 +1,10 @@
+-- `put_text` ensures the numbers for the answer, and `report` the answer and the store.
+use mathlib.Core.Path.{ap, ◌∙◌}
+use Rattle.card_report.specs.declared.report.Text.{Text}
+use Rattle.replies.specs.Texts.{of_text}
+use Rattle.exports.proofs.cards.tanqesha_report.Goals as goal
+
+pub returns : goal.returns
+returns c =
+    let x = c.args.written.now in
+    (c.put_text.ensures ∙ ap (λ (t : Text). of_text t x) c.report-answer.ensures.answers, c.report-answer.ensures.leaves)

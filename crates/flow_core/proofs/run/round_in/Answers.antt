@@ -1,0 +1,15 @@
+-- `run::round_in` meets its contract: the sink's level decides (Rounds.round-cut, round-phase).
+use Rattle.flow_theory.proofs.Rounds.{sink_level_lem, round_cut, phase_ready, round_phase}
+use Rattle.flow_core.proofs.run.round_in.Goals as goal
+
+pub bounds-level-sink : goal.bounds-level-sink
+bounds-level-sink c = sink_level_lem c.requires c.levels.ensures
+
+pub returns-then-level-sink : goal.returns-then-level-sink
+returns-then-level-sink c = round_cut c.requires c.levels.ensures c.args c.args 0 c.if-level-sink.true
+
+pub blocking_flow-p-requires : goal.blocking_flow-p-requires
+blocking_flow-p-requires c = phase_ready c.requires c.levels.ensures
+
+pub returns : goal.returns
+returns c = round_phase c.requires c.levels.ensures c.if-level-sink.false c.blocking_flow-p.ensures

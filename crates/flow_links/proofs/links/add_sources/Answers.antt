@@ -1,0 +1,36 @@
+use mathlib.Core.Path.{refl}
+use Prim.Native.Nat.{◌+◌}
+use mathlib.Core.List.{[], ◌∷◌}
+use native.Mathlib.Omega.{arith}
+use lib.ListN.{get_or, drop}
+use lib.Ieee.{nan}
+use Rattle.epsdelta_theory.proofs.LinkRows.{Free, source_row}
+use Rattle.flow_links.proofs.LinkWrites.{adding_start, adding_on, adding_end, free_next, source_next, source_end}
+use Rattle.flow_links.proofs.links.add_sources.Goals as goal
+
+pub loop-i-init : goal.loop-i-init
+loop-i-init c = adding_start c.args.heads-1.now c.args.caps-1.now (0) refl
+
+pub put-requires : goal.put-requires
+put-requires c =
+    let next : Free c.loop-i.heads-1 c.loop-i.caps-1 c.loop-i.e 1 = free_next (record { from = c.args.source; to = c.loop-i.i; cap = get_or c.args.rates.now c.loop-i.i nan } ∷ []) (source_row c.args.source (c.loop-i.i + 1) (drop (c.loop-i.i + 1) c.args.rates.now)) (source_next c.args.source c.loop-i.i c.args.rates.now c.loop-i-test.true) c.requires.1 c.loop-i.invariant in
+    let h = c.loop-i-test.true in
+    let p = c.requires.0 in
+    (next, (omega arith, omega arith))
+
+pub overflow_add-e : goal.overflow_add-e
+overflow_add-e c =
+    let next : Free c.loop-i.heads-1 c.loop-i.caps-1 c.loop-i.e 1 = free_next (record { from = c.args.source; to = c.loop-i.i; cap = get_or c.args.rates.now c.loop-i.i nan } ∷ []) (source_row c.args.source (c.loop-i.i + 1) (drop (c.loop-i.i + 1) c.args.rates.now)) (source_next c.args.source c.loop-i.i c.args.rates.now c.loop-i-test.true) c.requires.1 c.loop-i.invariant in
+    let l = next.small in record { fits = omega arith }
+
+pub loop-i-preserved : goal.loop-i-preserved
+loop-i-preserved c = adding_on (record { from = c.args.source; to = c.loop-i.i; cap = get_or c.args.rates.now c.loop-i.i nan } ∷ []) (source_row c.args.source (c.loop-i.i + 1) (drop (c.loop-i.i + 1) c.args.rates.now)) (source_next c.args.source c.loop-i.i c.args.rates.now c.loop-i-test.true) c.loop-i.invariant c.put.ensures
+
+pub shape_of-heads : goal.shape_of-heads
+shape_of-heads c = c.loop-i.invariant.added.heads_size
+
+pub shape_of-caps : goal.shape_of-caps
+shape_of-caps c = c.loop-i.invariant.added.caps_size
+
+pub returns : goal.returns
+returns c = adding_end (source_end c.args.source c.loop-i.i c.loop-i.i c.args.rates.now c.loop-i-test.false) c.loop-i.invariant

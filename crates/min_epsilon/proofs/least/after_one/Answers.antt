@@ -1,0 +1,45 @@
+-- `least::after_one` meets its contract: the arm says what the run at ε = 1 answered (Answering).
+use Rattle.bisim_core.specs.Data.{columns}
+use Rattle.min_epsilon.proofs.Answering.{ends_at, ends_absent, ends_refused}
+use Rattle.min_epsilon.proofs.least.after_one.Goals as goal
+
+-- src/least.rt:219:39
+pub below_one-requires : goal.below_one-requires
+below_one-requires c = c.requires c.enum_told-1.given.1
+
+-- src/least.rt:196:1
+pub returns-in-Related : goal.returns-in-Related
+returns-in-Related c =
+    let a = c.args in
+    let SL = a.left in
+    let ML = columns a.left_values.now a.left_offsets.now a.left_labels.now a.left_targets.now a.left_weights.now in
+    let SR = a.right in
+    let MR = columns a.right_values.now a.right_offsets.now a.right_labels.now a.right_targets.now a.right_weights.now in
+    let cl = a.left_classes.now in
+    let cr = a.right_classes.now in
+    let b = c.below_one in
+    λ store e. ends_at SL ML SR MR cl cr a.rho store a.relation-1.now a.first-1 e b.result b.new.1.1.1.1.1.1.1.1.1.1.1.1.1.1.1.0 c.in-Related.is b.ensures.0 b.ensures.1
+
+-- src/least.rt:196:1
+pub returns-in-Unrelated : goal.returns-in-Unrelated
+returns-in-Unrelated c =
+    let a = c.args in
+    let SL = a.left in
+    let ML = columns a.left_values.now a.left_offsets.now a.left_labels.now a.left_targets.now a.left_weights.now in
+    let SR = a.right in
+    let MR = columns a.right_values.now a.right_offsets.now a.right_labels.now a.right_targets.now a.right_weights.now in
+    let cl = a.left_classes.now in
+    let cr = a.right_classes.now in
+    λ store e. ends_absent SL ML SR MR cl cr a.rho store a.relation-1.now a.first-1 e c.in-Unrelated.is
+
+-- src/least.rt:196:1
+pub returns-in-Refused : goal.returns-in-Refused
+returns-in-Refused c =
+    let a = c.args in
+    let SL = a.left in
+    let ML = columns a.left_values.now a.left_offsets.now a.left_labels.now a.left_targets.now a.left_weights.now in
+    let SR = a.right in
+    let MR = columns a.right_values.now a.right_offsets.now a.right_labels.now a.right_targets.now a.right_weights.now in
+    let cl = a.left_classes.now in
+    let cr = a.right_classes.now in
+    λ store e. ends_refused SL ML SR MR cl cr a.rho store a.relation-1.now a.first-1 e c.first-1.given.0.0 c.in-Refused.is

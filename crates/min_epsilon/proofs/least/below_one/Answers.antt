@@ -1,0 +1,40 @@
+-- `least::below_one` meets its contract: by the run at ε = 0, which leaves every byte zero (Runs).
+use mathlib.Core.Path.{refl}
+use Rattle.numbers.specs.Real.{nought}
+use Rattle.bisim_core.specs.Data.{columns}
+use Rattle.epsdelta_theory.proofs.MinEpsilon.{nought_valid}
+use Rattle.min_epsilon.proofs.Runs.{zero_still, zero_again, unrefused, allowed}
+use Rattle.min_epsilon.proofs.least.below_one.Goals as goal
+
+-- src/least.rt:155:9
+pub holds-zero-requires : goal.holds-zero-requires
+holds-zero-requires c =
+    let a = c.args in
+    let SL = a.left in
+    let ML = columns a.left_values.now a.left_offsets.now a.left_labels.now a.left_targets.now a.left_weights.now in
+    let SR = a.right in
+    let MR = columns a.right_values.now a.right_offsets.now a.right_labels.now a.right_targets.now a.right_weights.now in
+    let cl = a.left_classes.now in
+    let cr = a.right_classes.now in
+    allowed SL ML SR MR cl cr a.rho nought a.relation-1.now a.relation-1.now c.requires refl nought_valid
+
+-- src/least.rt:174:5
+pub bisect-requires : goal.bisect-requires
+bisect-requires c =
+    let a = c.args in
+    let SL = a.left in
+    let ML = columns a.left_values.now a.left_offsets.now a.left_labels.now a.left_targets.now a.left_weights.now in
+    let SR = a.right in
+    let MR = columns a.right_values.now a.right_offsets.now a.right_labels.now a.right_targets.now a.right_weights.now in
+    let cl = a.left_classes.now in
+    let cr = a.right_classes.now in
+    let h = c.holds-zero in
+    (h.ensures.0, unrefused SL ML SR MR cl cr a.rho h.new.1.1.1.1.1.1.1.1.1.1.1.1.1.1.1.1.0 a.relation-1.now c.requires h.ensures.1, zero_still h.new.1.1.1.1.1.1.1.1.1.1.1.1.1.1.1.1.0 a.relation-1.now h.ensures.1)
+
+-- src/least.rt:134:1
+pub returns : goal.returns
+returns c =
+    let a = c.args in
+    let h = c.holds-zero in
+    let b = c.bisect in
+    (b.ensures.0, zero_again b.new.1.1.1.1.1.1.1.1.1.1.1.1.1.1.1.1.0 h.new.1.1.1.1.1.1.1.1.1.1.1.1.1.1.1.1.0 a.relation-1.now h.ensures.1 b.ensures.1)

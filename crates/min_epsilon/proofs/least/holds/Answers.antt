@@ -1,0 +1,45 @@
+-- `least::holds` meets its contract: by the answer of the run (Answering), which is not refused.
+use lib.ListN.{length}
+use Rattle.bisim_core.specs.Data.{columns}
+use Rattle.epsdelta_theory.specs.Refusal.{bisimilar_refusal}
+use Rattle.epsdelta_theory.specs.Bisimilar.{bisimilar}
+use Rattle.min_epsilon.proofs.Answering.{judged_related, judged_unrelated, judged_not_refused}
+use Rattle.min_epsilon.proofs.least.holds.Goals as goal
+
+-- src/least.rt:24:1
+pub returns-in-Related : goal.returns-in-Related
+returns-in-Related c =
+    let a = c.args in
+    let SL = a.left in
+    let ML = columns a.left_values.now a.left_offsets.now a.left_labels.now a.left_targets.now a.left_weights.now in
+    let SR = a.right in
+    let MR = columns a.right_values.now a.right_offsets.now a.right_labels.now a.right_targets.now a.right_weights.now in
+    let cl = a.left_classes.now in
+    let cr = a.right_classes.now in
+    let j = judged_related a.relation-1.now c.epsdelta_bisimilar.new.1.1.1.1.1.1.1.1.1.1.1.1.1.1.1.1.0 c.epsdelta_bisimilar.result (bisimilar_refusal SL ML SR MR cl cr a.epsilon a.rho (length a.relation-1.now)) (bisimilar SL ML SR MR cl cr a.epsilon a.rho) c.epsdelta_bisimilar.ensures c.in-Related.is in
+    (j.said, j.cleared)
+
+-- src/least.rt:24:1
+pub returns-in-Unrelated : goal.returns-in-Unrelated
+returns-in-Unrelated c =
+    let a = c.args in
+    let SL = a.left in
+    let ML = columns a.left_values.now a.left_offsets.now a.left_labels.now a.left_targets.now a.left_weights.now in
+    let SR = a.right in
+    let MR = columns a.right_values.now a.right_offsets.now a.right_labels.now a.right_targets.now a.right_weights.now in
+    let cl = a.left_classes.now in
+    let cr = a.right_classes.now in
+    let j = judged_unrelated a.relation-1.now c.epsdelta_bisimilar.new.1.1.1.1.1.1.1.1.1.1.1.1.1.1.1.1.0 c.epsdelta_bisimilar.result (bisimilar_refusal SL ML SR MR cl cr a.epsilon a.rho (length a.relation-1.now)) (bisimilar SL ML SR MR cl cr a.epsilon a.rho) c.epsdelta_bisimilar.ensures c.in-Unrelated.is in
+    (j.said, j.cleared)
+
+-- src/least.rt:24:1
+pub returns-in-Refused : goal.returns-in-Refused
+returns-in-Refused c =
+    let a = c.args in
+    let SL = a.left in
+    let ML = columns a.left_values.now a.left_offsets.now a.left_labels.now a.left_targets.now a.left_weights.now in
+    let SR = a.right in
+    let MR = columns a.right_values.now a.right_offsets.now a.right_labels.now a.right_targets.now a.right_weights.now in
+    let cl = a.left_classes.now in
+    let cr = a.right_classes.now in
+    absurd (judged_not_refused a.relation-1.now c.epsdelta_bisimilar.new.1.1.1.1.1.1.1.1.1.1.1.1.1.1.1.1.0 c.epsdelta_bisimilar.result (bisimilar_refusal SL ML SR MR cl cr a.epsilon a.rho (length a.relation-1.now)) (bisimilar SL ML SR MR cl cr a.epsilon a.rho) _ c.epsdelta_bisimilar.ensures c.requires c.in-Refused.is)

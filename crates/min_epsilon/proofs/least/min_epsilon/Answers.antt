@@ -1,0 +1,31 @@
+-- `least::min_epsilon` meets its contract: by the run at ε = 1 (Answering); the claim is epsdelta_theory's law of every search.
+use Rattle.bisim_core.specs.Data.{columns}
+use Rattle.epsdelta_theory.proofs.MinEpsilon.{min_epsilon_searched}
+use Rattle.min_epsilon.proofs.Answering.{next_allowed}
+use Rattle.min_epsilon.proofs.least.min_epsilon.Goals as goal
+
+-- src/least.rt:283:5
+pub after_one-requires : goal.after_one-requires
+after_one-requires c =
+    let a = c.args in
+    let SL = a.left in
+    let ML = columns a.left_values.now a.left_offsets.now a.left_labels.now a.left_targets.now a.left_weights.now in
+    let SR = a.right in
+    let MR = columns a.right_values.now a.right_offsets.now a.right_labels.now a.right_targets.now a.right_weights.now in
+    let cl = a.left_classes.now in
+    let cr = a.right_classes.now in
+    let r = c.epsdelta_bisimilar-first in
+    next_allowed SL ML SR MR cl cr a.rho a.relation-1.now r.new.1.1.1.1.1.1.1.1.1.1.1.1.1.1.1.1.0 r.result r.ensures
+
+-- src/least.rt:243:1
+pub returns : goal.returns
+returns c =
+    let a = c.args in
+    let SL = a.left in
+    let ML = columns a.left_values.now a.left_offsets.now a.left_labels.now a.left_targets.now a.left_weights.now in
+    let SR = a.right in
+    let MR = columns a.right_values.now a.right_offsets.now a.right_labels.now a.right_targets.now a.right_weights.now in
+    let cl = a.left_classes.now in
+    let cr = a.right_classes.now in
+    let r = c.epsdelta_bisimilar-first in
+    (c.after_one.ensures a.relation-1.now r.ensures, min_epsilon_searched SL ML SR MR cl cr a.rho)

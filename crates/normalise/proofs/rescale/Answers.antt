@@ -1,0 +1,21 @@
+use mathlib.Core.Path.{refl, ◌∙◌}
+use native.Mathlib.Omega.{arith}
+use lib.ListN.{length-set}
+use Rattle.chain_theory.specs.Chain.{scaled}
+use Rattle.normalise.proofs.Scaling.{scale_next, scale_done}
+use Rattle.normalise.proofs.rescale.Goals as goal
+
+pub loop-i-init : goal.loop-i-init
+loop-i-init c = (omega arith, refl, refl)
+
+pub loop-i-preserved : goal.loop-i-preserved
+loop-i-preserved c =
+    let s = c in
+    (omega arith, length-set c.loop-i.list c.loop-i.i c.scaled.result ∙ c.loop-i.invariant.1, scale_next s.args.least s.args.scale s.args.n s.args.list.now s.requires c.loop-i.i c.loop-i.list c.scaled.result c.loop-i-test.true c.loop-i.invariant.2 c.scaled.ensures)
+
+pub returns : goal.returns
+returns c =
+    let s = c in
+    let h = c.loop-i-test.false in
+    let l = c.loop-i.invariant.0 in
+    scale_done s.args.least s.args.scale s.args.n s.args.list.now s.requires c.loop-i.i c.loop-i.list (omega arith) c.loop-i.invariant.2

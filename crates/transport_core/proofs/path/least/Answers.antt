@@ -1,0 +1,24 @@
+use mathlib.Core.Path.{refl}
+use mathlib.Core.Logic.{⊎_elim}
+use native.Mathlib.Omega.{arith}
+use Rattle.transport_theory.proofs.Walks.{lower, stays, least_ends}
+use Rattle.transport_core.proofs.path.least.Goals as goal
+
+pub loop-i-init : goal.loop-i-init
+loop-i-init c = record { upto = omega arith; same = refl }
+
+pub offset_bounds-caps-path : goal.offset_bounds-caps-path
+offset_bounds-caps-path c = omega (arith, c.requires.link_in c.loop-i.i c.loop-i-test.true)
+
+pub bounds-caps-path : goal.bounds-caps-path
+bounds-caps-path c = c.requires.link_in c.loop-i.i c.loop-i-test.true
+
+pub loop-i-preserved : goal.loop-i-preserved
+loop-i-preserved c =
+    ⊎_elim
+    (λ w. lower c.requires c.loop-i.invariant c.loop-i-test.true w.0.taken _ w.1)
+    (λ w. stays c.requires c.loop-i.invariant c.loop-i-test.true w.0.left _ w.1)
+    c.if-c-y.branch
+
+pub returns : goal.returns
+returns c = least_ends c.requires c.loop-i.invariant c.loop-i-test.false

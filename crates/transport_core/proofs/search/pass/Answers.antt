@@ -1,0 +1,55 @@
+use mathlib.Core.Path.{sym, ◌∙◌}
+use mathlib.Core.Logic.{⊎_elim}
+use native.Mathlib.Omega.{arith}
+use borrow.Author.Tests.{not-true, not-false}
+use Rattle.transport_theory.proofs.Searches.{pass_starts, node_low, relaxable, pass_over, pass_through, pass_ends}
+use Rattle.transport_core.proofs.search.pass.Goals as goal
+
+pub loop-u-init : goal.loop-u-init
+loop-u-init c = pass_starts c.requires
+
+pub offset_bounds-starts-u : goal.offset_bounds-starts-u
+offset_bounds-starts-u c = omega (arith, node_low c.requires c.loop-u.invariant c.loop-u-test.true)
+
+pub bounds-starts-u : goal.bounds-starts-u
+bounds-starts-u c = omega (arith, node_low c.requires c.loop-u.invariant c.loop-u-test.true)
+
+pub overflow_cast-from : goal.overflow_cast-from
+overflow_cast-from c = let s = relaxable c.requires c.loop-u.invariant c.loop-u-test.true in record { fits = omega (arith, c.well-formed.1.1.1.1.0.0) }
+
+pub overflow_add-to : goal.overflow_add-to
+overflow_add-to c = omega (arith, node_low c.requires c.loop-u.invariant c.loop-u-test.true)
+
+pub offset_bounds-starts-u-then-not-is_infinite : goal.offset_bounds-starts-u-then-not-is_infinite
+offset_bounds-starts-u-then-not-is_infinite c = omega (arith, node_low c.requires c.loop-u.invariant c.loop-u-test.true)
+
+pub bounds-starts-u-then-not-is_infinite : goal.bounds-starts-u-then-not-is_infinite
+bounds-starts-u-then-not-is_infinite c = omega (arith, node_low c.requires c.loop-u.invariant c.loop-u-test.true)
+
+pub overflow_cast-to : goal.overflow_cast-to
+overflow_cast-to c = let s = relaxable c.requires c.loop-u.invariant c.loop-u-test.true in record { fits = omega (arith, c.well-formed.1.1.1.1.0.0) }
+
+pub relax-changed-requires : goal.relax-changed-requires
+relax-changed-requires c = relaxable c.requires c.loop-u.invariant c.loop-u-test.true
+
+pub overflow_add-u : goal.overflow_add-u
+overflow_add-u c = record { fits = let l = node_low c.requires c.loop-u.invariant c.loop-u-test.true in omega arith }
+
+pub loop-u-smaller : goal.loop-u-smaller
+loop-u-smaller c = let a = c.loop-u.invariant.dist_length in let l = c.loop-u-test.true in omega arith
+
+pub loop-u-preserved : goal.loop-u-preserved
+loop-u-preserved c =
+    ⊎_elim
+    (λ w. pass_through c.requires c.loop-u.invariant c.loop-u-test.true (sym c.is_infinite.ensures ∙ not-true _ w.0.taken) (omega (arith, w.5.kept.1.1.1.1.1.1.1.0)) (omega (arith, w.5.kept.1.1.1.1.1.1.1.1.0)) w.5.ensures _ _ _ w.10 w.11 w.12)
+    (λ w. pass_over c.requires c.loop-u.invariant c.loop-u-test.true (sym c.is_infinite.ensures ∙ not-false _ w.0.left) _ _ _ w.1 w.2 w.3)
+    c.if-not-is_infinite.branch
+
+pub shape_of-dist : goal.shape_of-dist
+shape_of-dist c = c.loop-u.invariant.dist_length
+
+pub shape_of-via : goal.shape_of-via
+shape_of-via c = c.loop-u.invariant.via_length
+
+pub returns : goal.returns
+returns c = pass_ends c.requires c.loop-u.invariant c.loop-u-test.false
