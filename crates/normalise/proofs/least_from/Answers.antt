@@ -12,12 +12,10 @@ loop-i-init c = (omega arith, refl)
 
 pub loop-i-preserved : goal.loop-i-preserved
 loop-i-preserved c =
-    let s = c in
-    (omega arith, ap (λ (z : Float). least_from z (slice (c.loop-i.i + 1) s.args.n s.args.list.now)) c.smaller-least.ensures ∙ least_next s.args.list.now s.args.n c.loop-i.i c.loop-i.least c.loop-i-test.true s.requires ∙ c.loop-i.invariant.1)
+    (omega arith, ap (λ (z : Float). least_from z (slice (c.loop-i.i + 1) c.args.n c.args.list.now)) c.smaller-least.ensures ∙ least_next c.args.list.now c.args.n c.loop-i.i c.loop-i.least c.loop-i-test.true c.requires ∙ c.loop-i.invariant.1)
 
 pub returns : goal.returns
 returns c =
-    let s = c in
     let h = c.loop-i-test.false in
     let l = c.loop-i.invariant.0 in
-    least_end s.args.list.now s.args.n c.loop-i.i c.loop-i.least (omega arith) ∙ c.loop-i.invariant.1
+    least_end c.args.list.now c.args.n c.loop-i.i c.loop-i.least (omega arith) ∙ c.loop-i.invariant.1

@@ -10,12 +10,10 @@ loop-i-init c = (omega arith, refl, refl)
 
 pub loop-i-preserved : goal.loop-i-preserved
 loop-i-preserved c =
-    let s = c in
-    (omega arith, length-set c.loop-i.list c.loop-i.i c.scaled.result ∙ c.loop-i.invariant.1, scale_next s.args.least s.args.scale s.args.n s.args.list.now s.requires c.loop-i.i c.loop-i.list c.scaled.result c.loop-i-test.true c.loop-i.invariant.2 c.scaled.ensures)
+    (omega arith, length-set c.loop-i.list c.loop-i.i c.scaled.result ∙ c.loop-i.invariant.1, scale_next c.args.least c.args.scale c.args.n c.args.list.now c.requires c.loop-i.i c.loop-i.list c.scaled.result c.loop-i-test.true c.loop-i.invariant.2 c.scaled.ensures)
 
 pub returns : goal.returns
 returns c =
-    let s = c in
     let h = c.loop-i-test.false in
     let l = c.loop-i.invariant.0 in
-    scale_done s.args.least s.args.scale s.args.n s.args.list.now s.requires c.loop-i.i c.loop-i.list (omega arith) c.loop-i.invariant.2
+    scale_done c.args.least c.args.scale c.args.n c.args.list.now c.requires c.loop-i.i c.loop-i.list (omega arith) c.loop-i.invariant.2

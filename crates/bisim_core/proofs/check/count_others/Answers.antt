@@ -5,6 +5,7 @@ use native.Mathlib.Omega.{arith}
 use lib.ListN.{length, get_or, set, length-set}
 use Rattle.bisim_core.proofs.RowChecks.{counting, turn_old, turn_new, all_counted}
 use Rattle.bisim_core.proofs.check.count_others.Goals as goal
+use Rattle.bisim_core.proofs.check.count_others.Goals.{then-marks-t, else-marks-t}
 
 pub loop-i-init : goal.loop-i-init
 loop-i-init c = (refl, counting _ _ _ _ c.args.marks.now c.requires.0 c.requires.2 c.requires.5)
@@ -67,10 +68,9 @@ loop-i-preserved c =
     let m = c.loop-i.marks in
     let s = c.args.s in
     let e = c.wide-t.ensures in
-    ⊎_elim
-    (λ w. (refl, turn_new I h (subst (λ (x : ℕ). x < length m) e inside) (λ q. w.0.taken (ap (λ (x : ℕ). get_or m x 0) e ∙ q)) _ _ (w.1 ∙ ap (λ (x : ℕ). set m x (s + 1)) e) w.2))
-    (λ w. (refl, turn_old I h (ap (λ (x : ℕ). get_or m x 0) (sym e) ∙ w.0.left) _ _ w.1 w.2))
-    c.if-marks-t.branch
+    elim c.if-marks-t.branch [
+      then-marks-t w ↦ (refl, turn_new I h (subst (λ (x : ℕ). x < length m) e inside) (λ q. w.if-marks-t.true (ap (λ (x : ℕ). get_or m x 0) e ∙ q)) _ _ (w.marks-is ∙ ap (λ (x : ℕ). set m x (s + 1)) e) w.count-is) |
+      else-marks-t w ↦ (refl, turn_old I h (ap (λ (x : ℕ). get_or m x 0) (sym e) ∙ w.if-marks-t.false) _ _ w.marks-is w.count-is) ]
 
 pub shape_of-marks : goal.shape_of-marks
 shape_of-marks c = let a = c.args in c.loop-i.invariant.1.size ∙ length-set a.marks.now a.s (a.s + 1)

@@ -55,7 +55,7 @@ loop-s-preserved c =
         ∙ ap (ltb 31) (sym (c.count_others.ensures.0 D a.offsets.now L W ∙ ap (λ l. length (distinct (others s l))) (row_is M s _ _ c.wide-from.ensures c.wide-to.ensures))) in
     (
   omega arith,
-  c.count_others.auto.1.1.1.1.0 ∙ c.loop-s.invariant.1,
+  c.count_others.auto.marks ∙ c.loop-s.invariant.1,
   c.count_others.ensures.1,
   below_more _ _ c.loop-s.invariant.3 (λ D L W. counted D L W ∙ le-ltb _ _ c.if-count_others-gt31.false),
 )

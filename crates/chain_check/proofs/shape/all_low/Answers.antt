@@ -18,17 +18,14 @@ loop-i-init c = (omega arith, refl)
 
 pub returns-then-wide-states : goal.returns-then-wide-states
 returns-then-wide-states c =
-    let s = c in
-    sym (c.loop-i.invariant.1 ∙ all_stop (λ (t : ℕ). ltb t s.args.states) s.args.targets.now s.args.n c.loop-i.i 0 c.loop-i-test.true s.requires (low _ _ _ c.wide.ensures c.if-wide-states.true))
+    sym (c.loop-i.invariant.1 ∙ all_stop (λ (t : ℕ). ltb t c.args.states) c.args.targets.now c.args.n c.loop-i.i 0 c.loop-i-test.true c.requires (low _ _ _ c.wide.ensures c.if-wide-states.true))
 
 pub loop-i-preserved : goal.loop-i-preserved
 loop-i-preserved c =
-    let s = c in
-    (omega arith, c.loop-i.invariant.1 ∙ all_on (λ (t : ℕ). ltb t s.args.states) s.args.targets.now s.args.n c.loop-i.i 0 c.loop-i-test.true s.requires (high _ _ _ c.wide.ensures c.if-wide-states.false))
+    (omega arith, c.loop-i.invariant.1 ∙ all_on (λ (t : ℕ). ltb t c.args.states) c.args.targets.now c.args.n c.loop-i.i 0 c.loop-i-test.true c.requires (high _ _ _ c.wide.ensures c.if-wide-states.false))
 
 pub returns : goal.returns
 returns c =
-    let s = c in
     let h = c.loop-i-test.false in
     let l = c.loop-i.invariant.0 in
-    sym (c.loop-i.invariant.1 ∙ all_end (λ (t : ℕ). ltb t s.args.states) s.args.targets.now s.args.n c.loop-i.i (omega arith))
+    sym (c.loop-i.invariant.1 ∙ all_end (λ (t : ℕ). ltb t c.args.states) c.args.targets.now c.args.n c.loop-i.i (omega arith))

@@ -12,56 +12,50 @@ loop-s-init c =
 
 pub offset_bounds-targets-end : goal.offset_bounds-targets-end
 offset_bounds-targets-end c =
-    let next : (c.loop-s.end < length c.loop-s.targets-1) × (c.loop-s.end < length c.loop-s.probs-1) × (c.loop-s.end ≤ 6096) = let l = c in
-        let s = l in
+    let next : (c.loop-s.end < length c.loop-s.targets-1) × (c.loop-s.end < length c.loop-s.probs-1) × (c.loop-s.end ≤ 6096) = 
         let h = c.loop-s-test.true in
-        let q = near s.requires.0 (long s) l.loop-s.invariant h in
-        (q.0, q.1, small s.requires.0 (long s) l.loop-s.invariant h) in
+        let q = near c.requires.0 (long c) c.loop-s.invariant h in
+        (q.0, q.1, small c.requires.0 (long c) c.loop-s.invariant h) in
     let q = next in let e = q.2 in omega arith
 
 pub slice_bounds-make_row-count : goal.slice_bounds-make_row-count
 slice_bounds-make_row-count c =
-    let next : (c.loop-s.end < length c.loop-s.targets-1) × (c.loop-s.end < length c.loop-s.probs-1) × (c.loop-s.end ≤ 6096) = let l = c in
-        let s = l in
+    let next : (c.loop-s.end < length c.loop-s.targets-1) × (c.loop-s.end < length c.loop-s.probs-1) × (c.loop-s.end ≤ 6096) = 
         let h = c.loop-s-test.true in
-        let q = near s.requires.0 (long s) l.loop-s.invariant h in
-        (q.0, q.1, small s.requires.0 (long s) l.loop-s.invariant h) in
+        let q = near c.requires.0 (long c) c.loop-s.invariant h in
+        (q.0, q.1, small c.requires.0 (long c) c.loop-s.invariant h) in
     let q = next in let e = q.0 in omega arith
 
 pub slice_bounds-make_row-start : goal.slice_bounds-make_row-start
 slice_bounds-make_row-start c =
-    let next : (c.loop-s.end < length c.loop-s.targets-1) × (c.loop-s.end < length c.loop-s.probs-1) × (c.loop-s.end ≤ 6096) = let l = c in
-        let s = l in
+    let next : (c.loop-s.end < length c.loop-s.targets-1) × (c.loop-s.end < length c.loop-s.probs-1) × (c.loop-s.end ≤ 6096) = 
         let h = c.loop-s-test.true in
-        let q = near s.requires.0 (long s) l.loop-s.invariant h in
-        (q.0, q.1, small s.requires.0 (long s) l.loop-s.invariant h) in
+        let q = near c.requires.0 (long c) c.loop-s.invariant h in
+        (q.0, q.1, small c.requires.0 (long c) c.loop-s.invariant h) in
     let q = next in let e = q.0 in omega arith
 
 pub offset_bounds-probs-end : goal.offset_bounds-probs-end
 offset_bounds-probs-end c =
-    let next : (c.loop-s.end < length c.loop-s.targets-1) × (c.loop-s.end < length c.loop-s.probs-1) × (c.loop-s.end ≤ 6096) = let l = c in
-        let s = l in
+    let next : (c.loop-s.end < length c.loop-s.targets-1) × (c.loop-s.end < length c.loop-s.probs-1) × (c.loop-s.end ≤ 6096) = 
         let h = c.loop-s-test.true in
-        let q = near s.requires.0 (long s) l.loop-s.invariant h in
-        (q.0, q.1, small s.requires.0 (long s) l.loop-s.invariant h) in
+        let q = near c.requires.0 (long c) c.loop-s.invariant h in
+        (q.0, q.1, small c.requires.0 (long c) c.loop-s.invariant h) in
     let q = next in let e = q.2 in omega arith
 
 pub slice_bounds-make_row-count-in-loop-s : goal.slice_bounds-make_row-count-in-loop-s
 slice_bounds-make_row-count-in-loop-s c =
-    let next : (c.loop-s.end < length c.loop-s.targets-1) × (c.loop-s.end < length c.loop-s.probs-1) × (c.loop-s.end ≤ 6096) = let l = c in
-        let s = l in
+    let next : (c.loop-s.end < length c.loop-s.targets-1) × (c.loop-s.end < length c.loop-s.probs-1) × (c.loop-s.end ≤ 6096) = 
         let h = c.loop-s-test.true in
-        let q = near s.requires.0 (long s) l.loop-s.invariant h in
-        (q.0, q.1, small s.requires.0 (long s) l.loop-s.invariant h) in
+        let q = near c.requires.0 (long c) c.loop-s.invariant h in
+        (q.0, q.1, small c.requires.0 (long c) c.loop-s.invariant h) in
     let q = next in let e = q.1 in omega arith
 
 pub slice_bounds-make_row-start-in-loop-s : goal.slice_bounds-make_row-start-in-loop-s
 slice_bounds-make_row-start-in-loop-s c =
-    let next : (c.loop-s.end < length c.loop-s.targets-1) × (c.loop-s.end < length c.loop-s.probs-1) × (c.loop-s.end ≤ 6096) = let l = c in
-        let s = l in
+    let next : (c.loop-s.end < length c.loop-s.targets-1) × (c.loop-s.end < length c.loop-s.probs-1) × (c.loop-s.end ≤ 6096) = 
         let h = c.loop-s-test.true in
-        let q = near s.requires.0 (long s) l.loop-s.invariant h in
-        (q.0, q.1, small s.requires.0 (long s) l.loop-s.invariant h) in
+        let q = near c.requires.0 (long c) c.loop-s.invariant h in
+        (q.0, q.1, small c.requires.0 (long c) c.loop-s.invariant h) in
     let q = next in let e = q.1 in omega arith
 
 pub make_row-m-requires : goal.make_row-m-requires
@@ -71,16 +65,14 @@ make_row-m-requires c =
 
 pub overflow_add-end : goal.overflow_add-end
 overflow_add-end c =
-    let last : c.loop-s.end + c.make_row-m.result ≤ 6096 = let l = c in
-        let s = l in
-        within s.requires.0 (long s) l.loop-s.invariant c.loop-s-test.true _ _ c.wide-from.ensures c.wide-to.ensures _ c.make_row-m.ensures.0 in
+    let last : c.loop-s.end + c.make_row-m.result ≤ 6096 = 
+        within c.requires.0 (long c) c.loop-s.invariant c.loop-s-test.true _ _ c.wide-from.ensures c.wide-to.ensures _ c.make_row-m.ensures.0 in
     let e = last in omega arith
 
 pub overflow_cast-starts : goal.overflow_cast-starts
 overflow_cast-starts c =
-    let last : c.loop-s.end + c.make_row-m.result ≤ 6096 = let l = c in
-        let s = l in
-        within s.requires.0 (long s) l.loop-s.invariant c.loop-s-test.true _ _ c.wide-from.ensures c.wide-to.ensures _ c.make_row-m.ensures.0 in
+    let last : c.loop-s.end + c.make_row-m.result ≤ 6096 = 
+        within c.requires.0 (long c) c.loop-s.invariant c.loop-s-test.true _ _ c.wide-from.ensures c.wide-to.ensures _ c.make_row-m.ensures.0 in
     let e = last in omega arith
 
 pub bounds-starts-s : goal.bounds-starts-s

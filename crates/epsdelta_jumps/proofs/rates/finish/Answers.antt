@@ -17,9 +17,7 @@ slice_bounds-sum-end-2 c = sym (length-take-le c.args.m c.args.probs-1.now c.req
 
 pub returns : goal.returns
 returns c =
-    let v = c in
-    let s = v in
-    let m = s.args.m in
-    let P = s.args.probs-1.now in
-    let e = v.value-x.ensures ∙ v.sum.ensures in
-    (e, divided P c.divide.new.0 m v.value-x.result _ c.divide.ensures e)
+    let m = c.args.m in
+    let P = c.args.probs-1.now in
+    let e = c.value-x.ensures ∙ c.sum.ensures in
+    (e, divided P c.divide.new.0 m c.value-x.result _ c.divide.ensures e)

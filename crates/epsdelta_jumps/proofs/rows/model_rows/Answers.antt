@@ -28,9 +28,9 @@ fill-end-requires c =
 
 pub overflow_cast-starts : goal.overflow_cast-starts
 overflow_cast-starts c =
-    let low : c.fill-end.result ≤ 8192 = let l = c in
-        let p = l.requires in
-        within p.0 (p.3, p.4, p.5, p.6) l.loop-s.invariant c.loop-s-test.true _ _ c.wide-from.ensures c.wide-to.ensures _ c.fill-end.ensures.0 p.2 in
+    let low : c.fill-end.result ≤ 8192 = 
+        let p = c.requires in
+        within p.0 (p.3, p.4, p.5, p.6) c.loop-s.invariant c.loop-s-test.true _ _ c.wide-from.ensures c.wide-to.ensures _ c.fill-end.ensures.0 p.2 in
     let l = low in omega arith
 
 pub overflow_add-starts : goal.overflow_add-starts
