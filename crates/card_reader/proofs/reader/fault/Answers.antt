@@ -15,24 +15,21 @@ returns-then-right-ne0 c =
 
 pub returns-then-not-laid : goal.returns-then-not-laid
 returns-then-not-laid c =
-    let m = l in
-    let b = m.args.s.now in
-    last_off b m.side_end-middle.result c.side_end-last.result m.side_end-middle.ensures.0 c.side_end-last.ensures.0
-    (sym m.side_fault-left.ensures ∙ m.if-left-ne0.false) (sym c.side_fault-right.ensures ∙ c.if-right-ne0.false)
+    let b = c.args.s.now in
+    last_off b c.side_end-middle.result c.side_end-last.result c.side_end-middle.ensures.0 c.side_end-last.ensures.0
+    (sym c.side_fault-left.ensures ∙ c.if-left-ne0.false) (sym c.side_fault-right.ensures ∙ c.if-right-ne0.false)
     (sym c.laid.ensures ∙ c.if-not-laid.true)
 
 pub returns-then-last-s : goal.returns-then-last-s
 returns-then-last-s c =
-    let m = l in
-    let b = m.args.s.now in
-    last_more b m.side_end-middle.result c.side_end-last.result m.side_end-middle.ensures.0 c.side_end-last.ensures.0
-    (sym m.side_fault-left.ensures ∙ m.if-left-ne0.false) (sym c.side_fault-right.ensures ∙ c.if-right-ne0.false)
+    let b = c.args.s.now in
+    last_more b c.side_end-middle.result c.side_end-last.result c.side_end-middle.ensures.0 c.side_end-last.ensures.0
+    (sym c.side_fault-left.ensures ∙ c.if-left-ne0.false) (sym c.side_fault-right.ensures ∙ c.if-right-ne0.false)
     (sym c.laid.ensures ∙ c.if-not-laid.false) c.if-last-s.true
 
 pub returns : goal.returns
 returns c =
-    let m = l in
-    let b = m.args.s.now in
-    no_fault b m.side_end-middle.result c.side_end-last.result m.side_end-middle.ensures.0 c.side_end-last.ensures.0
-    (sym m.side_fault-left.ensures ∙ m.if-left-ne0.false) (sym c.side_fault-right.ensures ∙ c.if-right-ne0.false)
+    let b = c.args.s.now in
+    no_fault b c.side_end-middle.result c.side_end-last.result c.side_end-middle.ensures.0 c.side_end-last.ensures.0
+    (sym c.side_fault-left.ensures ∙ c.if-left-ne0.false) (sym c.side_fault-right.ensures ∙ c.if-right-ne0.false)
     (sym c.laid.ensures ∙ c.if-not-laid.false) c.if-last-s.false

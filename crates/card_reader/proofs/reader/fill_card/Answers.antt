@@ -11,13 +11,13 @@ side_end-middle-requires c = (omega arith, left_passes c.args.s.now c.requires.0
 pub fill_side-requires : goal.fill_side-requires
 fill_side-requires c =
     let b = c.args in
-    (left_room b.s.now c.requires.0 (columns b.classes-1.now b.sources-1.now b.labels-1.now b.targets-1.now b.weights-1.now) c.requires.1, omega arith)
+    (left_room b.s.now c.requires.0 (columns b.classes.now b.sources.now b.labels.now b.targets.now b.weights.now) c.requires.1, omega arith)
 
 pub fill_side-requires-2 : goal.fill_side-requires-2
 fill_side-requires-2 c =
     let b = c.args in
     let h = c.side_end-middle.ensures.1 in (
-      right_room b.s.now c.requires.0 (columns b.classes-1.now b.sources-1.now b.labels-1.now b.targets-1.now b.weights-1.now) c.requires.1
+      right_room b.s.now c.requires.0 (columns b.classes.now b.sources.now b.labels.now b.targets.now b.weights.now) c.requires.1
           _ _ _ c.side_end-middle.ensures.0 c.number-states.ensures.0 c.number-transitions.ensures.0 _ c.fill_side.ensures,
       h,
     )
@@ -26,5 +26,5 @@ pub returns : goal.returns
 returns c =
     let b = c.args in
     c.fill_side-2.ensures
-    ∙ card_stored b.s.now c.requires.0 (columns b.classes-1.now b.sources-1.now b.labels-1.now b.targets-1.now b.weights-1.now) c.requires.1
+    ∙ card_stored b.s.now c.requires.0 (columns b.classes.now b.sources.now b.labels.now b.targets.now b.weights.now) c.requires.1
     _ _ _ c.side_end-middle.ensures.0 c.number-states.ensures.0 c.number-transitions.ensures.0 _ c.fill_side.ensures

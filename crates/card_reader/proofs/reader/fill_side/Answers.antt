@@ -30,5 +30,5 @@ pub returns : goal.returns
 returns c =
     let b = c.args in
     side_stored b.s.now b.at _ _ c.number-states.ensures.0 c.number-transitions.ensures.0
-    b.from b.first b.classes-1.now b.sources-1.now b.labels-1.now b.targets-1.now b.weights-1.now
+    b.from b.first b.classes.now b.sources.now b.labels.now b.targets.now b.weights.now
     c.fill_classes.ensures c.fill_transitions.ensures

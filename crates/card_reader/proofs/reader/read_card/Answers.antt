@@ -9,12 +9,12 @@ use Rattle.card_reader.proofs.reader.read_card.Goals as goal
 pub returns-then-found-ne0 : goal.returns-then-found-ne0
 returns-then-found-ne0 c =
     let b = c.args in
-    refused_answered b.s.now (columns b.classes-1.now b.sources-1.now b.labels-1.now b.targets-1.now b.weights-1.now) _ c.fault-found.ensures c.if-found-ne0.true
+    refused_answered b.s.now (columns b.classes.now b.sources.now b.labels.now b.targets.now b.weights.now) _ c.fault-found.ensures c.if-found-ne0.true
 
 pub returns-then-not-enough : goal.returns-then-not-enough
 returns-then-not-enough c =
     let b = c.args in
-    short_answered b.s.now (columns b.classes-1.now b.sources-1.now b.labels-1.now b.targets-1.now b.weights-1.now) (sym c.fault-found.ensures ∙ c.if-found-ne0.false)
+    short_answered b.s.now (columns b.classes.now b.sources.now b.labels.now b.targets.now b.weights.now) (sym c.fault-found.ensures ∙ c.if-found-ne0.false)
     (sym (c.enough.ensures ∙ counts_together (card_in b.s.now) _ _ _ _ _ _ c.heads_of-heads.ensures) ∙ c.if-not-enough.true)
 
 pub fill_card-requires : goal.fill_card-requires
@@ -27,6 +27,6 @@ fill_card-requires c =
 pub returns : goal.returns
 returns c =
     let b = c.args in
-    card_answered b.s.now (columns b.classes-1.now b.sources-1.now b.labels-1.now b.targets-1.now b.weights-1.now) _ _ (sym c.fault-found.ensures ∙ c.if-found-ne0.false)
+    card_answered b.s.now (columns b.classes.now b.sources.now b.labels.now b.targets.now b.weights.now) _ _ (sym c.fault-found.ensures ∙ c.if-found-ne0.false)
     (sym (c.enough.ensures ∙ counts_together (card_in b.s.now) _ _ _ _ _ _ c.heads_of-heads.ensures) ∙ c.if-not-enough.false)
     c.heads_of-heads.ensures c.fill_card.ensures
