@@ -47,6 +47,7 @@ sources s n (e ∷ es) (f, fs) = (f.source, sources s n es fs)
 edge_inside : (s n off x : ℕ) (es : List Edge) → EdgesOf s n es → EdgeTo off x es → x < off + n
 edge_inside s n off x (e ∷ es) (f, fs) (inl (m, p)) = let h = f.target in omega arith
 edge_inside s n off x (e ∷ es) (f, fs) (inr m) = edge_inside s n off x es fs m
+edge_inside s n off x [] _ x4 = elim x4 [ ]
 
 -- ---- its rates
 
@@ -135,6 +136,7 @@ row_of m n off s es w f l =
   where
     pick : (y : ℕ) → EdgeTo off y es ⊎ In y [] → y < m
     pick y (inl t) = let h = edge_inside s n off y es f t in omega arith
+    pick y (inr x') = elim x' [ ]
 
 -- ---- the union
 

@@ -33,10 +33,10 @@ pub record Readable (n : ℕ) (offsets edge_targets : List ℕ) (edge_weights : 
   pub few : n ≤ 2000
   pub offsets_long : n < length offsets
   pub rise : (s : ℕ) → s < n → get_or offsets s 0 ≤ get_or offsets (s + 1) 0
-  pub targets_long : get_or offsets n 0 ≤ length edgeTargets
-  pub weights_long : get_or offsets n 0 ≤ length edgeWeights
+  pub targets_long : get_or offsets n 0 ≤ length edge_targets
+  pub weights_long : get_or offsets n 0 ≤ length edge_weights
   pub edges_few : get_or offsets n 0 ≤ 4096
-  pub target_low : (i : ℕ) → i < get_or offsets n 0 → get_or edgeTargets i 0 < n
+  pub target_low : (i : ℕ) → i < get_or offsets n 0 → get_or edge_targets i 0 < n
 
 -- the lists hold the rows of states 0 to n - 1: an exit rate each, and the jumps of state s from place starts[s] up to starts[s + 1]
 pub record HoldsTo (J : Jumps) (n : ℕ) (exits : List Float) (starts targets : List ℕ) (probs : List Float) : Type 0 where

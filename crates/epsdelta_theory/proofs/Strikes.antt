@@ -24,6 +24,7 @@ module _ (Q : Task) where
   trail_within (l ∷ ks) R (e, h) k (inr i) =
       let r = trail_within ks l.before h k i in
       λ u v q. r u v (clear_within n l.before l.low l.high u v (subst (λ (S : List Bool). holds n S u v ≡ true) e q))
+  trail_within [] R _ k x3 = elim x3 [ ]
 
   pub trail_length : (ks : List Strike) (R : List Bool) → Trail Q ks R → length R ≡ n * n
   trail_length [] R e = ap length e ∙ marks_length Q
@@ -37,6 +38,7 @@ module _ (Q : Task) where
   pub trail_justified : (ks : List Strike) → AllJustified Q ks → (k : Strike) → In k ks → Justified Q k
   trail_justified (l ∷ ks) (a, r) k (inl p) = subst⁻¹ (Justified Q) p a
   trail_justified (l ∷ ks) (a, r) k (inr i) = trail_justified ks r k i
+  trail_justified [] _ k x3 = elim x3 [ ]
 
   -- a pair that is gone was struck
   pub trail_gone : (ks : List Strike) (R : List Bool) → Trail Q ks R → AllJustified Q ks → (u v : ℕ) → u < v → v < n

@@ -37,6 +37,7 @@ above_less u v (x ∷ xs) h (p, a) = (omega arith, above_less u v xs h a)
 above_in : (u x : ℕ) (xs : List ℕ) → Above u xs → In x xs → u < x
 above_in u x (y ∷ xs) (p, a) (inl e) = omega arith
 above_in u x (y ∷ xs) (p, a) (inr i) = above_in u x xs a i
+above_in u x [] _ x4 = elim x4 [ ]
 
 -- `add_rate` behind its first test
 abbrev added : ℕ → Float → Jump → List Jump → Bool → List Jump
@@ -122,6 +123,7 @@ rate_old x t w (j ∷ js) h = pick (λ i. rate_old x t w js i) h (ltb j.target t
     pick r (inl e) true = inl e
     pick r (inr i) true = inr (r i)
     pick r i false = here_old x t w j js (eqb j.target t) i
+rate_old x t w [] h = elim h [ ]
 
 rate_only : (x t : ℕ) (w : Float) (js : List Jump) → In x (targets (add_rate t w js)) → (x ≡ t) ⊎ In x (targets js)
 unfolding add_rate
@@ -136,6 +138,7 @@ rate_only x t w (j ∷ js) h = pick (rate_only x t w js) (ltb j.target t) h
     pick r true (inl e) = inr (inl e)
     pick r true (inr i) = on (r i)
     pick r false i = here_only x t w j js (eqb j.target t) i
+rate_only x t w [] (inr x3) = elim x3 [ ]
 
 edge_old : (x off : ℕ) (e : Edge) (js : List Jump) (b : Bool) → In x (targets js) → In x (targets (add_edge b off e js))
 unfolding add_edge
@@ -165,6 +168,7 @@ edges_have x off (e ∷ es) js (inl (inl (n, p))) =
     edges_have x off es (add_edge b off e js) (inr (subst⁻¹ (λ (y : ℕ). In y (targets (add_edge b off e js))) p (edge_new off e js b refl n)))
 edges_have x off (e ∷ es) js (inl (inr m)) = edges_have x off es (add_edge (eqb e.target e.source) off e js) (inl m)
 edges_have x off (e ∷ es) js (inr i) = edges_have x off es (add_edge (eqb e.target e.source) off e js) (inr (edge_old x off e js (eqb e.target e.source) i))
+edges_have x off [] js (inl x3) = elim x3 [ ]
 
 pub edges_only : (x off : ℕ) (es : List Edge) (js : List Jump) → In x (targets (add_edges off es js)) → EdgeTo off x es ⊎ In x (targets js)
 unfolding add_edges
@@ -211,6 +215,7 @@ rate_same t w (j ∷ js) (a, r) h = pick (rate_same t w js r) h (ltb j.target t)
     pick f (inl p) true e = let l : j.target < t = ltb-true _ _ e in absurd (omega arith)
     pick f (inr i) true e = ap suc (f i)
     pick f i false e = here_same t w j js (eqb j.target t) refl (ltb-false _ _ e) a i
+rate_same t w [] _ h = elim h [ ]
 
 -- what is found is in the list
 seek_in : (x : ℕ) (l : List ℕ) → seek x l < length l → In x l
