@@ -54,6 +54,7 @@ in_interned : (x : ℕ) (known xs : List ℕ) → In x xs → In x (intern known
 in_interned x known (y ∷ xs) (inl e) =
     intern_by (In x) known y xs (λ k. in_known x known xs (subst⁻¹ (λ (z : ℕ). In z known) e k)) (λ k. in_known x (known ++ (y ∷ [])) xs (in_right x known (y ∷ []) (inl e)))
 in_interned x known (y ∷ xs) (inr i) = intern_by (In x) known y xs (λ k. in_interned x known xs i) (λ k. in_interned x (known ++ (y ∷ [])) xs i)
+in_interned x known [] x'' = elim x'' [ ]
 
 pub interned_in : (x : ℕ) (known xs : List ℕ) → In x (intern known xs) → In x known ⊎ In x xs
 unfolding intern
@@ -89,6 +90,7 @@ pub record Around (x : ℕ) (l : List ℕ) : Type 0 where
 around : (x : ℕ) (l : List ℕ) → In x l → Around x l
 around x (y ∷ l) (inl e) = record { before = []; after = l; whole = ap (λ (z : ℕ). z ∷ l) (sym e) }
 around x (y ∷ l) (inr i) = let A = around x l i in record { before = y ∷ A.before; after = A.after; whole = ap (λ (m : List ℕ). y ∷ m) A.whole }
+around x [] x'' = elim x'' [ ]
 
 pub fits : (X K : List ℕ) → Apart X → ((x : ℕ) → In x X → In x K) → length X ≤ length K
 fits [] K a h = omega arith
