@@ -11,20 +11,17 @@ use Rattle.flow_links.proofs.LinkWrites.{adding_start, adding_on, adding_end, fr
 use Rattle.flow_links.proofs.links.add_cross.Goals as goal
 
 pub loop-j-init : goal.loop-j-init
-loop-j-init c = adding_start c.args.heads-1.now c.args.caps-1.now c.args.at (ap (λ (k : ℕ). cross_row c.args.relation.now c.args.base c.args.node k c.args.targets.now) (add-zero c.args.first))
-
-pub overflow_cast-v : goal.overflow_cast-v
-overflow_cast-v c = omega (arith, c.shared_slice_known-in-loop-j-1.given c.loop-j.j)
+loop-j-init c = adding_start c.args.heads.now c.args.caps.now c.args.at (ap (λ (k : ℕ). cross_row c.args.relation.now c.args.base c.args.node k c.args.targets.now) (add-zero c.args.first))
 
 pub overflow_add-base : goal.overflow_add-base
-overflow_add-base c = let p = c.requires.1.0 in record { fits = omega (arith, c.shared_slice_known-in-loop-j-1.given c.loop-j.j) }
+overflow_add-base c = let p = c.requires.base_bound in record { fits = omega (arith, c.shared_slice_known-in-loop-j-1.given c.loop-j.j) }
 
 pub put_if-e-requires : goal.put_if-e-requires
 put_if-e-requires c =
     let turn : cross_row c.args.relation.now c.args.base c.args.node (c.args.first + c.loop-j.j) (drop c.loop-j.j c.args.targets.now) ≡ link_if c.bit.result c.args.node (c.args.first + c.loop-j.j) [] ++ cross_row c.args.relation.now c.args.base c.args.node (c.args.first + (c.loop-j.j + 1)) (drop (c.loop-j.j + 1) c.args.targets.now) = cross_next c.args.relation.now c.args.base c.args.node c.args.first c.loop-j.j c.args.targets.now c.loop-j-test.true ∙ ap (λ (b : Bool). link_if b c.args.node (c.args.first + c.loop-j.j) [] ++ cross_row c.args.relation.now c.args.base c.args.node (c.args.first + (c.loop-j.j + 1)) (drop (c.loop-j.j + 1) c.args.targets.now)) (sym c.bit.ensures) in
     let h = c.loop-j-test.true in
-    let p = c.requires.0 in
-    (free_next (link_if c.bit.result c.args.node (c.args.first + c.loop-j.j) []) (cross_row c.args.relation.now c.args.base c.args.node (c.args.first + (c.loop-j.j + 1)) (drop (c.loop-j.j + 1) c.args.targets.now)) turn c.requires.1.1 c.loop-j.invariant, (omega arith, omega arith))
+    let p = c.requires.targets_bound in
+    record { free = free_next (link_if c.bit.result c.args.node (c.args.first + c.loop-j.j) []) (cross_row c.args.relation.now c.args.base c.args.node (c.args.first + (c.loop-j.j + 1)) (drop (c.loop-j.j + 1) c.args.targets.now)) turn c.requires.free c.loop-j.invariant; from_bound = (omega arith, omega arith) }
 
 pub loop-j-preserved : goal.loop-j-preserved
 loop-j-preserved c =

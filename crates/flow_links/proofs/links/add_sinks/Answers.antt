@@ -10,18 +10,18 @@ use Rattle.flow_links.proofs.LinkWrites.{adding_start, adding_on, adding_end, fr
 use Rattle.flow_links.proofs.links.add_sinks.Goals as goal
 
 pub loop-i-init : goal.loop-i-init
-loop-i-init c = adding_start c.args.heads-1.now c.args.caps-1.now c.args.at (ap (λ (k : ℕ). sink_row c.args.sink k c.args.rates.now) (add-zero c.args.first))
+loop-i-init c = adding_start c.args.heads.now c.args.caps.now c.args.at (ap (λ (k : ℕ). sink_row c.args.sink k c.args.rates.now) (add-zero c.args.first))
 
 pub put-requires : goal.put-requires
 put-requires c =
-    let next : Free c.loop-i.heads-1 c.loop-i.caps-1 c.loop-i.e 1 = free_next (record { from = c.args.first + c.loop-i.i; to = c.args.sink; cap = get_or c.args.rates.now c.loop-i.i nan } ∷ []) (sink_row c.args.sink (c.args.first + (c.loop-i.i + 1)) (drop (c.loop-i.i + 1) c.args.rates.now)) (sink_next c.args.sink c.args.first c.loop-i.i c.args.rates.now c.loop-i-test.true) c.requires.1 c.loop-i.invariant in
+    let next : Free c.loop-i.heads c.loop-i.caps c.loop-i.e 1 = free_next (record { from = c.args.first + c.loop-i.i; to = c.args.sink; cap = get_or c.args.rates.now c.loop-i.i nan } ∷ []) (sink_row c.args.sink (c.args.first + (c.loop-i.i + 1)) (drop (c.loop-i.i + 1) c.args.rates.now)) (sink_next c.args.sink c.args.first c.loop-i.i c.args.rates.now c.loop-i-test.true) c.requires.free c.loop-i.invariant in
     let h = c.loop-i-test.true in
-    let p = c.requires.0 in
-    (next, (omega arith, omega arith))
+    let p = c.requires.rates_bound in
+    record { free = next; from_bound = (omega arith, omega arith) }
 
 pub overflow_add-e : goal.overflow_add-e
 overflow_add-e c =
-    let next : Free c.loop-i.heads-1 c.loop-i.caps-1 c.loop-i.e 1 = free_next (record { from = c.args.first + c.loop-i.i; to = c.args.sink; cap = get_or c.args.rates.now c.loop-i.i nan } ∷ []) (sink_row c.args.sink (c.args.first + (c.loop-i.i + 1)) (drop (c.loop-i.i + 1) c.args.rates.now)) (sink_next c.args.sink c.args.first c.loop-i.i c.args.rates.now c.loop-i-test.true) c.requires.1 c.loop-i.invariant in
+    let next : Free c.loop-i.heads c.loop-i.caps c.loop-i.e 1 = free_next (record { from = c.args.first + c.loop-i.i; to = c.args.sink; cap = get_or c.args.rates.now c.loop-i.i nan } ∷ []) (sink_row c.args.sink (c.args.first + (c.loop-i.i + 1)) (drop (c.loop-i.i + 1) c.args.rates.now)) (sink_next c.args.sink c.args.first c.loop-i.i c.args.rates.now c.loop-i-test.true) c.requires.free c.loop-i.invariant in
     let l = next.small in record { fits = omega arith }
 
 pub loop-i-preserved : goal.loop-i-preserved

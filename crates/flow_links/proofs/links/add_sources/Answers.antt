@@ -9,18 +9,18 @@ use Rattle.flow_links.proofs.LinkWrites.{adding_start, adding_on, adding_end, fr
 use Rattle.flow_links.proofs.links.add_sources.Goals as goal
 
 pub loop-i-init : goal.loop-i-init
-loop-i-init c = adding_start c.args.heads-1.now c.args.caps-1.now (0) refl
+loop-i-init c = adding_start c.args.heads.now c.args.caps.now (0) refl
 
 pub put-requires : goal.put-requires
 put-requires c =
-    let next : Free c.loop-i.heads-1 c.loop-i.caps-1 c.loop-i.e 1 = free_next (record { from = c.args.source; to = c.loop-i.i; cap = get_or c.args.rates.now c.loop-i.i nan } ∷ []) (source_row c.args.source (c.loop-i.i + 1) (drop (c.loop-i.i + 1) c.args.rates.now)) (source_next c.args.source c.loop-i.i c.args.rates.now c.loop-i-test.true) c.requires.1 c.loop-i.invariant in
+    let next : Free c.loop-i.heads c.loop-i.caps c.loop-i.e 1 = free_next (record { from = c.args.source; to = c.loop-i.i; cap = get_or c.args.rates.now c.loop-i.i nan } ∷ []) (source_row c.args.source (c.loop-i.i + 1) (drop (c.loop-i.i + 1) c.args.rates.now)) (source_next c.args.source c.loop-i.i c.args.rates.now c.loop-i-test.true) c.requires.free c.loop-i.invariant in
     let h = c.loop-i-test.true in
-    let p = c.requires.0 in
-    (next, (omega arith, omega arith))
+    let p = c.requires.rates_len_bound in
+    record { free = next; from_bound = (omega arith, omega arith) }
 
 pub overflow_add-e : goal.overflow_add-e
 overflow_add-e c =
-    let next : Free c.loop-i.heads-1 c.loop-i.caps-1 c.loop-i.e 1 = free_next (record { from = c.args.source; to = c.loop-i.i; cap = get_or c.args.rates.now c.loop-i.i nan } ∷ []) (source_row c.args.source (c.loop-i.i + 1) (drop (c.loop-i.i + 1) c.args.rates.now)) (source_next c.args.source c.loop-i.i c.args.rates.now c.loop-i-test.true) c.requires.1 c.loop-i.invariant in
+    let next : Free c.loop-i.heads c.loop-i.caps c.loop-i.e 1 = free_next (record { from = c.args.source; to = c.loop-i.i; cap = get_or c.args.rates.now c.loop-i.i nan } ∷ []) (source_row c.args.source (c.loop-i.i + 1) (drop (c.loop-i.i + 1) c.args.rates.now)) (source_next c.args.source c.loop-i.i c.args.rates.now c.loop-i-test.true) c.requires.free c.loop-i.invariant in
     let l = next.small in record { fits = omega arith }
 
 pub loop-i-preserved : goal.loop-i-preserved

@@ -10,7 +10,7 @@ has_room-requires c = let F = fit c.args.left_targets.now c.args.left_rates.now 
 pub put_links-places-requires : goal.put_links-places-requires
 put_links-places-requires c =
     let f = sym c.rows_fit.ensures ∙ c.if-rows_fit.true in
-    (f, room (fit c.args.left_targets.now c.args.left_rates.now c.args.right_targets.now c.args.right_rates.now c.args.states f) c.args.relation.now c.args.heads-1.now c.args.caps-1.now (sym c.has_room.ensures ∙ c.if-has_room.true))
+    record { states_value = f; free = room (fit c.args.left_targets.now c.args.left_rates.now c.args.right_targets.now c.args.right_rates.now c.args.states f) c.args.relation.now c.args.heads.now c.args.caps.now (sym c.has_room.ensures ∙ c.if-has_room.true) }
 
 pub shape_of-heads-then-has_room : goal.shape_of-heads-then-has_room
 shape_of-heads-then-has_room c = c.put_links-places.ensures.heads_size
@@ -19,10 +19,10 @@ pub shape_of-caps-then-has_room : goal.shape_of-caps-then-has_room
 shape_of-caps-then-has_room c = c.put_links-places.ensures.caps_size
 
 pub returns-then-has_room : goal.returns-then-has_room
-returns-then-has_room c = done_is c.args.left_targets.now c.args.left_rates.now c.args.right_targets.now c.args.right_rates.now c.args.states (sym c.rows_fit.ensures ∙ c.if-rows_fit.true) c.args.relation.now c.args.heads-1.now c.args.caps-1.now (sym c.has_room.ensures ∙ c.if-has_room.true) c.put_links-places.ensures
+returns-then-has_room c = let P = done_is c.args.left_targets.now c.args.left_rates.now c.args.right_targets.now c.args.right_rates.now c.args.states (sym c.rows_fit.ensures ∙ c.if-rows_fit.true) c.args.relation.now c.args.heads.now c.args.caps.now (sym c.has_room.ensures ∙ c.if-has_room.true) c.put_links-places.ensures in record { done_value = P.0; places_value = P.1.0; heads_after = P.1.1.0; caps_after = P.1.1.1 }
 
 pub returns-else-has_room : goal.returns-else-has_room
-returns-else-has_room c = no_room c.args.left_targets.now c.args.left_rates.now c.args.right_targets.now c.args.right_rates.now c.args.states (sym c.rows_fit.ensures ∙ c.if-rows_fit.true) (relation_of c.args.relation.now) c.args.heads-1.now c.args.caps-1.now (sym c.has_room.ensures ∙ c.if-has_room.false)
+returns-else-has_room c = let P = no_room c.args.left_targets.now c.args.left_rates.now c.args.right_targets.now c.args.right_rates.now c.args.states (sym c.rows_fit.ensures ∙ c.if-rows_fit.true) (relation_of c.args.relation.now) c.args.heads.now c.args.caps.now (sym c.has_room.ensures ∙ c.if-has_room.false) in record { done_value = P.0; places_value = P.1.0; heads_after = P.1.1.0; caps_after = P.1.1.1 }
 
 pub returns-else-rows_fit : goal.returns-else-rows_fit
-returns-else-rows_fit c = no_fit c.args.left_targets.now c.args.left_rates.now c.args.right_targets.now c.args.right_rates.now c.args.states (relation_of c.args.relation.now) c.args.heads-1.now c.args.caps-1.now (sym c.rows_fit.ensures ∙ c.if-rows_fit.false)
+returns-else-rows_fit c = let P = no_fit c.args.left_targets.now c.args.left_rates.now c.args.right_targets.now c.args.right_rates.now c.args.states (relation_of c.args.relation.now) c.args.heads.now c.args.caps.now (sym c.rows_fit.ensures ∙ c.if-rows_fit.false) in record { done_value = P.0; places_value = P.1.0; heads_after = P.1.1.0; caps_after = P.1.1.1 }
