@@ -28,12 +28,13 @@ seek_in x (y ∷ l) h = pick (λ g. seek_in x l g) (eqb y x) refl h
 
 in_seek : (x : ℕ) (l : List ℕ) → In x l → seek x l < length l
 unfolding seek
-in_seek x (y ∷ l) (inl e) = let z = Rattle.numbers.proofs.Seeks.seek-here x y l (sym e) in omega arith
+in_seek x (y ∷ l) (inl e) = let z = Rattle.numbers.proofs.Seeks.seek_here x y l (sym e) in omega arith
 in_seek x (y ∷ l) (inr i) = pick (in_seek x l i) (eqb y x)
   where
     pick : seek x l < length l → (b : Bool) → here b (seek x l) < suc (length l)
     pick h true = omega arith
     pick h false = omega arith
+in_seek x [] x'' = elim x'' [ ]
 
 -- ---- the members of interned values
 

@@ -71,7 +71,7 @@ module _ {T : List ℕ} {m states : ℕ} {off₀ off : List ℕ} {s p : ℕ} (I 
 
   module _ (h : s ≤ states) (b r : ℕ) (e : b ≡ s * 524288) (F : FirstFrom T m p b r) where
     lower : (j : ℕ) → j < r → get_or T j 0 < s * 524288
-    lower j l = pick (Rattle.numbers.proofs.Bools.lt-or-ge j p)
+    lower j l = pick (Rattle.numbers.proofs.Bools.lt_or_ge j p)
       where
         pick : (j < p) ⊎ (p ≤ j) → get_or T j 0 < s * 524288
         pick (inl k) = I.low j k
