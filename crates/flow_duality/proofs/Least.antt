@@ -90,6 +90,7 @@ push_path_back x (e ∷ es) c y (inl p) a h l =
 push_path_back x (e ∷ es) c y (inr i) a h l =
     push_path_back x es (push_link x e c) y i a.1 (λ b j. h b (inr j)) (rw (push_link_length x e c) l)
     ∙ ap (λ (z : Float). add binary64 z x) (push_link_other x e c y (h e (inl refl)) (λ q. apart_ne e (rev y) es a i (ap rev q ∙ rev_rev e)))
+push_path_back x [] c y x5 a h l = elim x5 [ ]
 
 -- an infinity stays one
 pub sub_inf : (x y : Float) → Plain x → y ≡ inf false → sub binary64 y x ≡ inf false

@@ -84,10 +84,12 @@ module _ (N : Net) (G : WellFormed N) (c : List Float) (L : List ℕ) where
   pub route_links : (p : List ℕ) (u : ℕ) → Route N c L p u → (e : ℕ) → In e p → (e < links N) × (residual c e ≡ true) × Up N L e
   route_links (a ∷ p) u P e (inl q) = rw q (P.0.known, P.0.on, ap (level_of L) P.0.to ∙ P.0.higher)
   route_links (a ∷ p) u P e (inr i) = route_links p (tail N a) P.1 e i
+  route_links [] u P e x'' = elim x'' [ ]
 
   route_below : (p : List ℕ) (u : ℕ) → Route N c L p u → (e : ℕ) → In e p → level_of L (head N e) ≤ level_of L u
   route_below (a ∷ p) u P e (inl q) = let t : level_of L (head N e) ≡ level_of L u = ap (λ (x : ℕ). level_of L (head N x)) q ∙ ap (level_of L) P.0.to in omega arith
   route_below (a ∷ p) u P e (inr i) = let r = route_below p (tail N a) P.1 e i in let h = P.0.higher in omega arith
+  route_below [] u P e x'' = elim x'' [ ]
 
   pub route_apart : (p : List ℕ) (u : ℕ) → Route N c L p u → Apart p
   route_apart [] u P = tt
