@@ -23,11 +23,13 @@ module _ {A B : Type 0} (f : A → B) where
   pub map_in : (x : A) (l : List A) → In x l → In (f x) (map f l)
   map_in x (y ∷ l) (inl e) = inl (ap f e)
   map_in x (y ∷ l) (inr i) = inr (map_in x l i)
+  map_in x [] x'' = elim x'' [ ]
 
   -- what holds of each holds of all
   pub map_all : (P : B → Type 0) (l : List A) → ((x : A) → In x l → P (f x)) → (y : B) → In y (map f l) → P y
   map_all P (x ∷ l) h y (inl q) = subst⁻¹ P q (h x (inl refl))
   map_all P (x ∷ l) h y (inr i) = map_all P l (λ w j. h w (inr j)) y i
+  map_all P [] h y x'' = elim x'' [ ]
 
 -- ---- rows
 
@@ -60,6 +62,7 @@ module _ {A : Type 0} (f : Jump → Jump → A) where
   unfolding cross
   cross_in e y (d ∷ es) fs (inl q) k = subst⁻¹ (λ (x : Jump). In (f x y) (map (f d) fs ++ cross f es fs)) q (in_left (f d y) (map (f d) fs) (cross f es fs) (map_in (f d) y fs k))
   cross_in e y (d ∷ es) fs (inr i) k = in_right (f e y) (map (f d) fs) (cross f es fs) (cross_in e y es fs i k)
+  cross_in e y [] fs x'' k = elim x'' [ ]
 
   -- what holds of each holds of all
   pub cross_all : (P : A → Type 0) (es fs : List Jump) → ((e y : Jump) → In e es → In y fs → P (f e y)) → (x : A) → In x (cross f es fs) → P x
@@ -69,3 +72,4 @@ module _ {A : Type 0} (f : Jump → Jump → A) where
       pick : (In x (cross f es fs) → P x) → In x (map (f e) fs) ⊎ In x (cross f es fs) → P x
       pick r (inl j) = map_all (f e) P fs (λ y k. h e y (inl refl) k) x j
       pick r (inr j) = r j
+  cross_all P [] fs h x i = elim i [ ]

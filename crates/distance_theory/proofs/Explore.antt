@@ -48,6 +48,7 @@ place_in p (q ∷ qs) i = pick (λ j. place_in p qs j) (same p q) refl i
     pick r true h i = rw (place_step p q qs true h) (omega arith)
     pick r false h (inl e) = absurd (true≢false (sym (same_of p q e) ∙ h))
     pick r false h (inr j) = let k = r j in rw (place_step p q qs false h) (omega arith)
+place_in p [] i = elim i [ ]
 
 pub place_at : (p : Pair) (l : List Pair) → place p l < length l → (In p l) × (pair_at l (place p l) ≡ p)
 place_at p [] h = absurd (not-suc-le-zero h)

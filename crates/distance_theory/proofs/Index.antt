@@ -247,6 +247,7 @@ pub in_sort : (x : ℕ) (l : List ℕ) → In x l → In x (sort l)
 unfolding sort
 in_sort x (y ∷ l) (inl e) = in_insert x y (sort l) (inl e)
 in_sort x (y ∷ l) (inr i) = in_insert x y (sort l) (inr (in_sort x l i))
+in_sort x [] x'' = elim x'' [ ]
 
 index_coded : (ps : List Pair) (i : ℕ) → i < length ps → Coded ps 0 (get_or (index ps) i 0)
 unfolding index

@@ -26,12 +26,14 @@ Aims n es = (e : Edge) → In e es → e.target < n
 aimed : (q : Float) (n x : ℕ) (es : List Edge) → Aims n es → EdgeTo 0 x (map (divided_edge q) es) → x < n
 aimed q n x (e ∷ es) a (inl (d, p)) = let h = a e (inl refl) in omega arith
 aimed q n x (e ∷ es) a (inr m) = aimed q n x es (λ f i. a f (inr i)) m
+aimed q n x [] a x3 = elim x3 [ ]
 
 gathered : (q : Float) (n x : ℕ) (es : List Edge) → Aims n es → In x (targets (add_edges 0 (map (divided_edge q) es) [])) → x < n
 gathered q n x es a i = pick (edges_only x 0 (map (divided_edge q) es) [] i)
   where
     pick : EdgeTo 0 x (map (divided_edge q) es) ⊎ In x [] → x < n
     pick (inl m) = aimed q n x es a m
+    pick (inr x'') = elim x'' [ ]
 
 -- an edge that leads to s from elsewhere adds a rate there
 abbrev coming : ℕ → Float → Edge
@@ -47,6 +49,7 @@ rate_only y s x js i = pick (edges_only y 0 (coming s x ∷ []) js (subst (λ (l
     pick : EdgeTo 0 y (coming s x ∷ []) ⊎ In y (targets js) → (y ≡ s) ⊎ In y (targets js)
     pick (inl (inl (d, p))) = inl (omega arith)
     pick (inr m) = inr m
+    pick (inl (inr x3)) = elim x3 [ ]
 
 pub row_inside : (q : Float) (n s y : ℕ) (es : List Edge) → s < n → Aims n es → In y (targets (chain_row q s es)) → y < n
 unfolding chain_row
