@@ -41,10 +41,10 @@ pub shape_of-lengths-then-not-part : goal.shape_of-lengths-then-not-part
 shape_of-lengths-then-not-part c = c.loop-k.invariant.lengths_size
 
 pub shape_of-places-then-not-part : goal.shape_of-places-then-not-part
-shape_of-places-then-not-part c = back_length c.loop-k.at c.loop-k.places-1 c.lay_pair-part.new.1.1.1.1.1.1.1.1.1.0 c.loop-k.invariant.in_places c.lay_pair-part.auto.1.1.1.1.1.1.1.1.1.0 ∙ c.loop-k.invariant.places_size
+shape_of-places-then-not-part c = back_length c.loop-k.at c.loop-k.places c.lay_pair-part.new.places c.loop-k.invariant.in_places c.lay_pair-part.auto.places ∙ c.loop-k.invariant.places_size
 
 pub shape_of-masses-then-not-part : goal.shape_of-masses-then-not-part
-shape_of-masses-then-not-part c = back_length c.loop-k.at c.loop-k.masses-1 c.lay_pair-part.new.1.1.1.1.1.1.1.1.1.1.0 c.loop-k.invariant.in_masses c.lay_pair-part.auto.1.1.1.1.1.1.1.1.1.1.0 ∙ c.loop-k.invariant.masses_size
+shape_of-masses-then-not-part c = back_length c.loop-k.at c.loop-k.masses c.lay_pair-part.new.masses c.loop-k.invariant.in_masses c.lay_pair-part.auto.masses ∙ c.loop-k.invariant.masses_size
 
 pub returns-then-not-part : goal.returns-then-not-part
 returns-then-not-part c = fills_stop c.args.lefts.now c.args.rights.now c.args.codes.now (chain_columns c.args.left_offsets.now c.args.left_targets.now c.args.left_probs.now []) (chain_columns c.args.right_offsets.now c.args.right_targets.now c.args.right_probs.now []) c.loop-k.invariant c.loop-k-test.true c.wide-x.result c.wide-y.result c.wide-x.ensures c.wide-y.ensures c.lay_pair-part.result.done c.lay_pair-part.result.cells _ _ c.lay_pair-part.ensures (ap not c.if-not-part.true)
@@ -65,7 +65,7 @@ pub overflow_add-at : goal.overflow_add-at
 overflow_add-at c = let q = cells_in c.args.lefts.now c.args.rights.now c.args.codes.now (chain_columns c.args.left_offsets.now c.args.left_targets.now c.args.left_probs.now []) (chain_columns c.args.right_offsets.now c.args.right_targets.now c.args.right_probs.now []) c.loop-k.invariant c.loop-k-test.true c.wide-x.result c.wide-y.result c.wide-x.ensures c.wide-y.ensures c.lay_pair-part.result.done c.lay_pair-part.result.cells _ _ c.lay_pair-part.ensures (ap not c.if-not-part.false) in let e = q.0 in let f = c.loop-k.invariant.few in let h = c.loop-k-test.true in let p = c.requires.0 in omega arith
 
 pub loop-k-preserved : goal.loop-k-preserved
-loop-k-preserved c = fills_next c.args.lefts.now c.args.rights.now c.args.codes.now (chain_columns c.args.left_offsets.now c.args.left_targets.now c.args.left_probs.now []) (chain_columns c.args.right_offsets.now c.args.right_targets.now c.args.right_probs.now []) c.loop-k.invariant c.loop-k-test.true c.wide-x.result c.wide-y.result c.wide-x.ensures c.wide-y.ensures c.lay_pair-part.result.done c.lay_pair-part.result.cells _ _ c.lay_pair-part.ensures (ap not c.if-not-part.false) c.lay_pair-part.auto.1.1.1.1.1.1.1.1.1.0 c.lay_pair-part.auto.1.1.1.1.1.1.1.1.1.1.0
+loop-k-preserved c = fills_next c.args.lefts.now c.args.rights.now c.args.codes.now (chain_columns c.args.left_offsets.now c.args.left_targets.now c.args.left_probs.now []) (chain_columns c.args.right_offsets.now c.args.right_targets.now c.args.right_probs.now []) c.loop-k.invariant c.loop-k-test.true c.wide-x.result c.wide-y.result c.wide-x.ensures c.wide-y.ensures c.lay_pair-part.result.done c.lay_pair-part.result.cells _ _ c.lay_pair-part.ensures (ap not c.if-not-part.false) c.lay_pair-part.auto.places c.lay_pair-part.auto.masses
 
 pub shape_of-starts : goal.shape_of-starts
 shape_of-starts c = c.loop-k.invariant.starts_size

@@ -4,10 +4,10 @@ use Rattle.transport.proofs.Refusing.{sized_roomy, answered, refuses}
 use Rattle.transport.proofs.entry.transport_sized.Goals as goal
 
 pub returns-then-refused-ne0 : goal.returns-then-refused-ne0
-returns-then-refused-ne0 c = refuses c.args.a.now c.args.b.now c.args.costs.now c.args.plan_rows-1.now c.args.plan_columns-1.now c.args.plan_masses-1.now _ _ c.size_refusal-refused.ensures c.if-refused-ne0.true
+returns-then-refused-ne0 c = refuses c.args.a.now c.args.b.now c.args.costs.now c.args.plan_rows.now c.args.plan_columns.now c.args.plan_masses.now _ _ c.size_refusal-refused.ensures c.if-refused-ne0.true
 
 pub planned-p-requires : goal.planned-p-requires
-planned-p-requires c = sized_roomy c.args.a.now c.args.b.now c.args.costs.now c.args.plan_rows-1.now c.args.plan_columns-1.now c.args.plan_masses-1.now (sym c.size_refusal-refused.ensures ∙ c.if-refused-ne0.false)
+planned-p-requires c = sized_roomy c.args.a.now c.args.b.now c.args.costs.now c.args.plan_rows.now c.args.plan_columns.now c.args.plan_masses.now (sym c.size_refusal-refused.ensures ∙ c.if-refused-ne0.false)
 
 pub returns : goal.returns
-returns c = answered c.args.a.now c.args.b.now c.args.costs.now c.args.plan_rows-1.now c.args.plan_columns-1.now c.args.plan_masses-1.now _ (sym c.size_refusal-refused.ensures ∙ c.if-refused-ne0.false) c.planned-p.ensures
+returns c = answered c.args.a.now c.args.b.now c.args.costs.now c.args.plan_rows.now c.args.plan_columns.now c.args.plan_masses.now _ (sym c.size_refusal-refused.ensures ∙ c.if-refused-ne0.false) c.planned-p.ensures

@@ -10,7 +10,7 @@ pub overflow_mul-m : goal.overflow_mul-m
 overflow_mul-m c = let f = c.requires.base.few_a in let g = c.requires.base.few_b in record { fits = omega arith }
 
 pub write_plan-requires : goal.write_plan-requires
-write_plan-requires c = plannable c.requires c.ship_rows.ensures (omega (arith, c.ship_rows.auto.1.1.1.0))
+write_plan-requires c = plannable c.requires c.ship_rows.ensures (omega (arith, c.ship_rows.auto.caps))
 
 pub returns : goal.returns
 returns c = planned c.requires c.ship_rows.ensures c.write_plan.ensures

@@ -21,4 +21,4 @@ pub round_in-requires : goal.round_in-requires
 round_in-requires c = round_ready c.args.heads.now c.args.costs.now c.args.nodes c.args.source c.args.sink c.requires c.infinity-far.result c.infinity-far.ensures
 
 pub returns : goal.returns
-returns c = subst (λ (m : ℕ). Turned (row_roads c.args.heads.now c.args.costs.now m c.args.source c.args.sink) c.args.caps-1.now c.args.remaining c.round_in.result.pushed c.round_in.result.remaining c.round_in.new.1.0) (fresh_size c.args.heads.now c.args.costs.now c.args.nodes c.args.source c.args.sink c.requires c.infinity-far.result) c.round_in.ensures
+returns c = subst (λ (m : ℕ). Turned (row_roads c.args.heads.now c.args.costs.now m c.args.source c.args.sink) c.args.caps.now c.args.remaining c.round_in.result.pushed c.round_in.result.remaining c.round_in.new.caps) (fresh_size c.args.heads.now c.args.costs.now c.args.nodes c.args.source c.args.sink c.requires c.infinity-far.result) c.round_in.ensures

@@ -22,16 +22,16 @@ pub bounds-dist-sink : goal.bounds-dist-sink
 bounds-dist-sink c = sink_dist c.requires c.search.ensures
 
 pub shape_of-dist-then-is_infinite : goal.shape_of-dist-then-is_infinite
-shape_of-dist-then-is_infinite c = omega (arith, c.search.auto.1.1.1.1.1.0, length-set c.args.dist-1.now c.args.source nought)
+shape_of-dist-then-is_infinite c = omega (arith, c.search.auto.dist, length-set c.args.dist.now c.args.source nought)
 
 pub returns-then-is_infinite : goal.returns-then-is_infinite
 returns-then-is_infinite c = round_lost c.requires c.search.ensures (sym c.is_infinite.ensures ∙ c.if-is_infinite.true) c.args.remaining
 
 pub push_back-requires : goal.push_back-requires
-push_back-requires c = movable c.args.heads.now c.args.costs.now (length c.args.dist-1.now) c.args.source c.args.sink c.requires c.search.ensures (sym c.is_infinite.ensures ∙ c.if-is_infinite.false) (let k = c.search.auto.1.1.1.1.1.1.0 in let r = round_sizes c.requires in omega arith)
+push_back-requires c = movable c.args.heads.now c.args.costs.now (length c.args.dist.now) c.args.source c.args.sink c.requires c.search.ensures (sym c.is_infinite.ensures ∙ c.if-is_infinite.false) (let k = c.search.auto.via in let r = round_sizes c.requires in omega arith)
 
 pub shape_of-dist : goal.shape_of-dist
-shape_of-dist c = omega (arith, c.search.auto.1.1.1.1.1.0, length-set c.args.dist-1.now c.args.source nought)
+shape_of-dist c = omega (arith, c.search.auto.dist, length-set c.args.dist.now c.args.source nought)
 
 pub returns : goal.returns
-returns c = moved c.args.heads.now c.args.costs.now (length c.args.dist-1.now) c.args.source c.args.sink c.requires c.search.ensures (sym c.is_infinite.ensures ∙ c.if-is_infinite.false) (let k = c.search.auto.1.1.1.1.1.1.0 in let r = round_sizes c.requires in omega arith) c.push_back.result.pushed c.args.remaining c.push_back.result.remaining c.push_back.new.1.0 c.push_back.ensures
+returns c = moved c.args.heads.now c.args.costs.now (length c.args.dist.now) c.args.source c.args.sink c.requires c.search.ensures (sym c.is_infinite.ensures ∙ c.if-is_infinite.false) (let k = c.search.auto.via in let r = round_sizes c.requires in omega arith) c.push_back.result.pushed c.args.remaining c.push_back.result.remaining c.push_back.new.caps c.push_back.ensures

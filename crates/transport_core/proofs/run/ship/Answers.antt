@@ -18,13 +18,13 @@ pub one_round-r-requires : goal.one_round-r-requires
 one_round-r-requires c = ship_ready c.requires c.loop-made.invariant
 
 pub shape_of-caps-then-not-r : goal.shape_of-caps-then-not-r
-shape_of-caps-then-not-r c = omega (arith, c.one_round-r.auto.1.0, c.loop-made.invariant.size)
+shape_of-caps-then-not-r c = omega (arith, c.one_round-r.auto.caps, c.loop-made.invariant.size)
 
 pub returns-then-not-r : goal.returns-then-not-r
 returns-then-not-r c = ship_broken c.loop-made.invariant c.loop-made-test.true (c.if-not-remaining-much.false) (not-true c.one_round-r.result.pushed (ap not c.if-not-r.true)) c.one_round-r.ensures
 
 pub loop-made-preserved : goal.loop-made-preserved
-loop-made-preserved c = ship_on c.loop-made.invariant c.loop-made-test.true (c.if-not-remaining-much.false) (not-false c.one_round-r.result.pushed (ap not c.if-not-r.false)) (omega (arith, c.one_round-r.auto.1.0)) c.one_round-r.ensures
+loop-made-preserved c = ship_on c.loop-made.invariant c.loop-made-test.true (c.if-not-remaining-much.false) (not-false c.one_round-r.result.pushed (ap not c.if-not-r.false)) (omega (arith, c.one_round-r.auto.caps)) c.one_round-r.ensures
 
 pub shape_of-caps : goal.shape_of-caps
 shape_of-caps c = c.loop-made.invariant.size
