@@ -1,9 +1,8 @@
 use mathlib.Core.Path.{sym, ◌∙◌}
-use mathlib.Core.Logic.{⊎_elim}
 use native.Mathlib.Omega.{arith}
-use borrow.Author.Tests.{not-true, not-false}
 use Rattle.transport_theory.proofs.Searches.{pass_starts, node_low, relaxable, pass_over, pass_through, pass_ends}
 use Rattle.transport_core.proofs.search.pass.Goals as goal
+use Rattle.transport_core.proofs.search.pass.Goals.{then-not-is_infinite, else-not-is_infinite}
 
 pub loop-u-init : goal.loop-u-init
 loop-u-init c = pass_starts c.requires
@@ -40,10 +39,10 @@ loop-u-smaller c = let a = c.loop-u.invariant.dist_length in let l = c.loop-u-te
 
 pub loop-u-preserved : goal.loop-u-preserved
 loop-u-preserved c =
-    ⊎_elim
-    (λ w. pass_through c.requires c.loop-u.invariant c.loop-u-test.true (sym c.is_infinite.ensures ∙ not-true _ w.0.taken) (omega (arith, w.5.kept.1.1.1.1.1.1.1.0)) (omega (arith, w.5.kept.1.1.1.1.1.1.1.1.0)) w.5.ensures _ _ _ w.10 w.11 w.12)
-    (λ w. pass_over c.requires c.loop-u.invariant c.loop-u-test.true (sym c.is_infinite.ensures ∙ not-false _ w.0.left) _ _ _ w.1 w.2 w.3)
-    c.if-not-is_infinite.branch
+    elim c.if-not-is_infinite.branch [
+      then-not-is_infinite w ↦ pass_through c.requires c.loop-u.invariant c.loop-u-test.true (sym c.is_infinite.ensures ∙ w.if-not-is_infinite.true) (omega (arith, w.relax-changed.auto.dist)) (omega (arith, w.relax-changed.auto.via)) w.relax-changed.ensures _ _ _ w.dist-is w.via-is w.changed-is
+    | else-not-is_infinite w ↦ pass_over c.requires c.loop-u.invariant c.loop-u-test.true (sym c.is_infinite.ensures ∙ w.if-not-is_infinite.false) _ _ _ w.dist-is w.via-is w.changed-is
+    ]
 
 pub shape_of-dist : goal.shape_of-dist
 shape_of-dist c = c.loop-u.invariant.dist_length

@@ -1,8 +1,9 @@
-use mathlib.Core.Logic.{⊎_elim, inl, inr}
+use mathlib.Core.Logic.{inl, inr}
 use native.Mathlib.Omega.{arith}
 use lib.ListN.{get_or}
 use Rattle.transport_theory.proofs.Searches.{relax_starts, e_in, e_caps, e_costs, v_dist, v_via, u_dist, relax_shorter, relax_kept, relax_ends}
 use Rattle.transport_core.proofs.search.relax.Goals as goal
+use Rattle.transport_core.proofs.search.relax.Goals.{then-caps-e+then-d-dist, then-caps-e+else-d-dist, else-caps-e}
 
 pub loop-j-init : goal.loop-j-init
 loop-j-init c = relax_starts c.requires
@@ -57,12 +58,11 @@ bounds-via-v c = v_via c.requires c.loop-j.invariant c.loop-j-test.true
 
 pub loop-j-preserved : goal.loop-j-preserved
 loop-j-preserved c =
-    ⊎_elim
-    (λ w. relax_shorter c.requires c.loop-j.invariant c.loop-j-test.true w.0.taken w.4.taken _ _ _ w.5 w.6 w.7)
-    (⊎_elim
-    (λ w. relax_kept c.requires c.loop-j.invariant c.loop-j-test.true (inr w.4.left) _ _ _ w.5 w.6 w.7)
-    (λ w. relax_kept c.requires c.loop-j.invariant c.loop-j-test.true (inl w.0.left) _ _ _ w.1 w.2 w.3))
-    c.if-caps-e.branch
+    elim c.if-caps-e.branch [
+      then-caps-e+then-d-dist w ↦ relax_shorter c.requires c.loop-j.invariant c.loop-j-test.true w.if-caps-e.true w.if-d-dist.true _ _ _ w.dist-is w.via-is w.changed-is
+    | then-caps-e+else-d-dist w ↦ relax_kept c.requires c.loop-j.invariant c.loop-j-test.true (inr w.if-d-dist.false) _ _ _ w.dist-is w.via-is w.changed-is
+    | else-caps-e w ↦ relax_kept c.requires c.loop-j.invariant c.loop-j-test.true (inl w.if-caps-e.false) _ _ _ w.dist-is w.via-is w.changed-is
+    ]
 
 pub shape_of-dist : goal.shape_of-dist
 shape_of-dist c = c.loop-j.invariant.dist_length
