@@ -1,7 +1,7 @@
-use mathlib.Core.Logic.{⊎_elim}
 use native.Mathlib.Omega.{arith}
 use Rattle.transport_theory.proofs.Plans.{count_few, plan_starts, rows_size, columns_size, masses_size, some, row_low, column_low, place_in, plan_skips, rows_in_lem, columns_in, masses_in, t_few, plan_keeps, plan_ends}
 use Rattle.transport.proofs.plan.write_plan.Goals as goal
+use Rattle.transport.proofs.plan.write_plan.Goals.{then-x, else-x}
 
 pub loop-k-init : goal.loop-k-init
 loop-k-init c = plan_starts c.requires
@@ -68,10 +68,10 @@ loop-k-smaller c = let t = c.loop-k-test.true in omega arith
 
 pub loop-k-preserved : goal.loop-k-preserved
 loop-k-preserved c =
-    ⊎_elim
-    (λ w. plan_keeps c.requires c.loop-k.invariant c.loop-k-test.true w.0.taken w.2 w.3 w.4 w.5 w.6)
-    (λ w. plan_skips c.requires c.loop-k.invariant c.loop-k-test.true w.0.left w.1 w.2 w.3 w.4 w.5)
-    c.if-x.branch
+    elim c.if-x.branch [
+      then-x w ↦ plan_keeps c.requires c.loop-k.invariant c.loop-k-test.true w.if-x.true w.rows-is w.columns-is w.masses-is w.total-is w.cells-is
+    | else-x w ↦ plan_skips c.requires c.loop-k.invariant c.loop-k-test.true w.if-x.false w.rows-is w.columns-is w.masses-is w.total-is w.cells-is
+    ]
 
 pub shape_of-rows : goal.shape_of-rows
 shape_of-rows c = rows_size c.requires c.loop-k.invariant

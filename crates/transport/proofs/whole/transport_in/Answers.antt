@@ -20,13 +20,13 @@ pub overflow_mul-places-2 : goal.overflow_mul-places-2
 overflow_mul-places-2 c = let l = places_few c.requires in record { fits = omega arith }
 
 pub slice_bounds-plan_links-end-2 : goal.slice_bounds-plan_links-end-2
-slice_bounds-plan_links-end-2 c = sym (length-take-le (2 * (length c.args.a.now + length c.args.b.now + length c.args.a.now * length c.args.b.now)) c.write_links.new.right_rates (omega (arith, c.write_links.auto.right_rates, c.requires.heads_room)))
+slice_bounds-plan_links-end-2 c = sym (length-take-le (2 * (length c.args.a.now + length c.args.b.now + length c.args.a.now * length c.args.b.now)) c.write_links.new.heads (omega (arith, c.write_links.auto.heads, c.requires.heads_room)))
 
 pub slice_bounds-plan_links-end-4 : goal.slice_bounds-plan_links-end-4
-slice_bounds-plan_links-end-4 c = sym (length-take-le (2 * (length c.args.a.now + length c.args.b.now + length c.args.a.now * length c.args.b.now)) c.write_links.new.states (omega (arith, c.write_links.auto.states, c.requires.caps_room)))
+slice_bounds-plan_links-end-4 c = sym (length-take-le (2 * (length c.args.a.now + length c.args.b.now + length c.args.a.now * length c.args.b.now)) c.write_links.new.caps (omega (arith, c.write_links.auto.caps, c.requires.caps_room)))
 
 pub slice_bounds-plan_links-end-6 : goal.slice_bounds-plan_links-end-6
-slice_bounds-plan_links-end-6 c = sym (length-take-le (2 * (length c.args.a.now + length c.args.b.now + length c.args.a.now * length c.args.b.now)) c.write_links.new.relation (omega (arith, c.write_links.auto.relation, c.requires.prices_room)))
+slice_bounds-plan_links-end-6 c = sym (length-take-le (2 * (length c.args.a.now + length c.args.b.now + length c.args.a.now * length c.args.b.now)) c.write_links.new.prices (omega (arith, c.write_links.auto.prices, c.requires.prices_room)))
 
 pub plan_links-requires : goal.plan_links-requires
 plan_links-requires c = carried c.requires _ _ _ _ c.write_links.ensures
