@@ -1,7 +1,7 @@
 use mathlib.Core.Path.{◌∙◌}
-use mathlib.Core.Logic.{⊎_elim}
 use native.Mathlib.Omega.{arith}
 use Rattle.bisim_edges.proofs.Joins.{joining, goes_on, begins, all_joined, joined_none, room, t_size, u_size}
+use Rattle.bisim_edges.proofs.edges.join_runs.Goals.{then-q-run, else-q-run}
 use Rattle.bisim_edges.proofs.edges.join_runs.Goals as goal
 
 pub returns-then-n-eq0 : goal.returns-then-n-eq0
@@ -36,19 +36,19 @@ push-m-requires c = room _ _ _ _ _ c.requires.0 c.requires.2 c.requires.3 c.loop
 
 pub loop-i-preserved : goal.loop-i-preserved
 loop-i-preserved c = let h = c.loop-i-test.true in
-    ⊎_elim
-    (λ w. goes_on _ _ _ _ _ c.requires.0 c.requires.2 c.requires.3 c.loop-i.invariant h w.0.taken _ _ _ _ _ w.1 w.2 w.3 w.4 w.5)
-    (λ w. begins _ _ _ _ _ c.requires.0 c.requires.2 c.requires.3 c.loop-i.invariant h w.0.left _ _ _ w.3.ensures _ _ _ _ _ w.8 w.9 w.10 w.11 w.12)
-    c.if-q-run.branch
+    elim c.if-q-run.branch [
+      | then-q-run w ↦ goes_on _ _ _ _ _ c.requires.0 c.requires.2 c.requires.3 c.loop-i.invariant h w.if-q-run.true _ _ _ _ _ w.triples-is w.sums-is w.run-is w.sum-is w.m-is
+      | else-q-run w ↦ begins _ _ _ _ _ c.requires.0 c.requires.2 c.requires.3 c.loop-i.invariant h w.if-q-run.false _ _ _ w.push-m.ensures _ _ _ _ _ w.triples-is w.sums-is w.run-is w.sum-is w.m-is
+    ]
 
 pub push-requires : goal.push-requires
 push-requires c = room _ _ _ _ _ c.requires.0 c.requires.2 c.requires.3 c.loop-i.invariant
 
 pub shape_of-triples : goal.shape_of-triples
-shape_of-triples c = c.push.auto.0 ∙ t_size _ _ _ _ _ c.requires.0 c.requires.2 c.requires.3 c.loop-i.invariant
+shape_of-triples c = c.push.auto.triples ∙ t_size _ _ _ _ _ c.requires.0 c.requires.2 c.requires.3 c.loop-i.invariant
 
 pub shape_of-sums : goal.shape_of-sums
-shape_of-sums c = c.push.auto.1.0 ∙ u_size _ _ _ _ _ c.requires.0 c.requires.2 c.requires.3 c.loop-i.invariant
+shape_of-sums c = c.push.auto.sums ∙ u_size _ _ _ _ _ c.requires.0 c.requires.2 c.requires.3 c.loop-i.invariant
 
 pub returns : goal.returns
 returns c = all_joined _ _ _ _ _ c.requires.0 c.requires.2 c.requires.3 c.loop-i.invariant c.loop-i-test.false _ _ _ c.push.ensures

@@ -1,10 +1,10 @@
 use mathlib.Core.Path.{refl, sym, ◌∙◌}
-use mathlib.Core.Logic.{⊎_elim}
 use Prim.Native.Nat.{◌≤◌}
 use native.Mathlib.Omega.{arith}
 use lib.ListN.{length}
 use Rattle.bisim_edges.proofs.Interns.{interning, turn_old, turn_new, full, interned, overfull}
 use borrow.Author.Rules.{rules}
+use Rattle.bisim_edges.proofs.labels.intern_all.Goals.{then-k-count+else-count-store, else-k-count}
 use Rattle.bisim_edges.proofs.labels.intern_all.Goals as goal
 
 pub loop-i-init : goal.loop-i-init
@@ -26,10 +26,10 @@ loop-i-preserved c = let p = c.requires in
     let I = c.loop-i.invariant.0 in
     let w = c.loop-i.invariant.2 in
     let r = (let a = p.0 in let d = c.loop-i.invariant.1 in let z : c.lesser-n.result ≤ length c.args.ids.now = omega arith in z) in (
-      ⊎_elim
-          (λ v. turn_new I h w _ c.place-k.ensures v.0.taken r (λ e. v.1.left (e ∙ sym I.store_size)) _ _ v.2 v.3)
-          (λ v. turn_old I h w _ r c.place-k.ensures v.0.left _ _ v.1 v.2)
-          c.if-k-count.branch,
+      elim c.if-k-count.branch [
+        | then-k-count+else-count-store v ↦ turn_new I h w _ c.place-k.ensures v.if-k-count.true r (λ e. v.if-count-store.false (e ∙ sym I.store_size)) _ _ v.store-is v.count-is
+        | else-k-count v ↦ turn_old I h w _ r c.place-k.ensures v.if-k-count.false _ _ v.store-is v.count-is
+      ],
       c.loop-i.invariant.1,
       w,
       (let g = c.loop-i.invariant.3 in search rules),
