@@ -15,7 +15,7 @@ struct Asked {
 
 // The answer, and the five columns at the end.
 fn compare(
-    buf: &mut [u8; 65536],
+    buf: &[u8],
     r: Reader,
     a: Answer,
     label_values: &[u32],
@@ -33,7 +33,7 @@ fn compare(
 }
 
 fn check(
-    buf: &mut [u8; 65536],
+    buf: &[u8],
     r: Reader,
     x: Asked,
     sources: &[u32],
@@ -75,7 +75,7 @@ fn check(
 
 // The columns lent, as they are filled beforehand.
 fn run_lent(
-    buf: &mut [u8; 65536],
+    buf: &[u8],
     r: Reader,
     x: Asked,
     sources: &[u32],
@@ -115,7 +115,7 @@ fn run_lent(
 }
 
 // The transitions given.
-fn run_columns(buf: &mut [u8; 65536], r: Reader, x: Asked) -> Reader {
+fn run_columns(buf: &[u8], r: Reader, x: Asked) -> Reader {
     let mut sources = [0u32; 2112];
     let mut labels = [0u32; 2112];
     let mut targets = [0u32; 2112];
@@ -135,7 +135,7 @@ fn run_columns(buf: &mut [u8; 65536], r: Reader, x: Asked) -> Reader {
     )
 }
 
-pub fn run(buf: &mut [u8; 65536], r: Reader, counts: &mut [u64; 48]) -> Reader {
+pub fn run(buf: &[u8], r: Reader, counts: &mut [u64; 48]) -> Reader {
     let states = text::number_field(buf, r);
     let initial = text::number_field(buf, states.r);
     let given = text::number_field(buf, initial.r);

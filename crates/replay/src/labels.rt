@@ -13,7 +13,7 @@ struct Asked {
 }
 
 fn compare_intern(
-    buf: &mut [u8; 65536],
+    buf: &[u8],
     r: Reader,
     counts: &mut [u64; 48],
     labels: &[u32],
@@ -25,7 +25,7 @@ fn compare_intern(
 }
 
 fn check_intern(
-    buf: &mut [u8; 65536],
+    buf: &[u8],
     r: Reader,
     counts: &mut [u64; 48],
     labels: &mut [u32],
@@ -35,7 +35,7 @@ fn check_intern(
     compare_intern(buf, r, counts, labels, a)
 }
 
-pub fn run_intern(buf: &mut [u8; 65536], r: Reader, counts: &mut [u64; 48]) -> Reader {
+pub fn run_intern(buf: &[u8], r: Reader, counts: &mut [u64; 48]) -> Reader {
     let mut labels = [0u32; 2112];
     let l = lists::list_field(buf, r, &mut labels);
     let count = text::number_field(buf, l.r);
@@ -49,7 +49,7 @@ pub fn run_intern(buf: &mut [u8; 65536], r: Reader, counts: &mut [u64; 48]) -> R
 }
 
 fn check_label(
-    buf: &mut [u8; 65536],
+    buf: &[u8],
     r: Reader,
     counts: &mut [u64; 48],
     labels: &[u32],
@@ -61,7 +61,7 @@ fn check_label(
     answers::check_one(buf, s, counts, entries::RESOLVE, resolve)
 }
 
-pub fn run_label(buf: &mut [u8; 65536], r: Reader, counts: &mut [u64; 48]) -> Reader {
+pub fn run_label(buf: &[u8], r: Reader, counts: &mut [u64; 48]) -> Reader {
     let mut labels = [0u32; 2112];
     let l = lists::list_field(buf, r, &mut labels);
     let count = text::number_field(buf, l.r);

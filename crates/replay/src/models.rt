@@ -9,7 +9,7 @@ use replay_text::{answers, columns, text};
 
 // The check, and the counts.
 fn check_counts(
-    buf: &mut [u8; 65536],
+    buf: &[u8],
     r: Reader,
     counts: &mut [u64; 48],
     shape: Shape,
@@ -66,7 +66,7 @@ struct Asked {
 
 // The readers of a state, a label and the initial state.
 fn check_readers(
-    buf: &mut [u8; 65536],
+    buf: &[u8],
     r: Reader,
     counts: &mut [u64; 48],
     x: Asked,
@@ -121,7 +121,7 @@ fn check_readers(
 }
 
 fn run_readers(
-    buf: &mut [u8; 65536],
+    buf: &[u8],
     r: Reader,
     counts: &mut [u64; 48],
     shape: Shape,
@@ -164,7 +164,7 @@ fn run_readers(
     )
 }
 
-pub fn run(buf: &mut [u8; 65536], r: Reader, counts: &mut [u64; 48]) -> Reader {
+pub fn run(buf: &[u8], r: Reader, counts: &mut [u64; 48]) -> Reader {
     let mut l_store = [0u32; 2112];
     let mut o_store = [0u32; 2112];
     let mut el_store = [0u32; 2112];

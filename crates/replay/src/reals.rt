@@ -8,7 +8,7 @@ fn bit(b: bool) -> u64 {
     if b { 1 } else { 0 }
 }
 
-fn check_sum(buf: &mut [u8; 65536], r: Reader, counts: &mut [u64; 48], xs: &[f64]) -> Reader {
+fn check_sum(buf: &[u8], r: Reader, counts: &mut [u64; 48], xs: &[f64]) -> Reader {
     let s = text::name(buf, r);
     let t = text::expect(buf, s, 0);
     let sum = Real::sum(xs);
@@ -16,7 +16,7 @@ fn check_sum(buf: &mut [u8; 65536], r: Reader, counts: &mut [u64; 48], xs: &[f64
     tally::count(counts, entries::SUM, u)
 }
 
-fn check(buf: &mut [u8; 65536], r: Reader, counts: &mut [u64; 48], x: f64, xs: &[f64]) -> Reader {
+fn check(buf: &[u8], r: Reader, counts: &mut [u64; 48], x: f64, xs: &[f64]) -> Reader {
     let v = Real(x);
     let s = answers::check_one(
         buf,
@@ -35,7 +35,7 @@ fn check(buf: &mut [u8; 65536], r: Reader, counts: &mut [u64; 48], x: f64, xs: &
     check_sum(buf, t, counts, xs)
 }
 
-pub fn run(buf: &mut [u8; 65536], r: Reader, counts: &mut [u64; 48]) -> Reader {
+pub fn run(buf: &[u8], r: Reader, counts: &mut [u64; 48]) -> Reader {
     let mut xs = [0.0f64; 2112];
     let x = text::real_field(buf, r);
     let l = lists::reals_field(buf, x.r, &mut xs);

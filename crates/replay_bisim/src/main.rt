@@ -11,7 +11,7 @@ use replay_text::{tally, text};
 // The first eight letters of the kind's word, by their bytes.
 const BISIM_DI: u64 = 0x626973696d5f6469;
 
-fn run_case(buf: &mut [u8; 65536], r: Reader, counts: &mut [u64; 48]) -> Reader {
+fn run_case(buf: &[u8], r: Reader, counts: &mut [u64; 48]) -> Reader {
     let named = text::name(buf, r);
     let kind = text::word(buf, named);
     if kind.x != BISIM_DI {
@@ -22,7 +22,7 @@ fn run_case(buf: &mut [u8; 65536], r: Reader, counts: &mut [u64; 48]) -> Reader 
     tally::next_case(buf, t, counts)
 }
 
-fn run_all(buf: &mut [u8; 65536], counts: &mut [u64; 48]) {
+fn run_all(buf: &[u8], counts: &mut [u64; 48]) {
     let mut r = text::start(buf);
     let mut turns: u32 = 0;
     while turns < 1000000 && !text::at_end(r) {

@@ -73,7 +73,7 @@ fn run_measure(
 
 // What the lists lent for the run hold.
 fn expect_run(
-    buf: &mut [u8; 65536],
+    buf: &[u8],
     r: Reader,
     rooms: Rooms,
     lefts: &[u32; 4200],
@@ -95,7 +95,7 @@ fn expect_run(
 
 // And those lent for a chain.
 fn expect_chain(
-    buf: &mut [u8; 65536],
+    buf: &[u8],
     r: Reader,
     rooms: Rooms,
     offsets: &[u32; 200],
@@ -115,7 +115,7 @@ fn expect_chain(
 
 // The lists that are lent, of each chain offsets, targets, probabilities and observations; the answer, and what they hold then.
 fn lend(
-    buf: &mut [u8; 65536],
+    buf: &[u8],
     asked: Asked,
     rooms: Rooms,
     left: Side,
@@ -171,7 +171,7 @@ fn lend(
 }
 
 // The models, the options, and how much is lent.
-pub fn run(buf: &mut [u8; 65536], r: Reader, counts: &mut [u64; 48]) -> Reader {
+pub fn run(buf: &[u8], r: Reader, counts: &mut [u64; 48]) -> Reader {
     let mut left_cells = [0u32; 400];
     let mut left_reals = [0.0f64; 200];
     let mut right_cells = [0u32; 400];

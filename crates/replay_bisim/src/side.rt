@@ -22,7 +22,7 @@ pub struct Side {
 }
 
 pub fn read(
-    buf: &mut [u8; 65536],
+    buf: &[u8],
     r: Reader,
     cells: &mut [u32; 400],
     reals: &mut [f64; 200],

@@ -50,7 +50,7 @@ fn numbers_of(t: Text) -> Told {
 }
 
 // The text is as stored, and the bytes after it are as they were.
-fn expect_store(buf: &mut [u8; 65536], r: Reader, out: &[u8], written: usize, byte: u8) -> Reader {
+fn expect_store(buf: &[u8], r: Reader, out: &[u8], written: usize, byte: u8) -> Reader {
     let s = hex::expect_hex(buf, r, lists::bytes_front(out, written));
     text::compared(s, filled_from(out, written, byte))
 }
@@ -70,7 +70,7 @@ struct Given {
     r: Reader,
 }
 
-fn read(buf: &mut [u8; 65536], r: Reader, card: &mut [u8], most: usize) -> Given {
+fn read(buf: &[u8], r: Reader, card: &mut [u8], most: usize) -> Given {
     let bytes = hex::hex_field(buf, r, card);
     let room = text::number_field(buf, bytes.r);
     let l = lists::sized(room, most);
@@ -85,7 +85,7 @@ fn read(buf: &mut [u8; 65536], r: Reader, card: &mut [u8], most: usize) -> Given
 }
 
 fn check(
-    buf: &mut [u8; 65536],
+    buf: &[u8],
     g: Given,
     counts: &mut [u64; 48],
     card: &[u8],
@@ -98,7 +98,7 @@ fn check(
 }
 
 pub fn run(
-    buf: &mut [u8; 65536],
+    buf: &[u8],
     r: Reader,
     counts: &mut [u64; 48],
     card: &mut [u8],

@@ -11,7 +11,7 @@ use replay_text::{tally, text};
 const CARD: u64 = 0x63617264;
 
 fn run_case(
-    buf: &mut [u8; 65536],
+    buf: &[u8],
     r: Reader,
     counts: &mut [u64; 48],
     card: &mut [u8],
@@ -27,7 +27,7 @@ fn run_case(
     tally::next_case(buf, s, counts)
 }
 
-fn run_all(buf: &mut [u8; 65536], counts: &mut [u64; 48], card: &mut [u8], out: &mut [u8]) {
+fn run_all(buf: &[u8], counts: &mut [u64; 48], card: &mut [u8], out: &mut [u8]) {
     let mut r = text::start(buf);
     let mut turns: u32 = 0;
     while turns < 1000000 && !text::at_end(r) {

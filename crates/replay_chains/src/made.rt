@@ -15,7 +15,7 @@ fn of_uniformised(answer: Uniformised) -> Answer {
 
 // The answer, and the lists as `uniformise` leaves them.
 fn compare(
-    buf: &mut [u8; 65536],
+    buf: &[u8],
     r: Reader,
     answer: Answer,
     offsets: &[u32],
@@ -31,7 +31,7 @@ fn compare(
 }
 
 fn check(
-    buf: &mut [u8; 65536],
+    buf: &[u8],
     r: Reader,
     shape: Shape,
     label_values: &[u32],
@@ -73,7 +73,7 @@ fn check(
 
 // The lists lent for the chain.
 fn run_lent(
-    buf: &mut [u8; 65536],
+    buf: &[u8],
     r: Reader,
     shape: Shape,
     label_values: &[u32],
@@ -112,7 +112,7 @@ fn run_lent(
 
 // The rate and the observations, where the model is read.
 pub fn run_seen(
-    buf: &mut [u8; 65536],
+    buf: &[u8],
     r: Reader,
     counts: &mut [u64; 48],
     shape: Shape,

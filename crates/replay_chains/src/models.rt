@@ -6,7 +6,7 @@ use replay_text::text::Reader;
 
 // The model is read; now what comes after it, of the kind `rate` or of the other.
 fn run_rest(
-    buf: &mut [u8; 65536],
+    buf: &[u8],
     r: Reader,
     counts: &mut [u64; 48],
     rate: bool,
@@ -27,7 +27,7 @@ fn run_rest(
     )
 }
 
-pub fn run(buf: &mut [u8; 65536], r: Reader, counts: &mut [u64; 48], rate: bool) -> Reader {
+pub fn run(buf: &[u8], r: Reader, counts: &mut [u64; 48], rate: bool) -> Reader {
     let mut values = [0u32; 2112];
     let mut offsets = [0u32; 2112];
     let mut labels = [0u32; 2112];

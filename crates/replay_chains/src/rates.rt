@@ -6,12 +6,12 @@ use replay_text::text::Reader;
 use replay_text::{answers, columns, tally, text};
 
 // A refusal, and the number behind it, which is 0 where there is one.
-pub fn expect_real(buf: &mut [u8; 65536], r: Reader, refusal: u32, x: f64) -> Reader {
+pub fn expect_real(buf: &[u8], r: Reader, refusal: u32, x: f64) -> Reader {
     let s = answers::expect_refusal(buf, r, refusal);
     text::expect_real(buf, s, x)
 }
 
-fn expect_rate(buf: &mut [u8; 65536], r: Reader, answer: Rated) -> Reader {
+fn expect_rate(buf: &[u8], r: Reader, answer: Rated) -> Reader {
     match answer {
         Rated::Rate(q) => expect_real(buf, r, 0, q),
         Rated::Refused(k) => expect_real(buf, r, k, 0.0),
@@ -20,7 +20,7 @@ fn expect_rate(buf: &mut [u8; 65536], r: Reader, answer: Rated) -> Reader {
 
 // The right model, where the left one is read.
 pub fn run_right(
-    buf: &mut [u8; 65536],
+    buf: &[u8],
     r: Reader,
     counts: &mut [u64; 48],
     left: Shape,

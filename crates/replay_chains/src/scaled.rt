@@ -13,7 +13,7 @@ struct ShapeRead {
     r: Reader,
 }
 
-fn read_shape(buf: &mut [u8; 65536], r: Reader) -> ShapeRead {
+fn read_shape(buf: &[u8], r: Reader) -> ShapeRead {
     let states = text::number_field(buf, r);
     let entries = text::number_field(buf, states.r);
     let initial = text::short_field(buf, entries.r);
@@ -26,7 +26,7 @@ fn read_shape(buf: &mut [u8; 65536], r: Reader) -> ShapeRead {
     ShapeRead { chain, r: s }
 }
 
-fn expect_scale(buf: &mut [u8; 65536], r: Reader, answer: Normalised) -> Reader {
+fn expect_scale(buf: &[u8], r: Reader, answer: Normalised) -> Reader {
     match answer {
         Normalised::Scale(x) => expect_real(buf, r, 0, x),
         Normalised::Refused(k) => expect_real(buf, r, k, 0.0),
@@ -35,7 +35,7 @@ fn expect_scale(buf: &mut [u8; 65536], r: Reader, answer: Normalised) -> Reader 
 
 // The answer, and the observations as `normalise` leaves them.
 fn compare(
-    buf: &mut [u8; 65536],
+    buf: &[u8],
     r: Reader,
     answer: Normalised,
     left: &[f64],
@@ -47,7 +47,7 @@ fn compare(
 }
 
 fn check(
-    buf: &mut [u8; 65536],
+    buf: &[u8],
     r: Reader,
     left: ChainShape,
     left_offsets: &[u32],
@@ -77,7 +77,7 @@ fn check(
 
 // The right chain.
 fn run_right(
-    buf: &mut [u8; 65536],
+    buf: &[u8],
     r: Reader,
     left: ChainShape,
     left_offsets: &[u32],
@@ -111,7 +111,7 @@ fn run_right(
 }
 
 // The left chain.
-pub fn run(buf: &mut [u8; 65536], r: Reader, counts: &mut [u64; 48]) -> Reader {
+pub fn run(buf: &[u8], r: Reader, counts: &mut [u64; 48]) -> Reader {
     let mut offsets = [0u32; 100];
     let mut targets = [0u32; 100];
     let mut probs = [0.0f64; 100];

@@ -22,7 +22,7 @@ struct Side {
     r: Reader,
 }
 
-fn read_side(buf: &mut [u8; 65536], r: Reader, cells: &mut [u32], reals: &mut [f64]) -> Side {
+fn read_side(buf: &[u8], r: Reader, cells: &mut [u32], reals: &mut [f64]) -> Side {
     let states = text::number_field(buf, r);
     let entries = text::number_field(buf, states.r);
     let initial = text::short_field(buf, entries.r);
@@ -85,7 +85,7 @@ fn run_measure(
 
 // The answer, and what each list holds then.
 fn expect(
-    buf: &mut [u8; 65536],
+    buf: &[u8],
     r: Reader,
     told: Told,
     lefts: &[u32],
@@ -103,7 +103,7 @@ fn expect(
 
 // The lists that are lent.
 fn run_lent(
-    buf: &mut [u8; 65536],
+    buf: &[u8],
     rooms: Rooms,
     asked: Asked,
     left: Side,
@@ -142,7 +142,7 @@ fn run_lent(
 }
 
 // The chains, the options, and how much is lent.
-pub fn run(buf: &mut [u8; 65536], r: Reader, counts: &mut [u64; 48]) -> Reader {
+pub fn run(buf: &[u8], r: Reader, counts: &mut [u64; 48]) -> Reader {
     let mut left_cells = [0u32; 200];
     let mut left_reals = [0.0f64; 200];
     let mut right_cells = [0u32; 200];

@@ -20,7 +20,7 @@ fn counted(refused: u32, net: FlowNetwork) -> Answer {
 }
 
 fn expect_rows(
-    buf: &mut [u8; 65536],
+    buf: &[u8],
     r: Reader,
     heads: &[u32; 2176],
     caps: &[f64; 2176],
@@ -32,7 +32,7 @@ fn expect_rows(
     lists::expect_reals(buf, t, lists::reals_front(costs, n))
 }
 
-fn expect_links(buf: &mut [u8; 65536], r: Reader, net: FlowNetwork, n: usize) -> Reader {
+fn expect_links(buf: &[u8], r: Reader, net: FlowNetwork, n: usize) -> Reader {
     let mut heads = [0u32; 2176];
     let mut caps = [0.0f64; 2176];
     let mut costs = [0.0f64; 2176];
@@ -42,7 +42,7 @@ fn expect_links(buf: &mut [u8; 65536], r: Reader, net: FlowNetwork, n: usize) ->
 }
 
 fn expect_lists(
-    buf: &mut [u8; 65536],
+    buf: &[u8],
     r: Reader,
     net: FlowNetwork,
     starts: usize,
@@ -112,7 +112,7 @@ fn same_else(l: Listed, x: Asked, made: Made) -> bool {
     )
 }
 
-fn compare(buf: &mut [u8; 65536], r: Reader, l: Listed, x: Asked, made: Made) -> Reader {
+fn compare(buf: &[u8], r: Reader, l: Listed, x: Asked, made: Made) -> Reader {
     let after = made.net;
     let s = answers::expect_one(buf, r, counted(made.refused, after));
     let t = expect_links(buf, s, after, two_more(l.links));
@@ -120,7 +120,7 @@ fn compare(buf: &mut [u8; 65536], r: Reader, l: Listed, x: Asked, made: Made) ->
     text::compared(u, same_else(l, x, made))
 }
 
-pub fn run(buf: &mut [u8; 65536], r: Reader, counts: &mut [u64; 48]) -> Reader {
+pub fn run(buf: &[u8], r: Reader, counts: &mut [u64; 48]) -> Reader {
     let l = nets::read(buf, r);
     let from = text::number_field(buf, l.r);
     let to = text::number_field(buf, from.r);

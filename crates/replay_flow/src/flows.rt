@@ -8,7 +8,7 @@ use replay_text::text::Reader;
 use replay_text::{lists, tally, text};
 
 fn expect_figures(
-    buf: &mut [u8; 65536],
+    buf: &[u8],
     r: Reader,
     refusal: u32,
     flow: f64,
@@ -22,7 +22,7 @@ fn expect_figures(
     text::expect(buf, u, pushes as u64)
 }
 
-fn expect_answer(buf: &mut [u8; 65536], r: Reader, a: Answer) -> Reader {
+fn expect_answer(buf: &[u8], r: Reader, a: Answer) -> Reader {
     match a {
         Answer::Flow {
             flow,
@@ -33,11 +33,11 @@ fn expect_answer(buf: &mut [u8; 65536], r: Reader, a: Answer) -> Reader {
     }
 }
 
-fn expect_row(buf: &mut [u8; 65536], r: Reader, caps: &[f64; 2176], n: usize) -> Reader {
+fn expect_row(buf: &[u8], r: Reader, caps: &[f64; 2176], n: usize) -> Reader {
     lists::expect_reals(buf, r, lists::reals_front(caps, n))
 }
 
-fn expect_caps(buf: &mut [u8; 65536], r: Reader, net: FlowNetwork, n: usize) -> Reader {
+fn expect_caps(buf: &[u8], r: Reader, net: FlowNetwork, n: usize) -> Reader {
     let mut heads = [0u32; 2176];
     let mut caps = [0.0f64; 2176];
     let mut costs = [0.0f64; 2176];
@@ -63,7 +63,7 @@ fn same_else(before: FlowNetwork, after: FlowNetwork, n: usize) -> bool {
     )
 }
 
-fn compare(buf: &mut [u8; 65536], r: Reader, net: FlowNetwork, ran: Ran, n: usize) -> Reader {
+fn compare(buf: &[u8], r: Reader, net: FlowNetwork, ran: Ran, n: usize) -> Reader {
     let after = ran.net;
     let answer = ran.answer;
     let s = expect_answer(buf, r, answer);
@@ -71,7 +71,7 @@ fn compare(buf: &mut [u8; 65536], r: Reader, net: FlowNetwork, ran: Ran, n: usiz
     text::compared(t, same_else(net, after, n))
 }
 
-pub fn run(buf: &mut [u8; 65536], r: Reader, counts: &mut [u64; 48]) -> Reader {
+pub fn run(buf: &[u8], r: Reader, counts: &mut [u64; 48]) -> Reader {
     let l = nets::read(buf, r);
     let source = text::number_field(buf, l.r);
     let sink = text::number_field(buf, source.r);

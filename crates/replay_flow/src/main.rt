@@ -20,7 +20,7 @@ const EDGE: u64 = 0x65646765;
 
 const NODES: u64 = 0x6e6f646573;
 
-fn run_kind(buf: &mut [u8; 65536], r: Reader, counts: &mut [u64; 48], kind: u64) -> Reader {
+fn run_kind(buf: &[u8], r: Reader, counts: &mut [u64; 48], kind: u64) -> Reader {
     if kind == FLOW {
         return flows::run(buf, r, counts);
     }
@@ -33,14 +33,14 @@ fn run_kind(buf: &mut [u8; 65536], r: Reader, counts: &mut [u64; 48], kind: u64)
     tally::unknown(r, counts)
 }
 
-fn run_case(buf: &mut [u8; 65536], r: Reader, counts: &mut [u64; 48]) -> Reader {
+fn run_case(buf: &[u8], r: Reader, counts: &mut [u64; 48]) -> Reader {
     let named = text::name(buf, r);
     let kind = text::word(buf, named);
     let s = run_kind(buf, kind.r, counts, kind.x);
     tally::next_case(buf, s, counts)
 }
 
-fn run_all(buf: &mut [u8; 65536], counts: &mut [u64; 48]) {
+fn run_all(buf: &[u8], counts: &mut [u64; 48]) {
     let mut r = text::start(buf);
     let mut turns: u32 = 0;
     while turns < 1000000 && !text::at_end(r) {

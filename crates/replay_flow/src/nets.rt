@@ -71,7 +71,7 @@ struct LinksRead {
     r: Reader,
 }
 
-fn read_links(buf: &mut [u8; 65536], r: Reader) -> LinksRead {
+fn read_links(buf: &[u8], r: Reader) -> LinksRead {
     let mut heads = [0u32; 2176];
     let mut caps = [0.0f64; 2176];
     let mut costs = [0.0f64; 2176];
@@ -87,7 +87,7 @@ fn read_links(buf: &mut [u8; 65536], r: Reader) -> LinksRead {
     }
 }
 
-pub fn read(buf: &mut [u8; 65536], r: Reader) -> Listed {
+pub fn read(buf: &[u8], r: Reader) -> Listed {
     let nodes = text::number_field(buf, r);
     let count = text::number_field(buf, nodes.r);
     let l = read_links(buf, count.r);

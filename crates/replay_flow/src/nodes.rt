@@ -23,7 +23,7 @@ fn is_blank(net: FlowNetwork) -> bool {
     )
 }
 
-fn compare(buf: &mut [u8; 65536], r: Reader, made: Made) -> Reader {
+fn compare(buf: &[u8], r: Reader, made: Made) -> Reader {
     let net = made.net;
     if made.refused != 0 {
         return answers::expect_one(buf, r, answers::refused(made.refused));
@@ -32,7 +32,7 @@ fn compare(buf: &mut [u8; 65536], r: Reader, made: Made) -> Reader {
     text::compared(s, is_blank(net))
 }
 
-pub fn run(buf: &mut [u8; 65536], r: Reader, counts: &mut [u64; 48]) -> Reader {
+pub fn run(buf: &[u8], r: Reader, counts: &mut [u64; 48]) -> Reader {
     let nodes = text::number_field(buf, r);
     let made = network::new(nodes.x as usize);
     let s = compare(buf, nodes.r, made);

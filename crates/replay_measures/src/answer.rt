@@ -7,7 +7,7 @@ use replay_text::text::Reader;
 use replay_text::{answers, lists, text};
 
 // The refusal and three values, which are 0 where there is one.
-fn expect_values(buf: &mut [u8; 65536], r: Reader, refusal: u32, d: Distance) -> Reader
+fn expect_values(buf: &[u8], r: Reader, refusal: u32, d: Distance) -> Reader
     ensures { Lasts r result }
 {
     let s = answers::expect_refusal(buf, r, refusal);
@@ -17,7 +17,7 @@ fn expect_values(buf: &mut [u8; 65536], r: Reader, refusal: u32, d: Distance) ->
 }
 
 // And its counts.
-fn expect_counts(buf: &mut [u8; 65536], r: Reader, d: Distance) -> Reader
+fn expect_counts(buf: &[u8], r: Reader, d: Distance) -> Reader
     ensures { Lasts r result }
 {
     let s = text::expect(buf, r, d.pairs_explored as u64);
@@ -57,7 +57,7 @@ fn reals_part<'a>(xs: &'a [f64; 64], n: usize) -> &'a [f64] {
 
 // The floats of the first n records.
 fn expect_weights(
-    buf: &mut [u8; 65536],
+    buf: &[u8],
     r: Reader,
     n: usize,
     gaps: &[f64; 64],
@@ -73,7 +73,7 @@ fn expect_weights(
 
 // The first n records.
 fn expect_records(
-    buf: &mut [u8; 65536],
+    buf: &[u8],
     r: Reader,
     records: [PairContribution; 64],
     n: usize,
@@ -100,7 +100,7 @@ fn expect_records(
 
 // The answer and its contributions.
 pub fn expect(
-    buf: &mut [u8; 65536],
+    buf: &[u8],
     r: Reader,
     refusal: u32,
     d: Distance,

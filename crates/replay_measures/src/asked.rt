@@ -13,7 +13,7 @@ pub struct Asked {
     pub r: Reader,
 }
 
-pub fn read(buf: &mut [u8; 65536], r: Reader) -> Asked
+pub fn read(buf: &[u8], r: Reader) -> Asked
     ensures { Lasts r result.r }
 {
     let gamma = text::real_field(buf, r);
@@ -53,7 +53,7 @@ fn room(rooms: &[u32], i: usize) -> usize {
     if i < rooms.len() { wide(rooms[i]) } else { 0 }
 }
 
-pub fn read_rooms(buf: &mut [u8; 65536], r: Reader) -> Rooms
+pub fn read_rooms(buf: &[u8], r: Reader) -> Rooms
     ensures { Lasts r result.r }
 {
     let mut xs = [0u32; 6];

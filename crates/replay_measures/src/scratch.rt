@@ -153,7 +153,7 @@ fn reals_state(xs: &[f64]) -> u64 {
 
 // What the lists of pairs hold is as stored.
 fn expect_pairs(
-    buf: &mut [u8; 65536],
+    buf: &[u8],
     r: Reader,
     lefts: &[u32],
     rights: &[u32],
@@ -168,7 +168,7 @@ fn expect_pairs(
 
 // And what the coupling store holds.
 pub fn expect_run(
-    buf: &mut [u8; 65536],
+    buf: &[u8],
     r: Reader,
     lefts: &[u32],
     rights: &[u32],
@@ -185,7 +185,7 @@ pub fn expect_run(
 
 // What the lists of a chain hold is as stored.
 pub fn expect_chain(
-    buf: &mut [u8; 65536],
+    buf: &[u8],
     r: Reader,
     offsets: &[u32],
     targets: &[u32],
@@ -201,7 +201,7 @@ pub fn expect_chain(
 }
 
 // The line begins: its name, and how many lists there are.
-pub fn expect_lists(buf: &mut [u8; 65536], r: Reader, n: u64) -> Reader
+pub fn expect_lists(buf: &[u8], r: Reader, n: u64) -> Reader
     ensures { Lasts r result }
 {
     let s = text::name(buf, r);
@@ -209,7 +209,7 @@ pub fn expect_lists(buf: &mut [u8; 65536], r: Reader, n: u64) -> Reader
 }
 
 // It ends with the records behind the contributions, which are kept; no row of records is lent here.
-pub fn expect_kept(buf: &mut [u8; 65536], r: Reader) -> Reader
+pub fn expect_kept(buf: &[u8], r: Reader) -> Reader
     ensures { Lasts r result }
 {
     text::expect(buf, r, MARKS)

@@ -7,7 +7,7 @@ use replay_text::text::Reader;
 use replay_text::{lists, text};
 
 // A list of numbers of 32 bits goes to place `at` and on; the answer is where it ends.
-pub fn list_at(buf: &mut [u8; 65536], r: Reader, store: &mut [u32], at: usize) -> Listed
+pub fn list_at(buf: &[u8], r: Reader, store: &mut [u32], at: usize) -> Listed
     ensures { Lasts r result.r }
 {
     if store.len() < at {
@@ -22,7 +22,7 @@ pub fn list_at(buf: &mut [u8; 65536], r: Reader, store: &mut [u32], at: usize) -
 }
 
 // A list of floats.
-pub fn reals_at(buf: &mut [u8; 65536], r: Reader, store: &mut [f64], at: usize) -> Listed
+pub fn reals_at(buf: &[u8], r: Reader, store: &mut [f64], at: usize) -> Listed
     ensures { Lasts r result.r }
 {
     if store.len() < at {

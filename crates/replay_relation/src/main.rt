@@ -16,7 +16,7 @@ const RELATION: u64 = 0x72656c6174696f6e;
 const RELATED: u64 = 0x72656c61746564;
 
 fn run_kind(
-    buf: &mut [u8; 65536],
+    buf: &[u8],
     r: Reader,
     counts: &mut [u64; 48],
     store: &mut [u8],
@@ -31,14 +31,14 @@ fn run_kind(
     tally::unknown(r, counts)
 }
 
-fn run_case(buf: &mut [u8; 65536], r: Reader, counts: &mut [u64; 48], store: &mut [u8]) -> Reader {
+fn run_case(buf: &[u8], r: Reader, counts: &mut [u64; 48], store: &mut [u8]) -> Reader {
     let named = text::name(buf, r);
     let kind = text::word(buf, named);
     let s = run_kind(buf, kind.r, counts, store, kind.x);
     tally::next_case(buf, s, counts)
 }
 
-fn run_all(buf: &mut [u8; 65536], counts: &mut [u64; 48], store: &mut [u8]) {
+fn run_all(buf: &[u8], counts: &mut [u64; 48], store: &mut [u8]) {
     let mut r = text::start(buf);
     let mut turns: u32 = 0;
     while turns < 1000000 && !text::at_end(r) {

@@ -20,7 +20,7 @@ struct Asked {
 }
 
 fn check_epsdelta(
-    buf: &mut [u8; 65536],
+    buf: &[u8],
     counts: &mut [u64; 48],
     x: Asked,
     left_values: &[u32],
@@ -64,7 +64,7 @@ fn check_epsdelta(
 }
 
 fn check_bisimilar(
-    buf: &mut [u8; 65536],
+    buf: &[u8],
     counts: &mut [u64; 48],
     x: Asked,
     left_values: &[u32],
@@ -108,7 +108,7 @@ fn check_bisimilar(
 }
 
 // None is written `-`.
-fn expect_least(buf: &mut [u8; 65536], r: Reader, least: Least) -> Reader {
+fn expect_least(buf: &[u8], r: Reader, least: Least) -> Reader {
     match least {
         Least::At(epsilon) => {
             let s = answers::expect_refusal(buf, r, 0);
@@ -126,7 +126,7 @@ fn expect_least(buf: &mut [u8; 65536], r: Reader, least: Least) -> Reader {
 }
 
 fn check_min_epsilon(
-    buf: &mut [u8; 65536],
+    buf: &[u8],
     counts: &mut [u64; 48],
     x: Asked,
     left_values: &[u32],
@@ -183,7 +183,7 @@ fn resumed(x: Asked, r: Reader) -> Asked {
 
 // The relation, and whether the initial states are in it.
 fn check_relation(
-    buf: &mut [u8; 65536],
+    buf: &[u8],
     counts: &mut [u64; 48],
     x: Asked,
     left_values: &[u32],
@@ -244,7 +244,7 @@ fn check_relation(
 
 // Each entry gets the bytes as they are at first.
 fn check(
-    buf: &mut [u8; 65536],
+    buf: &[u8],
     counts: &mut [u64; 48],
     x: Asked,
     left_values: &[u32],
@@ -305,7 +305,7 @@ fn check(
 
 // The classes, the tolerances and the bytes.
 fn run_lent(
-    buf: &mut [u8; 65536],
+    buf: &[u8],
     r: Reader,
     counts: &mut [u64; 48],
     bytes: &mut [u8],
@@ -361,7 +361,7 @@ fn run_lent(
 
 // The right model.
 fn run_right(
-    buf: &mut [u8; 65536],
+    buf: &[u8],
     r: Reader,
     counts: &mut [u64; 48],
     bytes: &mut [u8],
@@ -408,7 +408,7 @@ fn run_right(
 }
 
 // The left model.
-pub fn run(buf: &mut [u8; 65536], r: Reader, counts: &mut [u64; 48], bytes: &mut [u8]) -> Reader {
+pub fn run(buf: &[u8], r: Reader, counts: &mut [u64; 48], bytes: &mut [u8]) -> Reader {
     let mut values = [0u32; 2112];
     let mut offsets = [0u32; 2112];
     let mut labels = [0u32; 2112];
@@ -440,7 +440,7 @@ pub fn run(buf: &mut [u8; 65536], r: Reader, counts: &mut [u64; 48], bytes: &mut
 
 // Whether the bytes, as they are handed in, hold s with t.
 pub fn run_related(
-    buf: &mut [u8; 65536],
+    buf: &[u8],
     r: Reader,
     counts: &mut [u64; 48],
     bytes: &mut [u8],

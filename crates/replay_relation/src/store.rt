@@ -11,7 +11,7 @@ pub struct Lent {
 }
 
 // The bytes listed, to the front of `listed`; at most `most` are lent.
-pub fn read(buf: &mut [u8; 65536], r: Reader, listed: &mut [u8], most: usize) -> Lent {
+pub fn read(buf: &[u8], r: Reader, listed: &mut [u8], most: usize) -> Lent {
     let room = text::number_field(buf, r);
     let l = lists::sized(room, most);
     let b = lists::bytes_field(buf, l.r, listed);
@@ -48,7 +48,7 @@ fn zero_from(store: &[u8], from: usize) -> bool {
 }
 
 // The first n bytes are as stored, and the others zero.
-pub fn expect(buf: &mut [u8; 65536], r: Reader, store: &[u8], n: usize) -> Reader {
+pub fn expect(buf: &[u8], r: Reader, store: &[u8], n: usize) -> Reader {
     let s = lists::expect_bytes(buf, r, lists::bytes_front(store, n));
     text::compared(s, zero_from(store, n))
 }

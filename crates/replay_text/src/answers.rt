@@ -34,7 +34,7 @@ pub fn given(first: u64, second: u64) -> Answer
 }
 
 // A refusal alone.
-pub fn expect_refusal(buf: &mut [u8; 65536], r: Reader, refusal: u32) -> Reader
+pub fn expect_refusal(buf: &[u8], r: Reader, refusal: u32) -> Reader
     ensures { Lasts r result }
 {
     let s = text::name(buf, r);
@@ -42,7 +42,7 @@ pub fn expect_refusal(buf: &mut [u8; 65536], r: Reader, refusal: u32) -> Reader
 }
 
 // An answer of one value.
-pub fn expect_one(buf: &mut [u8; 65536], r: Reader, a: Answer) -> Reader
+pub fn expect_one(buf: &[u8], r: Reader, a: Answer) -> Reader
     ensures { Lasts r result }
 {
     let s = expect_refusal(buf, r, a.refusal);
@@ -50,7 +50,7 @@ pub fn expect_one(buf: &mut [u8; 65536], r: Reader, a: Answer) -> Reader
 }
 
 // And of two.
-pub fn expect_two(buf: &mut [u8; 65536], r: Reader, a: Answer) -> Reader
+pub fn expect_two(buf: &[u8], r: Reader, a: Answer) -> Reader
     ensures { Lasts r result }
 {
     let s = expect_one(buf, r, a);
@@ -58,7 +58,7 @@ pub fn expect_two(buf: &mut [u8; 65536], r: Reader, a: Answer) -> Reader
 }
 
 pub fn check_refusal(
-    buf: &mut [u8; 65536],
+    buf: &[u8],
     r: Reader,
     counts: &mut [u64; 48],
     entry: usize,
@@ -70,26 +70,14 @@ pub fn check_refusal(
     tally::count(counts, entry, s)
 }
 
-pub fn check_one(
-    buf: &mut [u8; 65536],
-    r: Reader,
-    counts: &mut [u64; 48],
-    entry: usize,
-    a: Answer,
-) -> Reader
+pub fn check_one(buf: &[u8], r: Reader, counts: &mut [u64; 48], entry: usize, a: Answer) -> Reader
     ensures { Counted r result }
 {
     let s = expect_one(buf, r, a);
     tally::count(counts, entry, s)
 }
 
-pub fn check_two(
-    buf: &mut [u8; 65536],
-    r: Reader,
-    counts: &mut [u64; 48],
-    entry: usize,
-    a: Answer,
-) -> Reader
+pub fn check_two(buf: &[u8], r: Reader, counts: &mut [u64; 48], entry: usize, a: Answer) -> Reader
     ensures { Counted r result }
 {
     let s = expect_two(buf, r, a);

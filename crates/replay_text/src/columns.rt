@@ -35,7 +35,7 @@ pub fn to_initial(x: u64) -> Initial
     Initial::At(StateId(text::narrow(x)))
 }
 
-pub fn read_shape(buf: &mut [u8; 65536], r: Reader) -> ShapeRead
+pub fn read_shape(buf: &[u8], r: Reader) -> ShapeRead
     ensures { Lasts r result.r }
 {
     let states = text::number_field(buf, r);
@@ -55,7 +55,7 @@ pub fn read_shape(buf: &mut [u8; 65536], r: Reader) -> ShapeRead
 
 // The columns, to the front of each store.
 pub fn read(
-    buf: &mut [u8; 65536],
+    buf: &[u8],
     r: Reader,
     label_values: &mut [u32; 2112],
     offsets: &mut [u32; 2112],

@@ -7,7 +7,7 @@ use crate::text::{NumberRead, Reader};
 use crate::{lists, text};
 
 // One digit; 0 and a fault where there is none.
-fn digit(buf: &mut [u8; 65536], r: Reader) -> NumberRead
+fn digit(buf: &[u8], r: Reader) -> NumberRead
     ensures { (result.x < 16) × Lasts r result.r }
 {
     let x = text::digit(r.byte);
@@ -24,7 +24,7 @@ fn digit(buf: &mut [u8; 65536], r: Reader) -> NumberRead
 }
 
 // A byte of two digits.
-fn pair(buf: &mut [u8; 65536], r: Reader) -> NumberRead
+fn pair(buf: &[u8], r: Reader) -> NumberRead
     ensures { (result.x < 256) × Lasts r result.r }
 {
     let high = digit(buf, r);
@@ -37,7 +37,7 @@ fn pair(buf: &mut [u8; 65536], r: Reader) -> NumberRead
 }
 
 // The word of n bytes has ended: what follows it is passed.
-fn closed(buf: &mut [u8; 65536], r: Reader, n: usize) -> Reader
+fn closed(buf: &[u8], r: Reader, n: usize) -> Reader
     ensures { Lasts r result }
 {
     if n == 0 {
@@ -47,7 +47,7 @@ fn closed(buf: &mut [u8; 65536], r: Reader, n: usize) -> Reader
 }
 
 // Bytes, which go to the front of `out`.
-pub fn hex_field(buf: &mut [u8; 65536], r: Reader, out: &mut [u8]) -> Listed
+pub fn hex_field(buf: &[u8], r: Reader, out: &mut [u8]) -> Listed
     ensures { (result.n ≤ length out.old) × Lasts r result.r }
 {
     let count = text::number_field(buf, r);
@@ -68,7 +68,7 @@ pub fn hex_field(buf: &mut [u8; 65536], r: Reader, out: &mut [u8]) -> Listed
 }
 
 // A byte stored is the byte given.
-fn expect_pair(buf: &mut [u8; 65536], r: Reader, x: u64) -> Reader
+fn expect_pair(buf: &[u8], r: Reader, x: u64) -> Reader
     ensures { Lasts r result }
 {
     let n = pair(buf, r);
@@ -76,7 +76,7 @@ fn expect_pair(buf: &mut [u8; 65536], r: Reader, x: u64) -> Reader
 }
 
 // The bytes stored are the bytes given.
-pub fn expect_hex(buf: &mut [u8; 65536], r: Reader, xs: &[u8]) -> Reader
+pub fn expect_hex(buf: &[u8], r: Reader, xs: &[u8]) -> Reader
     ensures { Lasts r result }
 {
     let named = text::name(buf, r);

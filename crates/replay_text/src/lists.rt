@@ -30,7 +30,7 @@ pub fn sized(n: NumberRead, room: usize) -> Listed
 }
 
 // A list of numbers of 32 bits, which goes to the front of `out`.
-pub fn list_field(buf: &mut [u8; 65536], r: Reader, out: &mut [u32]) -> Listed
+pub fn list_field(buf: &[u8], r: Reader, out: &mut [u32]) -> Listed
     ensures { (result.n ≤ length out.old) × Lasts r result.r }
 {
     let count = text::number_field(buf, r);
@@ -48,7 +48,7 @@ pub fn list_field(buf: &mut [u8; 65536], r: Reader, out: &mut [u32]) -> Listed
 }
 
 // A list of floats.
-pub fn reals_field(buf: &mut [u8; 65536], r: Reader, out: &mut [f64]) -> Listed
+pub fn reals_field(buf: &[u8], r: Reader, out: &mut [f64]) -> Listed
     ensures { (result.n ≤ length out.old) × Lasts r result.r }
 {
     let count = text::number_field(buf, r);
@@ -70,7 +70,7 @@ pub(crate) fn byte(x: u64) -> u8 {
 }
 
 // A list of bytes.
-pub fn bytes_field(buf: &mut [u8; 65536], r: Reader, out: &mut [u8]) -> Listed
+pub fn bytes_field(buf: &[u8], r: Reader, out: &mut [u8]) -> Listed
     ensures { (result.n ≤ length out.old) × Lasts r result.r }
 {
     let count = text::number_field(buf, r);
@@ -116,7 +116,7 @@ pub fn bytes_front<'a>(xs: &'a [u8], n: usize) -> &'a [u8]
 }
 
 // The list stored is the list given.
-pub fn expect_list(buf: &mut [u8; 65536], r: Reader, xs: &[u32]) -> Reader
+pub fn expect_list(buf: &[u8], r: Reader, xs: &[u32]) -> Reader
     ensures { Lasts r result }
 {
     let named = text::name(buf, r);
@@ -129,7 +129,7 @@ pub fn expect_list(buf: &mut [u8; 65536], r: Reader, xs: &[u32]) -> Reader
     s
 }
 
-pub fn expect_reals(buf: &mut [u8; 65536], r: Reader, xs: &[f64]) -> Reader
+pub fn expect_reals(buf: &[u8], r: Reader, xs: &[f64]) -> Reader
     ensures { Lasts r result }
 {
     let named = text::name(buf, r);
@@ -142,7 +142,7 @@ pub fn expect_reals(buf: &mut [u8; 65536], r: Reader, xs: &[f64]) -> Reader
     s
 }
 
-pub fn expect_bytes(buf: &mut [u8; 65536], r: Reader, xs: &[u8]) -> Reader
+pub fn expect_bytes(buf: &[u8], r: Reader, xs: &[u8]) -> Reader
     ensures { Lasts r result }
 {
     let named = text::name(buf, r);

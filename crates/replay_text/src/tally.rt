@@ -1,10 +1,10 @@
 // How often each entry agrees with the stored answers, and how often it differs.
-ghost use Rattle.std.specs.Prelude.{◌≡◌, true, false, get_or};
+ghost use Rattle.std.specs.Prelude.{◌≡◌, true, false, get_or, IfOk};
 ghost use Rattle.replay_text.specs.Tally.{Ready, agrees as agreed, place as place_of, more, tallied};
 
 use crate::text;
 use crate::text::Reader;
-use libc::STDOUT_FILENO;
+use std::io;
 
 // Cases of no known kind, and cases with more text than their kind has, are counted here.
 pub const OTHER: usize = 44;
@@ -59,32 +59,23 @@ fn at(counts: &[u64], i: usize) -> u64
     if i < counts.len() { counts[i] } else { 0 }
 }
 
-fn print(s: &[u8]) {
-    io::write_all(STDOUT_FILENO, s);
-}
-
 // Prints how many agree and differ, and answers how many differ.
-pub fn print_entry(what: &[u8], counts: &[u64; 48], entry: usize) -> u64
-    ensures { result ≡ get_or counts.now (place_of entry false) 0 }
+pub fn print_entry(rt: &impl Print, what: &str, counts: &[u64; 48], entry: usize) -> io::Result<u64>
+    ensures { IfOk result (λ n. n ≡ get_or counts.now (place_of entry false) 0) }
 {
     let differ = at(counts, place(entry, false));
-    print(what);
-    io::print_decimal(STDOUT_FILENO, at(counts, place(entry, true)));
-    print(b" agree ");
-    io::print_decimal(STDOUT_FILENO, differ);
-    print(b" differ\n");
-    differ
+    let agree = at(counts, place(entry, true));
+    println!(rt; "{what}{agree} agree {differ} differ")?;
+    Ok(differ)
 }
 
-pub fn print_total(counts: &[u64; 48]) -> u64
-    ensures { result ≡ get_or counts.now (place_of 46 false) 0 }
+pub fn print_total(rt: &impl Print, counts: &[u64; 48]) -> io::Result<u64>
+    ensures { IfOk result (λ n. n ≡ get_or counts.now (place_of 46 false) 0) }
 {
     let differ = at(counts, place(TOTAL, false));
-    io::print_decimal(STDOUT_FILENO, at(counts, place(TOTAL, true)));
-    print(b" agree, ");
-    io::print_decimal(STDOUT_FILENO, differ);
-    print(b" differ\n");
-    differ
+    let agree = at(counts, place(TOTAL, true));
+    println!(rt; "{agree} agree, {differ} differ")?;
+    Ok(differ)
 }
 
 // A case that cannot be read: one difference.
@@ -96,7 +87,7 @@ pub fn unknown(r: Reader, counts: &mut [u64; 48]) -> Reader
 }
 
 // What follows a case is an empty line, or the end: more text is one difference.
-pub fn next_case(buf: &mut [u8; 65536], r: Reader, counts: &mut [u64; 48]) -> Reader
+pub fn next_case(buf: &[u8], r: Reader, counts: &mut [u64; 48]) -> Reader
     ensures { (result.faults ≡ 0) × (result.differences ≡ 0) }
 {
     let mut s = r;

@@ -2,7 +2,8 @@
 ghost use Rattle.std.specs.Prelude.{◌≡◌, true, false, ◌<◌, ◌≤◌, eqb};
 ghost use Rattle.replay_text.specs.Reading.{Placed, Kept, Lasts, same};
 
-use libc::STDIN_FILENO;
+use std::io;
+use std::io::Read;
 
 const LINE_FEED: u32 = 10;
 
@@ -13,7 +14,7 @@ const END: u32 = 256;
 // Stands for an absent value, which is written `-`.
 pub const ABSENT: u64 = 18446744073709551615;
 
-// Where the reader is: buf[at..end] is read and still to come, `byte` is the byte at hand (256 at the end of the input).
+// Where the reader is: buf[at..end] is still to come, `byte` is the byte at hand (256 at the end of the input).
 // `faults` is 0 where the text has been as laid out so far, `differences` where the answers have been the stored ones since the last count.
 #[derive(Clone, Copy)]
 pub struct Reader {
@@ -93,17 +94,14 @@ pub fn compared(r: Reader, agrees: bool) -> Reader
     marked(r, r.faults, raised(r.differences))
 }
 
-fn refilled(buf: &mut [u8], r: Reader) -> Reader
-    ensures { Kept r result }
-{
-    let n = io::read_full(STDIN_FILENO, buf);
-    if n == 0 {
-        return moved(r, 0, 0, END);
-    }
-    moved(r, 1, n, wide(buf[0]))
+// All of standard input.
+pub fn input(rt: &(impl Input + AllocGlobal)) -> io::Result<Vec<u8>> {
+    let mut bytes = Vec::new(rt.alloc());
+    rt.reader().read_to_end(&mut bytes)?;
+    Ok(bytes)
 }
 
-fn stepped(buf: &mut [u8], r: Reader) -> Reader
+pub(crate) fn advance(buf: &[u8], r: Reader) -> Reader
     ensures { Kept r result }
 {
     let at = r.at;
@@ -113,23 +111,17 @@ fn stepped(buf: &mut [u8], r: Reader) -> Reader
             return moved(r, at + 1, end, wide(buf[at]));
         }
     }
-    refilled(buf, r)
+    moved(r, at, end, END)
 }
 
-pub(crate) fn advance(buf: &mut [u8; 65536], r: Reader) -> Reader
-    ensures { Kept r result }
-{
-    stepped(buf, r)
-}
-
-pub fn start(buf: &mut [u8; 65536]) -> Reader
+pub fn start(buf: &[u8]) -> Reader
     ensures { (result.faults ≡ 0) × (result.differences ≡ 0) }
 {
     advance(
         buf,
         Reader {
             at: 0,
-            end: 0,
+            end: buf.len(),
             byte: END,
             faults: 0,
             differences: 0,
@@ -154,7 +146,7 @@ fn within_word(r: Reader) -> bool {
 }
 
 // A word of `size` bytes has ended: what follows it is passed.
-pub(crate) fn ended(buf: &mut [u8; 65536], r: Reader, size: u32) -> Reader
+pub(crate) fn ended(buf: &[u8], r: Reader, size: u32) -> Reader
     ensures { Lasts r result }
 {
     if size == 0 {
@@ -176,7 +168,7 @@ fn lettered(x: u64, b: u32) -> u64 {
 }
 
 // A word, as a number by its bytes: the first eight count.
-pub fn word(buf: &mut [u8; 65536], r: Reader) -> NumberRead
+pub fn word(buf: &[u8], r: Reader) -> NumberRead
     ensures { Lasts r result.r }
 {
     let mut s = r;
@@ -194,7 +186,7 @@ pub fn word(buf: &mut [u8; 65536], r: Reader) -> NumberRead
 }
 
 // A word that need not be looked at.
-pub fn name(buf: &mut [u8; 65536], r: Reader) -> Reader
+pub fn name(buf: &[u8], r: Reader) -> Reader
     ensures { Lasts r result }
 {
     let w = word(buf, r);
@@ -244,7 +236,7 @@ fn longer(x: u64, d: u64, hex: bool, r: Reader) -> NumberRead
 }
 
 // Decimal digits, or the 16 hexadecimal digits of a bit pattern.
-fn digits(buf: &mut [u8; 65536], r: Reader, hex: bool) -> NumberRead
+fn digits(buf: &[u8], r: Reader, hex: bool) -> NumberRead
     ensures { Lasts r result.r }
 {
     let mut s = r;
@@ -266,7 +258,7 @@ fn digits(buf: &mut [u8; 65536], r: Reader, hex: bool) -> NumberRead
 }
 
 // A whole number, or `-`.
-pub(crate) fn number(buf: &mut [u8; 65536], r: Reader) -> NumberRead
+pub(crate) fn number(buf: &[u8], r: Reader) -> NumberRead
     ensures { Lasts r result.r }
 {
     if r.byte == 45 {
@@ -287,7 +279,7 @@ fn of_bits(bits: u64) -> f64 {
     f64::from_bits(bits)
 }
 
-pub(crate) fn real(buf: &mut [u8; 65536], r: Reader) -> RealRead
+pub(crate) fn real(buf: &[u8], r: Reader) -> RealRead
     ensures { Lasts r result.r }
 {
     let bits = digits(buf, r, true);
@@ -305,7 +297,7 @@ pub fn narrow(x: u64) -> u32
 }
 
 // A number of 32 bits: anything else is a fault.
-pub(crate) fn short(buf: &mut [u8; 65536], r: Reader) -> NumberRead
+pub(crate) fn short(buf: &[u8], r: Reader) -> NumberRead
     ensures { Lasts r result.r }
 {
     let n = number(buf, r);
@@ -317,21 +309,21 @@ pub(crate) fn short(buf: &mut [u8; 65536], r: Reader) -> NumberRead
 }
 
 // A field is a name, which need not be looked at, and what follows it.
-pub fn number_field(buf: &mut [u8; 65536], r: Reader) -> NumberRead
+pub fn number_field(buf: &[u8], r: Reader) -> NumberRead
     ensures { Lasts r result.r }
 {
     let s = name(buf, r);
     number(buf, s)
 }
 
-pub fn short_field(buf: &mut [u8; 65536], r: Reader) -> NumberRead
+pub fn short_field(buf: &[u8], r: Reader) -> NumberRead
     ensures { Lasts r result.r }
 {
     let s = name(buf, r);
     short(buf, s)
 }
 
-pub fn real_field(buf: &mut [u8; 65536], r: Reader) -> RealRead
+pub fn real_field(buf: &[u8], r: Reader) -> RealRead
     ensures { Lasts r result.r }
 {
     let s = name(buf, r);
@@ -340,7 +332,7 @@ pub fn real_field(buf: &mut [u8; 65536], r: Reader) -> RealRead
 
 // ---- what is stored is compared with what came
 
-pub fn expect(buf: &mut [u8; 65536], r: Reader, x: u64) -> Reader
+pub fn expect(buf: &[u8], r: Reader, x: u64) -> Reader
     ensures { Lasts r result }
 {
     let n = number(buf, r);
@@ -358,7 +350,7 @@ pub fn alike(x: f64, y: f64) -> bool
     x != x && y != y
 }
 
-pub fn expect_real(buf: &mut [u8; 65536], r: Reader, x: f64) -> Reader
+pub fn expect_real(buf: &[u8], r: Reader, x: f64) -> Reader
     ensures { Lasts r result }
 {
     let n = real(buf, r);
@@ -373,7 +365,7 @@ pub(crate) fn within_line(r: Reader) -> bool {
 }
 
 // The rest of a line.
-fn past_line(buf: &mut [u8; 65536], r: Reader) -> Reader
+fn past_line(buf: &[u8], r: Reader) -> Reader
     ensures { Kept r result }
 {
     let mut s = r;
@@ -386,7 +378,7 @@ fn past_line(buf: &mut [u8; 65536], r: Reader) -> Reader
 }
 
 // The rest of a case: up to an empty line, and past it.
-pub(crate) fn past_case(buf: &mut [u8; 65536], r: Reader) -> Reader
+pub(crate) fn past_case(buf: &[u8], r: Reader) -> Reader
     ensures { Kept r result }
 {
     let mut s = r;

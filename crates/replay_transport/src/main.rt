@@ -10,7 +10,7 @@ use replay_text::{tally, text};
 // The first eight letters of the word of the kind, by their bytes.
 const TRANSPOR: u64 = 0x7472616e73706f72;
 
-fn run_case(buf: &mut [u8; 65536], r: Reader, counts: &mut [u64; 48]) -> Reader {
+fn run_case(buf: &[u8], r: Reader, counts: &mut [u64; 48]) -> Reader {
     let named = text::name(buf, r);
     let kind = text::word(buf, named);
     if kind.x == TRANSPOR {
@@ -21,7 +21,7 @@ fn run_case(buf: &mut [u8; 65536], r: Reader, counts: &mut [u64; 48]) -> Reader 
     tally::next_case(buf, s, counts)
 }
 
-fn run_all(buf: &mut [u8; 65536], counts: &mut [u64; 48]) {
+fn run_all(buf: &[u8], counts: &mut [u64; 48]) {
     let mut r = text::start(buf);
     let mut turns: u32 = 0;
     while turns < 1000000 && !text::at_end(r) {

@@ -9,7 +9,7 @@ use transport::entry::Transported;
 pub const TRANSPORT: usize = 0;
 
 fn expect_figures(
-    buf: &mut [u8; 65536],
+    buf: &[u8],
     r: Reader,
     refusal: u32,
     total: f64,
@@ -21,7 +21,7 @@ fn expect_figures(
     text::expect(buf, t, cells as u64)
 }
 
-fn expect_answer(buf: &mut [u8; 65536], r: Reader, t: Transported) -> Reader {
+fn expect_answer(buf: &[u8], r: Reader, t: Transported) -> Reader {
     match t {
         Transported::Plan { total, cells } => expect_figures(buf, r, 0, total, cells),
         Transported::Refused(k) => expect_figures(buf, r, k, 0.0, 0),
@@ -39,7 +39,7 @@ struct Given {
 
 // The answer, and the columns as `transport` leaves them.
 fn compare(
-    buf: &mut [u8; 65536],
+    buf: &[u8],
     r: Reader,
     answer: Transported,
     rows: &[u32],
@@ -53,7 +53,7 @@ fn compare(
 }
 
 fn check(
-    buf: &mut [u8; 65536],
+    buf: &[u8],
     r: Reader,
     a: &[f64],
     b: &[f64],
@@ -67,7 +67,7 @@ fn check(
 }
 
 fn read_plan(
-    buf: &mut [u8; 65536],
+    buf: &[u8],
     r: Reader,
     rows: &mut [u32],
     columns: &mut [u32],
@@ -86,7 +86,7 @@ fn read_plan(
 }
 
 // Masses and costs of a case are read; now the columns, and the answer.
-fn planned(buf: &mut [u8; 65536], r: Reader, a: &[f64], b: &[f64], costs: &[f64]) -> Reader {
+fn planned(buf: &[u8], r: Reader, a: &[f64], b: &[f64], costs: &[f64]) -> Reader {
     let mut rows = [0u32; 1100];
     let mut columns = [0u32; 1100];
     let mut masses = [0.0f64; 1100];
@@ -103,7 +103,7 @@ fn planned(buf: &mut [u8; 65536], r: Reader, a: &[f64], b: &[f64], costs: &[f64]
     )
 }
 
-pub fn run(buf: &mut [u8; 65536], r: Reader, counts: &mut [u64; 48]) -> Reader {
+pub fn run(buf: &[u8], r: Reader, counts: &mut [u64; 48]) -> Reader {
     let mut a = [0.0f64; 100];
     let mut b = [0.0f64; 100];
     let mut costs = [0.0f64; 1100];
