@@ -7,137 +7,128 @@ use Rattle.flow_theory.proofs.Seeking.{seekable, sought_on, sought_on_less, soug
 use Rattle.flow_core.proofs.augment.walk.Goals as goal
 
 pub loop-u-init : goal.loop-u-init
-loop-u-init c = walk_begins c.requires.0 c.requires.1
+loop-u-init c = walk_begins c.requires.walkable c.requires.next_in_bounds
 
 pub offset_bounds-starts-u : goal.offset_bounds-starts-u
-offset_bounds-starts-u c = omega (arith, u_low c.requires.0 c.requires.1 c.loop-u.invariant)
+offset_bounds-starts-u c = omega (arith, u_low c.requires.walkable c.requires.next_in_bounds c.loop-u.invariant)
 
 pub bounds-starts-u : goal.bounds-starts-u
-bounds-starts-u c = omega (arith, u_low c.requires.0 c.requires.1 c.loop-u.invariant)
+bounds-starts-u c = omega (arith, u_low c.requires.walkable c.requires.next_in_bounds c.loop-u.invariant)
 
 pub overflow_cast-from : goal.overflow_cast-from
-overflow_cast-from c = let r = row_in c.requires.0 c.requires.1 c.loop-u.invariant in record { fits = omega (arith, c.well-formed.1.1.1.0.0) }
+overflow_cast-from c = let r = row_in c.requires.walkable c.requires.next_in_bounds c.loop-u.invariant in record { fits = omega (arith, c.well_formed.1.1.1.0.0) }
 
 pub overflow_add-to : goal.overflow_add-to
-overflow_add-to c = omega (arith, u_low c.requires.0 c.requires.1 c.loop-u.invariant)
+overflow_add-to c = omega (arith, u_low c.requires.walkable c.requires.next_in_bounds c.loop-u.invariant)
 
 pub offset_bounds-starts-u-in-loop-u : goal.offset_bounds-starts-u-in-loop-u
-offset_bounds-starts-u-in-loop-u c = omega (arith, u_low c.requires.0 c.requires.1 c.loop-u.invariant)
+offset_bounds-starts-u-in-loop-u c = omega (arith, u_low c.requires.walkable c.requires.next_in_bounds c.loop-u.invariant)
 
 pub bounds-starts-u-in-loop-u : goal.bounds-starts-u-in-loop-u
-bounds-starts-u-in-loop-u c = omega (arith, u_low c.requires.0 c.requires.1 c.loop-u.invariant)
+bounds-starts-u-in-loop-u c = omega (arith, u_low c.requires.walkable c.requires.next_in_bounds c.loop-u.invariant)
 
 pub overflow_cast-to : goal.overflow_cast-to
-overflow_cast-to c = let r = row_in c.requires.0 c.requires.1 c.loop-u.invariant in record { fits = omega (arith, c.well-formed.1.1.1.0.0) }
+overflow_cast-to c = let r = row_in c.requires.walkable c.requires.next_in_bounds c.loop-u.invariant in record { fits = omega (arith, c.well_formed.1.1.1.0.0) }
 
 pub offset_bounds-next-u : goal.offset_bounds-next-u
-offset_bounds-next-u c = omega (arith, u_next c.requires.0 c.requires.1 c.loop-u.invariant)
+offset_bounds-next-u c = omega (arith, u_next c.requires.walkable c.requires.next_in_bounds c.loop-u.invariant)
 
 pub bounds-next-u : goal.bounds-next-u
-bounds-next-u c = omega (arith, u_next c.requires.0 c.requires.1 c.loop-u.invariant)
+bounds-next-u c = omega (arith, u_next c.requires.walkable c.requires.next_in_bounds c.loop-u.invariant)
 
 pub overflow_sub-to : goal.overflow_sub-to
-overflow_sub-to c = omega (arith, row_in c.requires.0 c.requires.1 c.loop-u.invariant)
+overflow_sub-to c = omega (arith, row_in c.requires.walkable c.requires.next_in_bounds c.loop-u.invariant)
 
 pub overflow_add-from : goal.overflow_add-from
-overflow_add-from c = omega (arith, row_in c.requires.0 c.requires.1 c.loop-u.invariant, c.well-formed.1.1.1.0.0)
+overflow_add-from c = omega (arith, row_in c.requires.walkable c.requires.next_in_bounds c.loop-u.invariant, c.well_formed.1.1.1.0.0)
 
 pub overflow_add-len : goal.overflow_add-len
-overflow_add-len c = let l = c.loop-u.invariant.path_length in omega (arith, path_room c.requires.0 c.requires.1 c.loop-u.invariant, c.well-formed.1.1.1.1.1.1.1.1.0.0, c.well-formed.1.1.1.1.1.1.1.1.0.1)
+overflow_add-len c = let l = c.loop-u.invariant.path_length in omega (arith, path_room c.requires.walkable c.requires.next_in_bounds c.loop-u.invariant, c.well_formed.1.1.1.1.1.1.1.1.0.0, c.well_formed.1.1.1.1.1.1.1.1.0.1)
 
 pub seek-j-requires : goal.seek-j-requires
-seek-j-requires c = seekable c.requires.0 c.requires.1 c.loop-u.invariant c.loop-u-test.true c.if-at-to.true
+seek-j-requires c = seekable c.requires.walkable c.requires.next_in_bounds c.loop-u.invariant c.loop-u-test.true c.if-at-to.true
 
 pub overflow_sub-next : goal.overflow_sub-next
 overflow_sub-next c = let b = c.seek-j.ensures.begun in omega arith
 
 pub offset_bounds-next-u-then-at-to : goal.offset_bounds-next-u-then-at-to
-offset_bounds-next-u-then-at-to c = omega (arith, u_next c.requires.0 c.requires.1 c.loop-u.invariant)
+offset_bounds-next-u-then-at-to c = omega (arith, u_next c.requires.walkable c.requires.next_in_bounds c.loop-u.invariant)
 
 pub bounds-next-u-then-at-to : goal.bounds-next-u-then-at-to
-bounds-next-u-then-at-to c = omega (arith, u_next c.requires.0 c.requires.1 c.loop-u.invariant)
+bounds-next-u-then-at-to c = omega (arith, u_next c.requires.walkable c.requires.next_in_bounds c.loop-u.invariant)
 
 pub offset_bounds-list-j : goal.offset_bounds-list-j
-offset_bounds-list-j c = let t = c.if-j-to.true in omega (arith, row_in c.requires.0 c.requires.1 c.loop-u.invariant, c.well-formed.1.1.1.0.0)
+offset_bounds-list-j c = let t = c.if-j-to.true in omega (arith, row_in c.requires.walkable c.requires.next_in_bounds c.loop-u.invariant, c.well_formed.1.1.1.0.0)
 
 pub bounds-list-j : goal.bounds-list-j
-bounds-list-j c = let t = c.if-j-to.true in omega (arith, row_in c.requires.0 c.requires.1 c.loop-u.invariant)
-
-pub overflow_cast-e : goal.overflow_cast-e
-overflow_cast-e c = omega (arith, c.shared_slice_known-then-j-to-1.given c.seek-j.result)
+bounds-list-j c = let t = c.if-j-to.true in omega (arith, row_in c.requires.walkable c.requires.next_in_bounds c.loop-u.invariant)
 
 pub offset_bounds-path-len : goal.offset_bounds-path-len
-offset_bounds-path-len c = let l = c.loop-u.invariant.path_length in omega (arith, path_room c.requires.0 c.requires.1 c.loop-u.invariant, c.well-formed.1.1.1.1.1.1.1.1.0.0, c.well-formed.1.1.1.1.1.1.1.1.0.1)
+offset_bounds-path-len c = let l = c.loop-u.invariant.path_length in omega (arith, path_room c.requires.walkable c.requires.next_in_bounds c.loop-u.invariant, c.well_formed.1.1.1.1.1.1.1.1.0.0, c.well_formed.1.1.1.1.1.1.1.1.0.1)
 
 pub bounds-path-len : goal.bounds-path-len
-bounds-path-len c = let l = c.loop-u.invariant.path_length in omega (arith, path_room c.requires.0 c.requires.1 c.loop-u.invariant, c.well-formed.1.1.1.1.1.1.1.1.0.0, c.well-formed.1.1.1.1.1.1.1.1.0.1)
+bounds-path-len c = let l = c.loop-u.invariant.path_length in omega (arith, path_room c.requires.walkable c.requires.next_in_bounds c.loop-u.invariant, c.well_formed.1.1.1.1.1.1.1.1.0.0, c.well_formed.1.1.1.1.1.1.1.1.0.1)
 
 pub overflow_add-len-then-j-to : goal.overflow_add-len-then-j-to
-overflow_add-len-then-j-to c = let l = c.loop-u.invariant.path_length in omega (arith, path_room c.requires.0 c.requires.1 c.loop-u.invariant, c.well-formed.1.1.1.1.1.1.1.1.0.0, c.well-formed.1.1.1.1.1.1.1.1.0.1)
+overflow_add-len-then-j-to c = let l = c.loop-u.invariant.path_length in omega (arith, path_room c.requires.walkable c.requires.next_in_bounds c.loop-u.invariant, c.well_formed.1.1.1.1.1.1.1.1.0.0, c.well_formed.1.1.1.1.1.1.1.1.0.1)
 
 pub offset_bounds-heads-e : goal.offset_bounds-heads-e
 offset_bounds-heads-e c =
-    let link : (get_or c.args.list.now c.seek-j.result 0 < length c.args.heads.now) × (get_or c.args.list.now c.seek-j.result 0 < length c.args.caps.now) × (get_or c.args.heads.now (get_or c.args.list.now c.seek-j.result 0) 0 < length c.args.level.now) = (seekable c.requires.0 c.requires.1 c.loop-u.invariant c.loop-u-test.true c.if-at-to.true).links_in c.seek-j.result c.seek-j.ensures.begun c.if-j-to.true in
+    let link : (get_or c.args.list.now c.seek-j.result 0 < length c.args.heads.now) × (get_or c.args.list.now c.seek-j.result 0 < length c.args.caps.now) × (get_or c.args.heads.now (get_or c.args.list.now c.seek-j.result 0) 0 < length c.args.level.now) = (seekable c.requires.walkable c.requires.next_in_bounds c.loop-u.invariant c.loop-u-test.true c.if-at-to.true).links_in c.seek-j.result c.seek-j.ensures.begun c.if-j-to.true in
     omega (arith, link.0)
 
 pub bounds-heads-e : goal.bounds-heads-e
 bounds-heads-e c =
-    let link : (get_or c.args.list.now c.seek-j.result 0 < length c.args.heads.now) × (get_or c.args.list.now c.seek-j.result 0 < length c.args.caps.now) × (get_or c.args.heads.now (get_or c.args.list.now c.seek-j.result 0) 0 < length c.args.level.now) = (seekable c.requires.0 c.requires.1 c.loop-u.invariant c.loop-u-test.true c.if-at-to.true).links_in c.seek-j.result c.seek-j.ensures.begun c.if-j-to.true in
+    let link : (get_or c.args.list.now c.seek-j.result 0 < length c.args.heads.now) × (get_or c.args.list.now c.seek-j.result 0 < length c.args.caps.now) × (get_or c.args.heads.now (get_or c.args.list.now c.seek-j.result 0) 0 < length c.args.level.now) = (seekable c.requires.walkable c.requires.next_in_bounds c.loop-u.invariant c.loop-u-test.true c.if-at-to.true).links_in c.seek-j.result c.seek-j.ensures.begun c.if-j-to.true in
     link.0
 
-pub overflow_cast-u : goal.overflow_cast-u
-overflow_cast-u c = omega (arith, c.shared_slice_known-then-j-to-2-1.given (get_or c.args.list.now c.seek-j.result 0))
-
 pub loop-u-smaller-then-j-to : goal.loop-u-smaller-then-j-to
-loop-u-smaller-then-j-to c = sought_on_less c.requires.0 c.requires.1 c.loop-u.invariant c.loop-u-test.true c.if-at-to.true c.seek-j.ensures c.if-j-to.true
+loop-u-smaller-then-j-to c = sought_on_less c.requires.walkable c.requires.next_in_bounds c.loop-u.invariant c.loop-u-test.true c.if-at-to.true c.seek-j.ensures c.if-j-to.true
 
 pub loop-u-preserved-then-j-to : goal.loop-u-preserved-then-j-to
-loop-u-preserved-then-j-to c = sought_on c.requires.0 c.requires.1 c.loop-u.invariant c.loop-u-test.true c.if-at-to.true c.seek-j.ensures c.if-j-to.true
+loop-u-preserved-then-j-to c = sought_on c.requires.walkable c.requires.next_in_bounds c.loop-u.invariant c.loop-u-test.true c.if-at-to.true c.seek-j.ensures c.if-j-to.true
 
 pub loop-u-smaller-else-j-to : goal.loop-u-smaller-else-j-to
-loop-u-smaller-else-j-to c = sought_none_less c.requires.0 c.requires.1 c.loop-u.invariant c.loop-u-test.true c.if-at-to.true c.seek-j.ensures c.if-j-to.false
+loop-u-smaller-else-j-to c = sought_none_less c.requires.walkable c.requires.next_in_bounds c.loop-u.invariant c.loop-u-test.true c.if-at-to.true c.seek-j.ensures c.if-j-to.false
 
 pub loop-u-preserved-else-j-to : goal.loop-u-preserved-else-j-to
-loop-u-preserved-else-j-to c = sought_none c.requires.0 c.requires.1 c.loop-u.invariant c.loop-u-test.true c.if-at-to.true c.seek-j.ensures c.if-j-to.false
+loop-u-preserved-else-j-to c = sought_none c.requires.walkable c.requires.next_in_bounds c.loop-u.invariant c.loop-u-test.true c.if-at-to.true c.seek-j.ensures c.if-j-to.false
 
 pub returns-then-len-eq0 : goal.returns-then-len-eq0
-returns-then-len-eq0 c = record { within = omega arith; same = blocked_ends c.requires.0 c.requires.1 c.loop-u.invariant c.loop-u-test.true c.if-at-to.false c.if-len-eq0.true }
+returns-then-len-eq0 c = record { within = omega arith; same = blocked_ends c.requires.walkable c.requires.next_in_bounds c.loop-u.invariant c.loop-u-test.true c.if-at-to.false c.if-len-eq0.true }
 
 pub offset_bounds-path-len-else-at-to : goal.offset_bounds-path-len-else-at-to
-offset_bounds-path-len-else-at-to c = let l = c.loop-u.invariant.path_length in omega (arith, path_room c.requires.0 c.requires.1 c.loop-u.invariant, c.well-formed.1.1.1.1.1.1.1.1.0.1)
+offset_bounds-path-len-else-at-to c = let l = c.loop-u.invariant.path_length in omega (arith, path_room c.requires.walkable c.requires.next_in_bounds c.loop-u.invariant, c.well_formed.1.1.1.1.1.1.1.1.0.1)
 
 pub bounds-path-len-else-at-to : goal.bounds-path-len-else-at-to
-bounds-path-len-else-at-to c = let l = c.loop-u.invariant.path_length in omega (arith, path_room c.requires.0 c.requires.1 c.loop-u.invariant, c.well-formed.1.1.1.1.1.1.1.1.0.1)
+bounds-path-len-else-at-to c = let l = c.loop-u.invariant.path_length in omega (arith, path_room c.requires.walkable c.requires.next_in_bounds c.loop-u.invariant, c.well_formed.1.1.1.1.1.1.1.1.0.1)
 
 pub offset_bounds-heads-e-else-at-to : goal.offset_bounds-heads-e-else-at-to
-offset_bounds-heads-e-else-at-to c = omega (arith, back_in c.requires.0 c.requires.1 c.loop-u.invariant c.loop-u-test.true c.if-at-to.false c.if-len-eq0.false)
+offset_bounds-heads-e-else-at-to c = omega (arith, back_in c.requires.walkable c.requires.next_in_bounds c.loop-u.invariant c.loop-u-test.true c.if-at-to.false c.if-len-eq0.false)
 
 pub bounds-heads-e-else-at-to : goal.bounds-heads-e-else-at-to
-bounds-heads-e-else-at-to c = omega (arith, back_in c.requires.0 c.requires.1 c.loop-u.invariant c.loop-u-test.true c.if-at-to.false c.if-len-eq0.false)
-
-pub overflow_cast-u-else-at-to : goal.overflow_cast-u-else-at-to
-overflow_cast-u-else-at-to c = omega (arith, c.shared_slice_known-else-at-to-1.given (bit_xor (get_or c.loop-u.path (c.loop-u.len - 1) 0) 1))
+bounds-heads-e-else-at-to c = omega (arith, back_in c.requires.walkable c.requires.next_in_bounds c.loop-u.invariant c.loop-u-test.true c.if-at-to.false c.if-len-eq0.false)
 
 pub offset_bounds-next-u-else-at-to : goal.offset_bounds-next-u-else-at-to
-offset_bounds-next-u-else-at-to c = let l = c.loop-u.invariant.next_length in omega (arith, from_next c.requires.0 c.requires.1 c.loop-u.invariant c.loop-u-test.true c.if-at-to.false c.if-len-eq0.false, c.well-formed.1.1.1.1.1.1.1.0.1)
+offset_bounds-next-u-else-at-to c = let l = c.loop-u.invariant.next_length in omega (arith, from_next c.requires.walkable c.requires.next_in_bounds c.loop-u.invariant c.loop-u-test.true c.if-at-to.false c.if-len-eq0.false, c.well_formed.1.1.1.1.1.1.1.0.1)
 
 pub bounds-next-u-else-at-to : goal.bounds-next-u-else-at-to
-bounds-next-u-else-at-to c = let l = c.loop-u.invariant.next_length in omega (arith, from_next c.requires.0 c.requires.1 c.loop-u.invariant c.loop-u-test.true c.if-at-to.false c.if-len-eq0.false, c.well-formed.1.1.1.1.1.1.1.0.1)
+bounds-next-u-else-at-to c = let l = c.loop-u.invariant.next_length in omega (arith, from_next c.requires.walkable c.requires.next_in_bounds c.loop-u.invariant c.loop-u-test.true c.if-at-to.false c.if-len-eq0.false, c.well_formed.1.1.1.1.1.1.1.0.1)
 
 pub overflow_add-next : goal.overflow_add-next
-overflow_add-next c = record { fits = omega (arith, from_mark c.requires.0 c.requires.1 c.loop-u.invariant c.loop-u-test.true c.if-at-to.false c.if-len-eq0.false, c.well-formed.1.1.1.0.0) }
+overflow_add-next c = record { fits = omega (arith, from_mark c.requires.walkable c.requires.next_in_bounds c.loop-u.invariant c.loop-u-test.true c.if-at-to.false c.if-len-eq0.false, c.well_formed.1.1.1.0.0) }
 
 pub offset_bounds-next-u-else-at-to-2 : goal.offset_bounds-next-u-else-at-to-2
-offset_bounds-next-u-else-at-to-2 c = let l = c.loop-u.invariant.next_length in omega (arith, from_next c.requires.0 c.requires.1 c.loop-u.invariant c.loop-u-test.true c.if-at-to.false c.if-len-eq0.false, c.well-formed.1.1.1.1.1.1.1.0.1)
+offset_bounds-next-u-else-at-to-2 c = let l = c.loop-u.invariant.next_length in omega (arith, from_next c.requires.walkable c.requires.next_in_bounds c.loop-u.invariant c.loop-u-test.true c.if-at-to.false c.if-len-eq0.false, c.well_formed.1.1.1.1.1.1.1.0.1)
 
 pub bounds-next-u-else-at-to-2 : goal.bounds-next-u-else-at-to-2
-bounds-next-u-else-at-to-2 c = let l = c.loop-u.invariant.next_length in omega (arith, from_next c.requires.0 c.requires.1 c.loop-u.invariant c.loop-u-test.true c.if-at-to.false c.if-len-eq0.false, c.well-formed.1.1.1.1.1.1.1.0.1)
+bounds-next-u-else-at-to-2 c = let l = c.loop-u.invariant.next_length in omega (arith, from_next c.requires.walkable c.requires.next_in_bounds c.loop-u.invariant c.loop-u-test.true c.if-at-to.false c.if-len-eq0.false, c.well_formed.1.1.1.1.1.1.1.0.1)
 
 pub loop-u-smaller : goal.loop-u-smaller
-loop-u-smaller c = back_less c.requires.0 c.requires.1 c.loop-u.invariant c.loop-u-test.true c.if-at-to.false c.if-len-eq0.false
+loop-u-smaller c = back_less c.requires.walkable c.requires.next_in_bounds c.loop-u.invariant c.loop-u-test.true c.if-at-to.false c.if-len-eq0.false
 
 pub loop-u-preserved : goal.loop-u-preserved
-loop-u-preserved c = back c.requires.0 c.requires.1 c.loop-u.invariant c.loop-u-test.true c.if-at-to.false c.if-len-eq0.false
+loop-u-preserved c = back c.requires.walkable c.requires.next_in_bounds c.loop-u.invariant c.loop-u-test.true c.if-at-to.false c.if-len-eq0.false
 
 pub returns : goal.returns
-returns c = let r = path_room c.requires.0 c.requires.1 c.loop-u.invariant in record { within = omega arith; same = reached_ends c.requires.0 c.requires.1 c.loop-u.invariant c.loop-u-test.false }
+returns c = let r = path_room c.requires.walkable c.requires.next_in_bounds c.loop-u.invariant in record { within = omega arith; same = reached_ends c.requires.walkable c.requires.next_in_bounds c.loop-u.invariant c.loop-u-test.false }

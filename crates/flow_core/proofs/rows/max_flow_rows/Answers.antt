@@ -21,10 +21,10 @@ refused_is : (b : Bool) (r : FlowRun) (c : List Float) → b ≡ false → ends 
 refused_is b r c e = ap (λ (x : Bool). settled x r c) (sym e)
 
 pub run-r-requires : goal.run-r-requires
-run-r-requires c = runs c.args.heads.now c.args.caps-1.now c.args.costs.now c.args.starts.now c.args.list.now c.args.nodes c.args.source c.args.sink (sym c.accept.ensures ∙ c.if-accept.true)
+run-r-requires c = runs c.args.heads.now c.args.caps.now c.args.costs.now c.args.starts.now c.args.list.now c.args.nodes c.args.source c.args.sink (sym c.accept.ensures ∙ c.if-accept.true)
 
 pub returns-then-accept : goal.returns-then-accept
-returns-then-accept c = (rw (sym c.accept.ensures ∙ c.if-accept.true) (told_is _ _ _ _ c.args.caps-1.now _ c.run-r.ensures), every_run c.args.heads.now c.args.caps-1.now c.args.costs.now c.args.starts.now c.args.list.now c.args.nodes c.args.source c.args.sink)
+returns-then-accept c = record { caps_after = rw (sym c.accept.ensures ∙ c.if-accept.true) (told_is _ _ _ _ c.args.caps.now _ c.run-r.ensures); claimed = every_run c.args.heads.now c.args.caps.now c.args.costs.now c.args.starts.now c.args.list.now c.args.nodes c.args.source c.args.sink }
 
 pub returns : goal.returns
-returns c = (refused_is _ _ c.args.caps-1.now (sym c.accept.ensures ∙ c.if-accept.false), every_run c.args.heads.now c.args.caps-1.now c.args.costs.now c.args.starts.now c.args.list.now c.args.nodes c.args.source c.args.sink)
+returns c = record { caps_after = refused_is _ _ c.args.caps.now (sym c.accept.ensures ∙ c.if-accept.false); claimed = every_run c.args.heads.now c.args.caps.now c.args.costs.now c.args.starts.now c.args.list.now c.args.nodes c.args.source c.args.sink }

@@ -23,4 +23,4 @@ pub round_in-requires : goal.round_in-requires
 round_in-requires c = round_ready c.args.heads.now c.args.nodes c.args.source c.args.sink c.requires
 
 pub returns : goal.returns
-returns c = subst (λ (m : ℕ). RoundRan (network c.args.heads.now m c.args.source c.args.sink) c.args c.args.caps-1.now c.round_in.result.reached c.round_in.result.flow c.round_in.result.pushes c.round_in.new.1.0) (take_replicate_length c.args.nodes 66 0 (nodes_few c.args.heads.now c.args.nodes c.args.source c.args.sink c.requires)) c.round_in.ensures
+returns c = subst (λ (m : ℕ). RoundRan (network c.args.heads.now m c.args.source c.args.sink) c.args.before c.args.caps.now c.round_in.result.reached c.round_in.result.flow c.round_in.result.pushes c.round_in.new.caps) (take_replicate_length c.args.nodes 66 0 (nodes_few c.args.heads.now c.args.nodes c.args.source c.args.sink c.requires)) c.round_in.ensures

@@ -6,7 +6,7 @@ pub bounds-level-sink : goal.bounds-level-sink
 bounds-level-sink c = sink_level_lem c.requires c.levels.ensures
 
 pub returns-then-level-sink : goal.returns-then-level-sink
-returns-then-level-sink c = round_cut c.requires c.levels.ensures c.args c.args 0 c.if-level-sink.true
+returns-then-level-sink c = round_cut c.requires c.levels.ensures c.args.before c.args.before 0 c.if-level-sink.true
 
 pub blocking_flow-p-requires : goal.blocking_flow-p-requires
 blocking_flow-p-requires c = phase_ready c.requires c.levels.ensures
