@@ -7,14 +7,14 @@ use Rattle.card_models.proofs.sides.build_side.Goals as goal
 pub returns-then-there-from : goal.returns-then-there-from
 returns-then-there-from c =
     let a = c.args in
-    side_short a.head a.from (transitions a.sources.now a.labels.now a.targets.now a.weights.now) (columns a.label_values-1.now a.offsets-1.now a.edge_labels-1.now a.edge_targets-1.now a.edge_weights-1.now) (omega arith)
+    side_short a.head a.from (transitions a.sources.now a.labels.now a.targets.now a.weights.now) (columns a.label_values.now a.offsets.now a.edge_labels.now a.edge_targets.now a.edge_weights.now) (omega arith)
 
 pub returns-then-there-from-2 : goal.returns-then-there-from-2
 returns-then-there-from-2 c =
     let a = c.args in
-    side_short a.head a.from (transitions a.sources.now a.labels.now a.targets.now a.weights.now) (columns a.label_values-1.now a.offsets-1.now a.edge_labels-1.now a.edge_targets-1.now a.edge_weights-1.now) (omega arith)
+    side_short a.head a.from (transitions a.sources.now a.labels.now a.targets.now a.weights.now) (columns a.label_values.now a.offsets.now a.edge_labels.now a.edge_targets.now a.edge_weights.now) (omega arith)
 
 pub returns : goal.returns
 returns c =
     let a = c.args in
-    side_cut a.head a.from (transitions a.sources.now a.labels.now a.targets.now a.weights.now) (columns a.label_values-1.now a.offsets-1.now a.edge_labels-1.now a.edge_targets-1.now a.edge_weights-1.now) (omega arith) c.build.ensures
+    side_cut a.head a.from (transitions a.sources.now a.labels.now a.targets.now a.weights.now) (columns a.label_values.now a.offsets.now a.edge_labels.now a.edge_targets.now a.edge_weights.now) (omega arith) c.build.ensures

@@ -12,10 +12,10 @@ returns-in-Related c =
     let p = c.requires in
     let a = c.args in
     let told : a.ended-1 ≡ Related = search rules in
-    λ n store R e k. finish_related a.left a.right n a.relation.now store R a.out-1.now _ _ p.0 p.1 p.2 p.3 (ap (λ (x : Ended). ends x a.relation.now) (sym told) ∙ e) k c.report_text.ensures
+    λ n store R e k. finish_related a.left a.right n a.relation.now store R a.out.now _ _ p.0 p.1 p.2 p.3 (ap (λ (x : Ended). ends x a.relation.now) (sym told) ∙ e) k c.report_text.ensures
 
 pub returns-in-Refused : goal.returns-in-Refused
 returns-in-Refused c =
     let p = c.requires in
     let a = c.args in
-    λ n store R e k. finish_refused a.left a.right n a.relation.now store R a.out-1.now _ _ _ p.3 (ap (λ (x : Ended). ends x a.relation.now) (sym c.in-Refused.is) ∙ e) c.refusal_text.ensures
+    λ n store R e k. finish_refused a.left a.right n a.relation.now store R a.out.now _ _ _ p.3 (ap (λ (x : Ended). ends x a.relation.now) (sym c.in-Refused.is) ∙ e) c.refusal_text.ensures

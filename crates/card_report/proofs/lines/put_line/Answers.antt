@@ -34,7 +34,7 @@ pub loop-i-preserved : goal.loop-i-preserved
 loop-i-preserved c =
     let b = c.args in
     let e = c.put.ensures ∙ ap (sets c.loop-i.out-1 c.loop-i.p) c.column-c.ensures in
-    let l : length c.put.new.0 ≡ length c.loop-i.out-1 = ap length e ∙ simp length-sets in (
+    let l : length c.put.new.out ≡ length c.loop-i.out-1 = ap length e ∙ simp length-sets in (
       omega arith,
       omega arith,
       omega arith,

@@ -9,7 +9,7 @@ use Rattle.card_report.proofs.report.put_across.Goals as goal
 pub loop-t-init : goal.loop-t-init
 loop-t-init c =
     let b = c.args in
-    (omega arith, omega arith, putting_same _ _ _ (across_all (relation_in b.relation.now (b.l + b.r)) b.l b.r b.s 0 refl) (putting_starts _ b.out-1.now b.at))
+    (omega arith, omega arith, putting_same _ _ _ (across_all (relation_in b.relation.now (b.l + b.r)) b.l b.r b.s 0 refl) (putting_starts _ b.out.now b.at))
 
 pub overflow_cast-t : goal.overflow_cast-t
 overflow_cast-t c = omega arith
@@ -40,13 +40,13 @@ loop-t-preserved c =
     (λ w. (
       omega arith,
       omega (arith, w.7),
-      turn_hit (relation_in b.relation.now (b.l + b.r)) b.l b.r b.s c.loop-t.t (omega arith) _ b.out-1.now c.loop-t.out-1 b.at c.loop-t.p v _ _
+      turn_hit (relation_in b.relation.now (b.l + b.r)) b.l b.r b.s c.loop-t.t (omega arith) _ b.out.now c.loop-t.out-1 b.at c.loop-t.p v _ _
           (sym c.related.ensures ∙ w.0.taken) (w.6 ∙ w.3.ensures) w.7,
     ))
     (λ w. (
       omega arith,
       omega (arith, w.2),
-      turn_miss (relation_in b.relation.now (b.l + b.r)) b.l b.r b.s c.loop-t.t (omega arith) _ b.out-1.now c.loop-t.out-1 b.at c.loop-t.p v _ _
+      turn_miss (relation_in b.relation.now (b.l + b.r)) b.l b.r b.s c.loop-t.t (omega arith) _ b.out.now c.loop-t.out-1 b.at c.loop-t.p v _ _
           (sym c.related.ensures ∙ w.0.left) w.1 w.2,
     ))
     c.if-related.branch

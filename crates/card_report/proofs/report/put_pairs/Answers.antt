@@ -8,7 +8,7 @@ use Rattle.card_report.proofs.report.put_pairs.Goals as goal
 pub loop-s-init : goal.loop-s-init
 loop-s-init c =
     let b = c.args in
-    (omega arith, omega arith, putting_same _ _ _ (down_all (relation_in b.relation.now (b.l + b.r)) b.l b.r 0 refl) (putting_starts _ b.out-1.now b.at))
+    (omega arith, omega arith, putting_same _ _ _ (down_all (relation_in b.relation.now (b.l + b.r)) b.l b.r 0 refl) (putting_starts _ b.out.now b.at))
 
 pub put_across-p-requires : goal.put_across-p-requires
 put_across-p-requires c = omega arith
@@ -25,7 +25,7 @@ loop-s-preserved c =
     let a = c.put_across-p.ensures in (
       omega arith,
       omega arith,
-      turn_down (relation_in b.relation.now (b.l + b.r)) b.l b.r c.loop-s.s (omega arith) _ b.out-1.now c.loop-s.out-1 _ b.at c.loop-s.p _ a.place a.leaves c.loop-s.invariant.2,
+      turn_down (relation_in b.relation.now (b.l + b.r)) b.l b.r c.loop-s.s (omega arith) _ b.out.now c.loop-s.out-1 _ b.at c.loop-s.p _ a.place a.leaves c.loop-s.invariant.2,
     )
 
 pub returns : goal.returns

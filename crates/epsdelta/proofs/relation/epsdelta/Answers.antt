@@ -14,5 +14,5 @@ returns c =
     let MR = columns a.right_values.now a.right_offsets.now a.right_labels.now a.right_targets.now a.right_weights.now in
     let cl = a.left_classes.now in
     let cr = a.right_classes.now in
-    let store = a.relation-1.now in
+    let store = a.relation.now in
     (plain SL ML SR MR cl cr a.epsilon a.rho store c.epsdelta_unless.ensures, λ e. epsdelta_sound SL ML SR MR cl cr a.epsilon a.rho (length store) e)

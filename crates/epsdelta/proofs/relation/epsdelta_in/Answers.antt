@@ -14,7 +14,7 @@ finish-requires c =
     let SR = a.right in
     let MR = columns a.right_values.now a.right_offsets.now a.right_labels.now a.right_targets.now a.right_weights.now in
     let u = c.union-joined.ensures in
-    ready SL ML SR MR a.exits-1.now a.starts-1.now a.targets-1.now a.probs-1.now (length a.classes-1.now) c.requires u.0 u.1 c.refused.ensures
+    ready SL ML SR MR a.exits.now a.starts.now a.targets.now a.probs.now (length a.classes.now) c.requires u.0 u.1 c.refused.ensures
 
 pub returns : goal.returns
 returns c =
@@ -25,6 +25,6 @@ returns c =
     let MR = columns a.right_values.now a.right_offsets.now a.right_labels.now a.right_targets.now a.right_weights.now in
     let u = c.union-joined.ensures in
     let r = c.refused.ensures in
-    let m = length a.classes-1.now in
-    done SL ML SR MR a.exits-1.now a.starts-1.now a.targets-1.now a.probs-1.now m c.requires u.0 u.1 r a.settings.absent a.left_classes.now a.right_classes.now a.settings.epsilon a.settings.rho a.relation-1.now
-    (c.finish.ensures (union (model SL ML) (model SR MR)) (rows_are SL ML SR MR a.exits-1.now a.starts-1.now a.targets-1.now a.probs-1.now m c.requires u.0 u.1 r))
+    let m = length a.classes.now in
+    done SL ML SR MR a.exits.now a.starts.now a.targets.now a.probs.now m c.requires u.0 u.1 r a.settings.absent a.left_classes.now a.right_classes.now a.settings.epsilon a.settings.rho a.relation.now
+    (c.finish.ensures (union (model SL ML) (model SR MR)) (rows_are SL ML SR MR a.exits.now a.starts.now a.targets.now a.probs.now m c.requires u.0 u.1 r))

@@ -7,17 +7,17 @@ use Rattle.epsdelta_jumps.proofs.rates.fill.Goals as goal
 pub add_edges-m-requires : goal.add_edges-m-requires
 add_edges-m-requires c =
     let p = c.requires in
-    let t = part_length c.args.at c.args.targets-1.now in
-    let q = part_length c.args.at c.args.probs-1.now in
+    let t = part_length c.args.at c.args.targets.now in
+    let q = part_length c.args.at c.args.probs.now in
     (p.0, p.1, p.2, (let a = p.3 in omega arith), (let a = p.4 in omega arith), p.5, p.7)
 
 pub returns : goal.returns
 returns c =
-    let g = f in
+    let g = c in
     let s = g in
     let p = s.requires in
     let n = g.add_edges-m.ensures.0 in (
       (let a = p.0 in omega arith),
-      λ D O L. filled s.args.off _ (s.args.off + s.args.s) s.args.at g.add_edges-m.result s.args.exits.now s.args.targets-1.now s.args.probs-1.now _ _ _ _
-          (let a = p.3 in omega arith) (let a = p.4 in omega arith) g.add_edges-m.auto.1.1.1.1.1.1.0 g.add_edges-m.auto.1.1.1.1.1.1.1.0 g.add_edges-m.ensures.1 g.add_edges-m.ensures.2 (g.add_edges-m.ensures.3 D O L) c.finish.ensures,
+      λ D O L. filled s.args.off _ (s.args.off + s.args.s) s.args.at g.add_edges-m.result s.args.exits.now s.args.targets.now s.args.probs.now _ _ _ _
+          (let a = p.3 in omega arith) (let a = p.4 in omega arith) g.add_edges-m.auto.targets g.add_edges-m.auto.probs g.add_edges-m.ensures.1 g.add_edges-m.ensures.2 (g.add_edges-m.ensures.3 D O L) c.finish.ensures,
     )

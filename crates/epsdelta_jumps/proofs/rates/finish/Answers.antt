@@ -13,11 +13,11 @@ divided : (P Q : List Float) (m : ℕ) (x y : Float) → Q ≡ over (quotients x
 divided P Q m x y d e = d ∙ ap (λ (z : Float). over (quotients z m P) P) e
 
 pub slice_bounds-sum-end-2 : goal.slice_bounds-sum-end-2
-slice_bounds-sum-end-2 c = sym (length-take-le c.args.m c.args.probs-1.now c.requires)
+slice_bounds-sum-end-2 c = sym (length-take-le c.args.m c.args.probs.now c.requires)
 
 pub returns : goal.returns
 returns c =
     let m = c.args.m in
-    let P = c.args.probs-1.now in
+    let P = c.args.probs.now in
     let e = c.value-x.ensures ∙ c.sum.ensures in
-    (e, divided P c.divide.new.0 m c.value-x.result _ c.divide.ensures e)
+    (e, divided P c.divide.new.probs m c.value-x.result _ c.divide.ensures e)

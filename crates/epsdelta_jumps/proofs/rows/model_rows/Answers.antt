@@ -28,9 +28,9 @@ fill-end-requires c =
 
 pub overflow_cast-starts : goal.overflow_cast-starts
 overflow_cast-starts c =
-    let low : c.fill-end.result ≤ 8192 = 
-        let p = c.requires in
-        within p.0 (p.3, p.4, p.5, p.6) c.loop-s.invariant c.loop-s-test.true _ _ c.wide-from.ensures c.wide-to.ensures _ c.fill-end.ensures.0 p.2 in
+    let low : c.fill-end.result ≤ 8192 =
+    let p = c.requires in
+    within p.0 (p.3, p.4, p.5, p.6) c.loop-s.invariant c.loop-s-test.true _ _ c.wide-from.ensures c.wide-to.ensures _ c.fill-end.ensures.0 p.2 in
     let l = low in omega arith
 
 pub overflow_add-starts : goal.overflow_add-starts
@@ -55,7 +55,7 @@ pub loop-s-preserved : goal.loop-s-preserved
 loop-s-preserved c =
     let p = c.requires in
     turn p.0 (p.3, p.4, p.5, p.6) c.loop-s.invariant c.loop-s-test.true _ _ c.wide-from.ensures c.wide-to.ensures _ _ _ _ c.fill-end.ensures
-    c.fill-end.auto.1.1.1.1.1.1.1.0 c.fill-end.auto.1.1.1.1.1.1.1.1.0 c.fill-end.auto.1.1.1.1.1.1.1.1.1.0
+    c.fill-end.auto.exits c.fill-end.auto.targets c.fill-end.auto.probs
 
 pub shape_of-exits : goal.shape_of-exits
 shape_of-exits c = c.loop-s.invariant.e_size

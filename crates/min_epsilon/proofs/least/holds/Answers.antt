@@ -16,7 +16,7 @@ returns-in-Related c =
     let MR = columns a.right_values.now a.right_offsets.now a.right_labels.now a.right_targets.now a.right_weights.now in
     let cl = a.left_classes.now in
     let cr = a.right_classes.now in
-    let j = judged_related a.relation-1.now c.epsdelta_bisimilar.new.1.1.1.1.1.1.1.1.1.1.1.1.1.1.1.1.0 c.epsdelta_bisimilar.result (bisimilar_refusal SL ML SR MR cl cr a.epsilon a.rho (length a.relation-1.now)) (bisimilar SL ML SR MR cl cr a.epsilon a.rho) c.epsdelta_bisimilar.ensures c.in-Related.is in
+    let j = judged_related a.relation.now c.epsdelta_bisimilar.new.relation c.epsdelta_bisimilar.result (bisimilar_refusal SL ML SR MR cl cr a.epsilon a.rho (length a.relation.now)) (bisimilar SL ML SR MR cl cr a.epsilon a.rho) c.epsdelta_bisimilar.ensures c.in-Related.is in
     (j.said, j.cleared)
 
 -- src/least.rt:24:1
@@ -29,7 +29,7 @@ returns-in-Unrelated c =
     let MR = columns a.right_values.now a.right_offsets.now a.right_labels.now a.right_targets.now a.right_weights.now in
     let cl = a.left_classes.now in
     let cr = a.right_classes.now in
-    let j = judged_unrelated a.relation-1.now c.epsdelta_bisimilar.new.1.1.1.1.1.1.1.1.1.1.1.1.1.1.1.1.0 c.epsdelta_bisimilar.result (bisimilar_refusal SL ML SR MR cl cr a.epsilon a.rho (length a.relation-1.now)) (bisimilar SL ML SR MR cl cr a.epsilon a.rho) c.epsdelta_bisimilar.ensures c.in-Unrelated.is in
+    let j = judged_unrelated a.relation.now c.epsdelta_bisimilar.new.relation c.epsdelta_bisimilar.result (bisimilar_refusal SL ML SR MR cl cr a.epsilon a.rho (length a.relation.now)) (bisimilar SL ML SR MR cl cr a.epsilon a.rho) c.epsdelta_bisimilar.ensures c.in-Unrelated.is in
     (j.said, j.cleared)
 
 -- src/least.rt:24:1
@@ -42,4 +42,4 @@ returns-in-Refused c =
     let MR = columns a.right_values.now a.right_offsets.now a.right_labels.now a.right_targets.now a.right_weights.now in
     let cl = a.left_classes.now in
     let cr = a.right_classes.now in
-    absurd (judged_not_refused a.relation-1.now c.epsdelta_bisimilar.new.1.1.1.1.1.1.1.1.1.1.1.1.1.1.1.1.0 c.epsdelta_bisimilar.result (bisimilar_refusal SL ML SR MR cl cr a.epsilon a.rho (length a.relation-1.now)) (bisimilar SL ML SR MR cl cr a.epsilon a.rho) _ c.epsdelta_bisimilar.ensures c.requires c.in-Refused.is)
+    absurd (judged_not_refused a.relation.now c.epsdelta_bisimilar.new.relation c.epsdelta_bisimilar.result (bisimilar_refusal SL ML SR MR cl cr a.epsilon a.rho (length a.relation.now)) (bisimilar SL ML SR MR cl cr a.epsilon a.rho) _ c.epsdelta_bisimilar.ensures c.requires c.in-Refused.is)
