@@ -16,8 +16,8 @@ bounds-caps-path c = c.requires.link_in c.loop-i.i c.loop-i-test.true
 pub loop-i-preserved : goal.loop-i-preserved
 loop-i-preserved c =
     elim c.if-c-y.branch [
-      then-c-y w ↦ lower c.requires c.loop-i.invariant c.loop-i-test.true w.if-c-y.true _ w.y-is
-    | else-c-y w ↦ stays c.requires c.loop-i.invariant c.loop-i-test.true w.if-c-y.false _ w.y-is
+      | then-c-y w ↦ lower c.requires c.loop-i.invariant c.loop-i-test.true w.if-c-y.true _ w.y-is
+      | else-c-y w ↦ stays c.requires c.loop-i.invariant c.loop-i-test.true w.if-c-y.false _ w.y-is
     ]
 
 pub returns : goal.returns

@@ -40,8 +40,8 @@ loop-u-smaller c = let a = c.loop-u.invariant.dist_length in let l = c.loop-u-te
 pub loop-u-preserved : goal.loop-u-preserved
 loop-u-preserved c =
     elim c.if-not-is_infinite.branch [
-      then-not-is_infinite w ↦ pass_through c.requires c.loop-u.invariant c.loop-u-test.true (sym c.is_infinite.ensures ∙ w.if-not-is_infinite.true) (omega (arith, w.relax-changed.auto.dist)) (omega (arith, w.relax-changed.auto.via)) w.relax-changed.ensures _ _ _ w.dist-is w.via-is w.changed-is
-    | else-not-is_infinite w ↦ pass_over c.requires c.loop-u.invariant c.loop-u-test.true (sym c.is_infinite.ensures ∙ w.if-not-is_infinite.false) _ _ _ w.dist-is w.via-is w.changed-is
+      | then-not-is_infinite w ↦ pass_through c.requires c.loop-u.invariant c.loop-u-test.true (sym c.is_infinite.ensures ∙ w.if-not-is_infinite.true) (omega (arith, w.relax-changed.auto.dist)) (omega (arith, w.relax-changed.auto.via)) w.relax-changed.ensures _ _ _ w.dist-is w.via-is w.changed-is
+      | else-not-is_infinite w ↦ pass_over c.requires c.loop-u.invariant c.loop-u-test.true (sym c.is_infinite.ensures ∙ w.if-not-is_infinite.false) _ _ _ w.dist-is w.via-is w.changed-is
     ]
 
 pub shape_of-dist : goal.shape_of-dist

@@ -59,9 +59,9 @@ bounds-via-v c = v_via c.requires c.loop-j.invariant c.loop-j-test.true
 pub loop-j-preserved : goal.loop-j-preserved
 loop-j-preserved c =
     elim c.if-caps-e.branch [
-      then-caps-e+then-d-dist w ↦ relax_shorter c.requires c.loop-j.invariant c.loop-j-test.true w.if-caps-e.true w.if-d-dist.true _ _ _ w.dist-is w.via-is w.changed-is
-    | then-caps-e+else-d-dist w ↦ relax_kept c.requires c.loop-j.invariant c.loop-j-test.true (inr w.if-d-dist.false) _ _ _ w.dist-is w.via-is w.changed-is
-    | else-caps-e w ↦ relax_kept c.requires c.loop-j.invariant c.loop-j-test.true (inl w.if-caps-e.false) _ _ _ w.dist-is w.via-is w.changed-is
+      | then-caps-e+then-d-dist w ↦ relax_shorter c.requires c.loop-j.invariant c.loop-j-test.true w.if-caps-e.true w.if-d-dist.true _ _ _ w.dist-is w.via-is w.changed-is
+      | then-caps-e+else-d-dist w ↦ relax_kept c.requires c.loop-j.invariant c.loop-j-test.true (inr w.if-d-dist.false) _ _ _ w.dist-is w.via-is w.changed-is
+      | else-caps-e w ↦ relax_kept c.requires c.loop-j.invariant c.loop-j-test.true (inl w.if-caps-e.false) _ _ _ w.dist-is w.via-is w.changed-is
     ]
 
 pub shape_of-dist : goal.shape_of-dist
