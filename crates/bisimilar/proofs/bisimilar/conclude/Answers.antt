@@ -5,9 +5,9 @@ use Rattle.bisimilar.proofs.bisimilar.conclude.Goals as goal
 pub returns-in-Refused : goal.returns-in-Refused
 returns-in-Refused c =
     let a = c.args in
-    refused_stands a.ended-1 a.left_states a.right_states a.s.0 a.t.0 a.relation.now c.in-Refused.is
+    refused_stands a.ended a.left_states a.right_states a.s.0 a.t.0 a.relation.now c.in-Refused.is
 
 pub returns-in-Related : goal.returns-in-Related
 returns-in-Related c =
     let a = c.args in
-    read_and_cleared a.ended-1 a.left_states a.right_states a.s.0 a.t.0 a.relation.now c.in-Related.is c.related-verdict.ensures c.clear.ensures
+    read_and_cleared a.ended a.left_states a.right_states a.s.0 a.t.0 a.relation.now c.in-Related.is c.related-verdict.ensures c.clear.ensures

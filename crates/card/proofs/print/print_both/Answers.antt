@@ -10,7 +10,7 @@ pub returns-in-Refused : goal.returns-in-Refused
 returns-in-Refused c =
     let p = c.requires in
     let a = c.args in
-    retold (lists_refused (columns a.left_values.now a.left_offsets.now a.left_labels.now a.left_targets.now a.left_weights.now) (columns a.right_values.now a.right_offsets.now a.right_labels.now a.right_targets.now a.right_weights.now) a.heads a.classes.now a.models-1 _ c.in-Refused.is)
+    retold (lists_refused (columns a.left_values.now a.left_offsets.now a.left_labels.now a.left_targets.now a.left_weights.now) (columns a.right_values.now a.right_offsets.now a.right_labels.now a.right_targets.now a.right_weights.now) a.heads a.classes.now a.models _ c.in-Refused.is)
     (with_room _ a.out.now _ _ p.2 c.refusal_text.ensures)
 
 pub returns-in-Models : goal.returns-in-Models
@@ -19,4 +19,4 @@ returns-in-Models c =
     let a = c.args in
     let g = c.models-in-Models-1.given in
     let f = subst FewBoth g.1 p.0 in
-    retold (lists_related (columns a.left_values.now a.left_offsets.now a.left_labels.now a.left_targets.now a.left_weights.now) (columns a.right_values.now a.right_offsets.now a.right_labels.now a.right_targets.now a.right_weights.now) a.heads a.classes.now a.models-1 _ _ g.1) (relation_free g.0.0 g.0.1.0 _ a.out.now _ _ f.0 f.1 p.2 c.relation_text.ensures)
+    retold (lists_related (columns a.left_values.now a.left_offsets.now a.left_labels.now a.left_targets.now a.left_weights.now) (columns a.right_values.now a.right_offsets.now a.right_labels.now a.right_targets.now a.right_weights.now) a.heads a.classes.now a.models _ _ g.1) (relation_free g.0.0 g.0.1.0 _ a.out.now _ _ f.0 f.1 p.2 c.relation_text.ensures)

@@ -11,7 +11,7 @@ pub returns-in-Related : goal.returns-in-Related
 returns-in-Related c =
     let p = c.requires in
     let a = c.args in
-    let told : a.ended-1 ≡ Related = search rules in
+    let told : a.ended ≡ Related = search rules in
     λ n store R e k. finish_related a.left a.right n a.relation.now store R a.out.now _ _ p.0 p.1 p.2 p.3 (ap (λ (x : Ended). ends x a.relation.now) (sym told) ∙ e) k c.report_text.ensures
 
 pub returns-in-Refused : goal.returns-in-Refused

@@ -26,9 +26,9 @@ loop-i-smaller c = omega arith
 pub loop-i-preserved : goal.loop-i-preserved
 loop-i-preserved c =
     let b = c.args in
-    (omega arith, simp length-set (omega arith), put_on c.loop-i.out-1 b.c.now b.at c.loop-i.i (omega arith) ∙ c.loop-i.invariant.2)
+    (omega arith, simp length-set (omega arith), put_on c.loop-i.out b.c.now b.at c.loop-i.i (omega arith) ∙ c.loop-i.invariant.2)
 
 pub returns : goal.returns
 returns c =
     let b = c.args in
-    put_end c.loop-i.out-1 b.c.now b.at c.loop-i.i (omega arith) ∙ c.loop-i.invariant.2
+    put_end c.loop-i.out b.c.now b.at c.loop-i.i (omega arith) ∙ c.loop-i.invariant.2

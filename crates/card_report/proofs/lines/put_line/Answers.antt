@@ -33,13 +33,13 @@ loop-i-smaller c = omega arith
 pub loop-i-preserved : goal.loop-i-preserved
 loop-i-preserved c =
     let b = c.args in
-    let e = c.put.ensures ∙ ap (sets c.loop-i.out-1 c.loop-i.p) c.column-c.ensures in
-    let l : length c.put.new.out ≡ length c.loop-i.out-1 = ap length e ∙ simp length-sets in (
+    let e = c.put.ensures ∙ ap (sets c.loop-i.out c.loop-i.p) c.column-c.ensures in
+    let l : length c.put.new.out ≡ length c.loop-i.out = ap length e ∙ simp length-sets in (
       omega arith,
       omega arith,
       omega arith,
       ap (λ (x : List ℕ). sets x (c.loop-i.p + 6) (line (drop (c.loop-i.i + 1) b.row.now))) e
-          ∙ line_on c.loop-i.out-1 b.row.now c.loop-i.p c.loop-i.i (omega arith) ∙ c.loop-i.invariant.3,
+          ∙ line_on c.loop-i.out b.row.now c.loop-i.p c.loop-i.i (omega arith) ∙ c.loop-i.invariant.3,
     )
 
 pub bounds-out-p : goal.bounds-out-p
@@ -51,4 +51,4 @@ shape_of-out c = simp length-set (omega arith)
 pub returns : goal.returns
 returns c =
     let b = c.args in
-    line_end c.loop-i.out-1 b.row.now c.loop-i.p c.loop-i.i (omega arith) ∙ c.loop-i.invariant.3
+    line_end c.loop-i.out b.row.now c.loop-i.p c.loop-i.i (omega arith) ∙ c.loop-i.invariant.3

@@ -1,10 +1,10 @@
 use Prim.Native.Nat.{◌+◌}
 use native.Mathlib.Omega.{arith}
-use mathlib.Core.Logic.{⊎_elim}
 use mathlib.Core.Path.{refl, sym, ◌∙◌}
 use Rattle.card_report.specs.Report.{relation_in}
 use Rattle.card_report.proofs.Texts.{putting_starts, putting_same, putting_ends, turn_hit, turn_miss, across_all, across_none}
 use Rattle.card_report.proofs.report.put_across.Goals as goal
+use Rattle.card_report.proofs.report.put_across.Goals.{then-related, else-related}
 
 pub loop-t-init : goal.loop-t-init
 loop-t-init c =
@@ -36,20 +36,20 @@ pub loop-t-preserved : goal.loop-t-preserved
 loop-t-preserved c =
     let b = c.args in
     let v = c.loop-t.invariant.2 in
-    ⊎_elim
-    (λ w. (
-      omega arith,
-      omega (arith, w.7),
-      turn_hit (relation_in b.relation.now (b.l + b.r)) b.l b.r b.s c.loop-t.t (omega arith) _ b.out.now c.loop-t.out-1 b.at c.loop-t.p v _ _
-          (sym c.related.ensures ∙ w.0.taken) (w.6 ∙ w.3.ensures) w.7,
-    ))
-    (λ w. (
-      omega arith,
-      omega (arith, w.2),
-      turn_miss (relation_in b.relation.now (b.l + b.r)) b.l b.r b.s c.loop-t.t (omega arith) _ b.out.now c.loop-t.out-1 b.at c.loop-t.p v _ _
-          (sym c.related.ensures ∙ w.0.left) w.1 w.2,
-    ))
-    c.if-related.branch
+    elim c.if-related.branch [
+      | then-related w ↦ (
+        omega arith,
+        omega (arith, w.p-is),
+        turn_hit (relation_in b.relation.now (b.l + b.r)) b.l b.r b.s c.loop-t.t (omega arith) _ b.out.now c.loop-t.out b.at c.loop-t.p v _ _
+            (sym c.related.ensures ∙ w.if-related.true) (w.out-is ∙ w.put_line.ensures) w.p-is,
+      )
+      | else-related w ↦ (
+        omega arith,
+        omega (arith, w.p-is),
+        turn_miss (relation_in b.relation.now (b.l + b.r)) b.l b.r b.s c.loop-t.t (omega arith) _ b.out.now c.loop-t.out b.at c.loop-t.p v _ _
+            (sym c.related.ensures ∙ w.if-related.false) w.out-is w.p-is,
+      )
+    ]
 
 pub returns : goal.returns
 returns c =

@@ -25,7 +25,7 @@ loop-s-preserved c =
     let a = c.put_across-p.ensures in (
       omega arith,
       omega arith,
-      turn_down (relation_in b.relation.now (b.l + b.r)) b.l b.r c.loop-s.s (omega arith) _ b.out.now c.loop-s.out-1 _ b.at c.loop-s.p _ a.place a.leaves c.loop-s.invariant.2,
+      turn_down (relation_in b.relation.now (b.l + b.r)) b.l b.r c.loop-s.s (omega arith) _ b.out.now c.loop-s.out _ b.at c.loop-s.p _ a.place a.leaves c.loop-s.invariant.2,
     )
 
 pub returns : goal.returns
