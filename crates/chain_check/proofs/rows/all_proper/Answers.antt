@@ -60,8 +60,8 @@ slice_bounds-proper-end-in-loop-s c =
 pub returns-then-not-proper : goal.returns-then-not-proper
 returns-then-not-proper c =
     let near : (c.wide-from.result ≤ c.wide-to.result) × (c.wide-to.result ≤ length c.args.targets.now) × (c.wide-to.result ≤ length c.args.probs.now) = inside c.requires c.loop-s.s c.loop-s-test.true _ _ c.wide-from.ensures c.wide-to.ensures in
-    let answer : (seen : List Float) → proper (entries (chain_columns c.args.offsets.now c.args.targets.now c.args.probs.now seen) c.loop-s.s) ≡ c.proper.result = λ seen. 
-        sym (c.proper.ensures ∙ ap proper (entries_are c.args.offsets.now c.args.targets.now c.args.probs.now seen c.loop-s.s _ _ c.wide-from.ensures c.wide-to.ensures near.0)) in
+    let answer : (seen : List Float) → proper (entries (chain_columns c.args.offsets.now c.args.targets.now c.args.probs.now seen) c.loop-s.s) ≡ c.proper.result = λ seen.
+    sym (c.proper.ensures ∙ ap proper (entries_are c.args.offsets.now c.args.targets.now c.args.probs.now seen c.loop-s.s _ _ c.wide-from.ensures c.wide-to.ensures near.0)) in
     let a = c.args in
     let h = c.loop-s-test.true in
     λ seen. sym (c.loop-s.invariant.1 seen ∙ left_stop (entries (chain_columns a.offsets.now a.targets.now a.probs.now seen)) c.loop-s.s a.states h (answer seen ∙ c.if-not-proper.true))
@@ -69,8 +69,8 @@ returns-then-not-proper c =
 pub loop-s-preserved : goal.loop-s-preserved
 loop-s-preserved c =
     let near : (c.wide-from.result ≤ c.wide-to.result) × (c.wide-to.result ≤ length c.args.targets.now) × (c.wide-to.result ≤ length c.args.probs.now) = inside c.requires c.loop-s.s c.loop-s-test.true _ _ c.wide-from.ensures c.wide-to.ensures in
-    let answer : (seen : List Float) → proper (entries (chain_columns c.args.offsets.now c.args.targets.now c.args.probs.now seen) c.loop-s.s) ≡ c.proper.result = λ seen. 
-        sym (c.proper.ensures ∙ ap proper (entries_are c.args.offsets.now c.args.targets.now c.args.probs.now seen c.loop-s.s _ _ c.wide-from.ensures c.wide-to.ensures near.0)) in
+    let answer : (seen : List Float) → proper (entries (chain_columns c.args.offsets.now c.args.targets.now c.args.probs.now seen) c.loop-s.s) ≡ c.proper.result = λ seen.
+    sym (c.proper.ensures ∙ ap proper (entries_are c.args.offsets.now c.args.targets.now c.args.probs.now seen c.loop-s.s _ _ c.wide-from.ensures c.wide-to.ensures near.0)) in
     let a = c.args in
     let h = c.loop-s-test.true in
     (omega arith, λ seen. c.loop-s.invariant.1 seen ∙ left_on (entries (chain_columns a.offsets.now a.targets.now a.probs.now seen)) c.loop-s.s a.states h (answer seen ∙ c.if-not-proper.false))
