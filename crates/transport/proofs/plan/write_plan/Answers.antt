@@ -69,8 +69,8 @@ loop-k-smaller c = let t = c.loop-k-test.true in omega arith
 pub loop-k-preserved : goal.loop-k-preserved
 loop-k-preserved c =
     elim c.if-x.branch [
-      then-x w ↦ plan_keeps c.requires c.loop-k.invariant c.loop-k-test.true w.if-x.true w.rows-is w.columns-is w.masses-is w.total-is w.cells-is
-    | else-x w ↦ plan_skips c.requires c.loop-k.invariant c.loop-k-test.true w.if-x.false w.rows-is w.columns-is w.masses-is w.total-is w.cells-is
+      | then-x w ↦ plan_keeps c.requires c.loop-k.invariant c.loop-k-test.true w.if-x.true w.rows-is w.columns-is w.masses-is w.total-is w.cells-is
+      | else-x w ↦ plan_skips c.requires c.loop-k.invariant c.loop-k-test.true w.if-x.false w.rows-is w.columns-is w.masses-is w.total-is w.cells-is
     ]
 
 pub shape_of-rows : goal.shape_of-rows
