@@ -1,5 +1,4 @@
 use Rattle.normalise.proofs.scale_in.Goals as goal
-
 -- The least and the greatest go over the one list and then over the other, and both are scaled by them.
 
 use Rattle.normalise.proofs.Scaling.{both_scaled}
@@ -24,5 +23,5 @@ rescale-requires-2 c = c.requires.1
 
 pub returns : goal.returns
 returns c =
-    both_scaled c.args.left_count c.args.right_count c.args.left-1.now c.args.right-1.now _ _ _ _ _ _ _
+    both_scaled c.args.left_count c.args.right_count c.args.left.now c.args.right.now _ _ _ _ _ _ _
     c.infinity-top.ensures c.least_from-low.ensures c.least_from-least.ensures c.greatest_from-high.ensures c.greatest_from.ensures c.rescale.ensures c.rescale-2.ensures
