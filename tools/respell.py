@@ -53,19 +53,20 @@ class File:
             self.read()
 
     def read(self):
-        block = None  # indent of an open record or data
+        block = None  # the indent and the kind of an open record or data
         for line in self.text.split("\n"):
-            m = SIGNATURE.match(line)
             indent = len(line) - len(line.lstrip())
             if line.strip() and not line.strip().startswith("--") and block is not None and indent <= block[0]:
                 block = None
+            head = re.match(r"^ *(?:pub +)?(record|data) ", line)
+            if head and line.rstrip().endswith("where"):
+                block = (indent, head[1])
+                continue
+            m = SIGNATURE.match(line)
             if not m:
                 continue
             name, kind, type_ = m[3], m[2], m[5]
-            if re.search(r"\b(data|record)\b", kind):
-                block = (indent, "record" if "record" in kind else "data")
-                continue
-            if block and block[1] == "record":
+            if block and block[1] == "record" and indent == block[0] + 2:
                 self.fields[name] = True
                 continue
             if re.match(r" *(?:tie|goal)\.", type_):
