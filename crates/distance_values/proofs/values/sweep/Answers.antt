@@ -6,19 +6,19 @@ pub loop-k-init : goal.loop-k-init
 loop-k-init c = sweeping_starts
 
 pub offset_bounds-starts-k : goal.offset_bounds-starts-k
-offset_bounds-starts-k c = let h = pair_in_lem c.loop-k.invariant c.loop-k-test.true in let s = c.requires.0.in_starts in omega arith
+offset_bounds-starts-k c = let h = pair_in_lem c.loop-k.invariant c.loop-k-test.true in let s = c.requires.holds.in_starts in omega arith
 
 pub bounds-starts-k : goal.bounds-starts-k
-bounds-starts-k c = let h = pair_in_lem c.loop-k.invariant c.loop-k-test.true in let s = c.requires.0.in_starts in omega arith
+bounds-starts-k c = let h = pair_in_lem c.loop-k.invariant c.loop-k-test.true in let s = c.requires.holds.in_starts in omega arith
 
 pub overflow_cast-from : goal.overflow_cast-from
 overflow_cast-from c = omega (arith, c.shared_slice_known-in-loop-k-1.given c.loop-k.k)
 
 pub offset_bounds-lengths-k : goal.offset_bounds-lengths-k
-offset_bounds-lengths-k c = let h = pair_in_lem c.loop-k.invariant c.loop-k-test.true in let s = c.requires.0.in_lengths in omega arith
+offset_bounds-lengths-k c = let h = pair_in_lem c.loop-k.invariant c.loop-k-test.true in let s = c.requires.holds.in_lengths in omega arith
 
 pub bounds-lengths-k : goal.bounds-lengths-k
-bounds-lengths-k c = let h = pair_in_lem c.loop-k.invariant c.loop-k-test.true in let s = c.requires.0.in_lengths in omega arith
+bounds-lengths-k c = let h = pair_in_lem c.loop-k.invariant c.loop-k-test.true in let s = c.requires.holds.in_lengths in omega arith
 
 pub overflow_cast-to : goal.overflow_cast-to
 overflow_cast-to c = omega (arith, c.shared_slice_known-in-loop-k-2-1.given c.loop-k.k)
@@ -27,13 +27,13 @@ pub overflow_add-to : goal.overflow_add-to
 overflow_add-to c = omega (arith, c.shared_slice_known-in-loop-k-1.given c.loop-k.k, c.shared_slice_known-in-loop-k-2-1.given c.loop-k.k)
 
 pub offset_bounds-cost-k : goal.offset_bounds-cost-k
-offset_bounds-cost-k c = let h = pair_in_lem c.loop-k.invariant c.loop-k-test.true in let s = c.requires.1 in omega arith
+offset_bounds-cost-k c = let h = pair_in_lem c.loop-k.invariant c.loop-k-test.true in let s = c.requires.value_in_bounds in omega arith
 
 pub bounds-cost-k : goal.bounds-cost-k
-bounds-cost-k c = let h = pair_in_lem c.loop-k.invariant c.loop-k-test.true in let s = c.requires.1 in omega arith
+bounds-cost-k c = let h = pair_in_lem c.loop-k.invariant c.loop-k-test.true in let s = c.requires.value_in_bounds in omega arith
 
 pub expected-requires : goal.expected-requires
-expected-requires c = pair_lies c.loop-k.invariant c.requires.0 c.loop-k-test.true
+expected-requires c = pair_lies c.loop-k.invariant c.requires.holds c.loop-k-test.true
 
 pub loop-k-smaller : goal.loop-k-smaller
 loop-k-smaller c = let h = pair_in_lem c.loop-k.invariant c.loop-k-test.true in omega arith

@@ -7,16 +7,16 @@ pub loop-k-init : goal.loop-k-init
 loop-k-init c = repeating_starts
 
 pub sweep-requires : goal.sweep-requires
-sweep-requires c = (still_held c.loop-k.invariant c.requires.0, let s = c.loop-k.invariant.size in let l = c.requires.1 in omega arith)
+sweep-requires c = record { holds = still_held c.loop-k.invariant c.requires.holds; value_in_bounds = let s = c.loop-k.invariant.size in let l = c.requires.value_in_bounds in omega arith }
 
 pub shape_of-value-then-sweep-tol : goal.shape_of-value-then-sweep-tol
-shape_of-value-then-sweep-tol c = c.sweep.auto.1.1.1.1.1.1.0 ∙ c.loop-k.invariant.size
+shape_of-value-then-sweep-tol c = c.sweep.auto.value ∙ c.loop-k.invariant.size
 
 pub returns-then-sweep-tol : goal.returns-then-sweep-tol
 returns-then-sweep-tol c = repeating_settles c.loop-k.invariant c.loop-k-test.true c.sweep.ensures c.if-sweep-tol.true
 
 pub loop-k-preserved : goal.loop-k-preserved
-loop-k-preserved c = repeating_on c.loop-k.invariant c.loop-k-test.true c.sweep.ensures c.sweep.auto.1.1.1.1.1.1.0 c.if-sweep-tol.false
+loop-k-preserved c = repeating_on c.loop-k.invariant c.loop-k-test.true c.sweep.ensures c.sweep.auto.value c.if-sweep-tol.false
 
 pub shape_of-value : goal.shape_of-value
 shape_of-value c = c.loop-k.invariant.size

@@ -10,24 +10,25 @@ slice_bounds-visits_in-end-then-held c = sym (length-take-le _ _ c.if-n-spent.tr
 pub visits_in-mass-requires : goal.visits_in-mass-requires
 visits_in-mass-requires c =
     let a = c.args in
-    visitable a.limit a.starts.now a.lengths.now a.places.now a.masses.now a.gamma a.spent-1.now a.n c.if-n-le4096.true c.if-n-spent.true c.held.ensures c.if-held.true
+    let (p1, p2) = visitable a.limit a.starts.now a.lengths.now a.places.now a.masses.now a.gamma a.spent.now a.n c.if-n-le4096.true c.if-n-spent.true c.held.ensures c.if-held.true in
+    record { holds = p1; spent_len_bound = p2 }
 
 pub returns-then-held : goal.returns-then-held
 returns-then-held c =
     let a = c.args in
-    occupies a.limit a.starts.now a.lengths.now a.places.now a.masses.now a.gamma a.spent-1.now a.n c.if-n-le4096.true c.if-n-spent.true c.held.ensures c.if-held.true c.visits_in-mass.ensures
+    occupies a.limit a.starts.now a.lengths.now a.places.now a.masses.now a.gamma a.spent.now a.n c.if-n-le4096.true c.if-n-spent.true c.held.ensures c.if-held.true c.visits_in-mass.ensures
 
 pub returns-else-held : goal.returns-else-held
 returns-else-held c =
     let a = c.args in
-    unreadable a.limit a.starts.now a.lengths.now a.places.now a.masses.now a.gamma a.spent-1.now a.n c.if-n-le4096.true c.if-n-spent.true c.held.ensures c.if-held.false
+    unreadable a.limit a.starts.now a.lengths.now a.places.now a.masses.now a.gamma a.spent.now a.n c.if-n-le4096.true c.if-n-spent.true c.held.ensures c.if-held.false
 
 pub returns-else-n-spent : goal.returns-else-n-spent
 returns-else-n-spent c =
     let a = c.args in
-    entries_few a.limit a.starts.now a.lengths.now a.places.now a.masses.now a.gamma a.spent-1.now a.n c.if-n-le4096.true c.if-n-spent.false
+    entries_few a.limit a.starts.now a.lengths.now a.places.now a.masses.now a.gamma a.spent.now a.n c.if-n-le4096.true c.if-n-spent.false
 
 pub returns-else-n-le4096 : goal.returns-else-n-le4096
 returns-else-n-le4096 c =
     let a = c.args in
-    pairs_many a.limit a.starts.now a.lengths.now a.places.now a.masses.now a.gamma a.spent-1.now a.n c.if-n-le4096.false
+    pairs_many a.limit a.starts.now a.lengths.now a.places.now a.masses.now a.gamma a.spent.now a.n c.if-n-le4096.false
