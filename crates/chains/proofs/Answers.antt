@@ -61,16 +61,16 @@ module _ (SL : Shape) (ML : Columns) (SR : Shape) (MR : Columns) (x y n : ℕ) (
 
   pub rate_is : n ≡ 0 → (p q u v : Float) → p ≡ greatest_exit (model SL ML) → q ≡ greatest_exit (model SR MR) → u ≡ larger p q → v ≡ or_one u → rateds.Rate v ≡ rated SL ML SR MR
   unfolding rated common_rate
-  rate_is h p q u v a b c e =
-      ap rateds.Rate (e ∙ ap or_one (c ∙ ap (λ (z : Float). larger z q) a ∙ ap (larger (greatest_exit (model SL ML))) b))
+  rate_is h p q u v a b d e =
+      ap rateds.Rate (e ∙ ap or_one (d ∙ ap (λ (z : Float). larger z q) a ∙ ap (larger (greatest_exit (model SL ML))) b))
       ∙ ap (λ (k : ℕ). rate_ends k (common_rate (model SL ML) (model SR MR))) (sym h ∙ number)
 
 -- ---- `uniformise`: what is refused
 
-pub split : (a b c c : Bool) (x : ℕ) → first (check 3 a (check 4 b (check 5 c (check 6 c 0)))) x ≡ check 3 a (check 4 b (check 5 c (check 6 c x)))
-split true b c c x = refl
-split false true c c x = refl
-split false false true c x = refl
+pub split : (a b c d : Bool) (x : ℕ) → first (check 3 a (check 4 b (check 5 c (check 6 d 0)))) x ≡ check 3 a (check 4 b (check 5 c (check 6 d x)))
+split true b c d x = refl
+split false true c d x = refl
+split false false true d x = refl
 split false false false true x = refl
 split false false false false x = refl
 
@@ -107,10 +107,10 @@ module _ (S : Shape) (M : Columns) (q : Float) (seen : List Float) (C : ChainCol
 
         module _ (c : rate_outside q ≡ false) where
           pub refused_12 : unfitting least_observation greatest_weight S.states seen ≡ true → 12 ≡ uniformise_refusal S M q seen C
-          refused_12 c = passed 12 (check_skip 7 _ _ _ a (check_skip 8 _ _ _ b (check_skip 11 _ _ _ c (check_hit 12 _ _ c))))
+          refused_12 d = passed 12 (check_skip 7 _ _ _ a (check_skip 8 _ _ _ b (check_skip 11 _ _ _ c (check_hit 12 _ _ d))))
 
           pub refused_none : unfitting least_observation greatest_weight S.states seen ≡ false → 0 ≡ uniformise_refusal S M q seen C
-          refused_none c = passed 0 (check_skip 7 _ _ _ a (check_skip 8 _ _ _ b (check_skip 11 _ _ _ c (check_skip 12 _ _ _ c refl))))
+          refused_none d = passed 0 (check_skip 7 _ _ _ a (check_skip 8 _ _ _ b (check_skip 11 _ _ _ c (check_skip 12 _ _ _ d refl))))
 
 -- ---- the chain laid in the lists
 

@@ -7,20 +7,20 @@ use Rattle.chains.proofs.chain.lay_chain.Goals as goal
 
 pub returns-then-model_refusal-ne0 : goal.returns-then-model_refusal-ne0
 returns-then-model_refusal-ne0 c =
-    lay_refused c.args.shape (given s) c.args.rate c.args.observations.now c.args.initial.0 (lent s) _ c.model_refusal.ensures c.if-model_refusal-ne0.true _ c.no_chain.ensures
+    lay_refused c.args.shape (columns c.args.label_values.now c.args.offsets.now c.args.edge_labels.now c.args.edge_targets.now c.args.edge_weights.now) c.args.rate c.args.observations.now c.args.initial.0 (chain_columns c.args.chain_offsets.now c.args.chain_targets.now c.args.chain_probs.now c.args.chain_seen.now) _ c.model_refusal.ensures c.if-model_refusal-ne0.true _ c.no_chain.ensures
 
 pub returns-then-cramped : goal.returns-then-cramped
 returns-then-cramped c =
-    lay_cramped c.args.shape (given s) c.args.rate c.args.observations.now c.args.initial.0 (lent s) _ c.model_refusal.ensures c.if-model_refusal-ne0.false (sym c.cramped.ensures ∙ c.if-cramped.true) _ c.no_chain-then-cramped.ensures
+    lay_cramped c.args.shape (columns c.args.label_values.now c.args.offsets.now c.args.edge_labels.now c.args.edge_targets.now c.args.edge_weights.now) c.args.rate c.args.observations.now c.args.initial.0 (chain_columns c.args.chain_offsets.now c.args.chain_targets.now c.args.chain_probs.now c.args.chain_seen.now) _ c.model_refusal.ensures c.if-model_refusal-ne0.false (sym c.cramped.ensures ∙ c.if-cramped.true) _ c.no_chain-then-cramped.ensures
 
 pub lay-requires : goal.lay-requires
 lay-requires c =
-    enough (ready c.args.shape (given s) c.args.observations.now (lent s) (sym c.model_refusal.ensures ∙ c.if-model_refusal-ne0.false) (sym c.cramped.ensures ∙ c.if-cramped.false))
+    let e = enough (ready c.args.shape (columns c.args.label_values.now c.args.offsets.now c.args.edge_labels.now c.args.edge_targets.now c.args.edge_weights.now) c.args.observations.now (chain_columns c.args.chain_offsets.now c.args.chain_targets.now c.args.chain_probs.now c.args.chain_seen.now) (sym c.model_refusal.ensures ∙ c.if-model_refusal-ne0.false) (sym c.cramped.ensures ∙ c.if-cramped.false)) in record { readable = e.0; states_in_bounds = e.1 }
 
 pub returns : goal.returns
 returns c =
     let S = c.args.shape in
-    let M = given s in
+    let M = columns c.args.label_values.now c.args.offsets.now c.args.edge_labels.now c.args.edge_targets.now c.args.edge_weights.now in
     let q = c.args.rate in
-    lay_made S M q c.args.observations.now c.args.initial.0 (lent s) _ c.model_refusal.ensures c.if-model_refusal-ne0.false (sym c.cramped.ensures ∙ c.if-cramped.false) _
-    (laid_is S M q c.args.observations.now (lent s) _ _ _ _ _ _ _ refl (c.lay.ensures.0 c.args.label_values.now c.args.edge_labels.now (made S M q) (made_length S M q) (made_at S M q)) c.lay.ensures.1)
+    lay_made S M q c.args.observations.now c.args.initial.0 (chain_columns c.args.chain_offsets.now c.args.chain_targets.now c.args.chain_probs.now c.args.chain_seen.now) _ c.model_refusal.ensures c.if-model_refusal-ne0.false (sym c.cramped.ensures ∙ c.if-cramped.false) _
+    (laid_is S M q c.args.observations.now (chain_columns c.args.chain_offsets.now c.args.chain_targets.now c.args.chain_probs.now c.args.chain_seen.now) _ _ _ _ _ _ _ refl (c.lay.ensures.by_index c.args.label_values.now c.args.edge_labels.now (made S M q) (made_length S M q) (made_at S M q)) c.lay.ensures.chain_seen_after)

@@ -6,16 +6,16 @@ use Rattle.chains.proofs.chain.uniformise.Goals as goal
 
 pub returns-then-refusal-ne0 : goal.returns-then-refusal-ne0
 returns-then-refusal-ne0 c =
-    answer_refused c.args.shape (given s) c.args.rate c.args.observations.now (lent s) _ c.uniformise_refusal-refusal.ensures c.if-refusal-ne0.true
+    answer_refused c.args.shape (columns c.args.label_values.now c.args.offsets.now c.args.edge_labels.now c.args.edge_targets.now c.args.edge_weights.now) c.args.rate c.args.observations.now (chain_columns c.args.chain_offsets.now c.args.chain_targets.now c.args.chain_probs.now c.args.chain_seen.now) _ c.uniformise_refusal-refusal.ensures c.if-refusal-ne0.true
 
 pub lay-chain-requires : goal.lay-chain-requires
 lay-chain-requires c =
-    enough (ready_to c.args.shape (given s) c.args.rate c.args.observations.now (lent s) _ c.uniformise_refusal-refusal.ensures c.if-refusal-ne0.false)
+    let e = enough (ready_to c.args.shape (columns c.args.label_values.now c.args.offsets.now c.args.edge_labels.now c.args.edge_targets.now c.args.edge_weights.now) c.args.rate c.args.observations.now (chain_columns c.args.chain_offsets.now c.args.chain_targets.now c.args.chain_probs.now c.args.chain_seen.now) _ c.uniformise_refusal-refusal.ensures c.if-refusal-ne0.false) in record { readable = e.0; states_in_bounds = e.1 }
 
 pub returns : goal.returns
 returns c =
     let S = c.args.shape in
-    let M = given s in
+    let M = columns c.args.label_values.now c.args.offsets.now c.args.edge_labels.now c.args.edge_targets.now c.args.edge_weights.now in
     let q = c.args.rate in
-    answer_made S M q c.args.observations.now (lent s) _ c.uniformise_refusal-refusal.ensures c.if-refusal-ne0.false _
-    (laid_is S M q c.args.observations.now (lent s) _ _ _ _ _ _ _ c.start.ensures (c.lay_chain.ensures.0 c.args.label_values.now c.args.edge_labels.now (made S M q) (made_length S M q) (made_at S M q)) c.lay_chain.ensures.1)
+    answer_made S M q c.args.observations.now (chain_columns c.args.chain_offsets.now c.args.chain_targets.now c.args.chain_probs.now c.args.chain_seen.now) _ c.uniformise_refusal-refusal.ensures c.if-refusal-ne0.false _
+    (laid_is S M q c.args.observations.now (chain_columns c.args.chain_offsets.now c.args.chain_targets.now c.args.chain_probs.now c.args.chain_seen.now) _ _ _ _ _ _ _ c.start.ensures (c.lay-chain.ensures.by_index c.args.label_values.now c.args.edge_labels.now (made S M q) (made_length S M q) (made_at S M q)) c.lay-chain.ensures.chain_seen_after)

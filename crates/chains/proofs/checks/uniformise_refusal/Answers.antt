@@ -11,33 +11,33 @@ outside x y e = ap not e
 
 pub returns-then-refusal-ne0 : goal.returns-then-refusal-ne0
 returns-then-refusal-ne0 c =
-    let s = m in
-    refused_model s.args.shape (given s) s.args.rate s.args.observations.now (lent s) _ c.model_refusal-refusal.ensures c.if-refusal-ne0.true
+    let s = c in
+    refused_model s.args.shape (columns c.args.label_values.now c.args.offsets.now c.args.edge_labels.now c.args.edge_targets.now c.args.edge_weights.now) s.args.rate s.args.observations.now (chain_columns c.args.chain_offsets.now c.args.chain_targets.now c.args.chain_probs.now c.args.chain_seen.now) _ c.model_refusal-refusal.ensures c.if-refusal-ne0.true
 
 pub returns-then-cramped : goal.returns-then-cramped
 returns-then-cramped c =
-    let s = m in
-    refused_7 s.args.shape (given s) s.args.rate s.args.observations.now (lent s) _ c.model_refusal-refusal.ensures c.if-refusal-ne0.false (sym c.cramped.ensures ∙ c.if-cramped.true)
+    let s = c in
+    refused_7 s.args.shape (columns c.args.label_values.now c.args.offsets.now c.args.edge_labels.now c.args.edge_targets.now c.args.edge_weights.now) s.args.rate s.args.observations.now (chain_columns c.args.chain_offsets.now c.args.chain_targets.now c.args.chain_probs.now c.args.chain_seen.now) _ c.model_refusal-refusal.ensures c.if-refusal-ne0.false (sym c.cramped.ensures ∙ c.if-cramped.true)
 
 pub returns-then-absent : goal.returns-then-absent
 returns-then-absent c =
-    let s = m in
-    refused_8 s.args.shape (given s) s.args.rate s.args.observations.now (lent s) _ c.model_refusal-refusal.ensures c.if-refusal-ne0.false (sym c.cramped.ensures ∙ c.if-cramped.false) (sym c.absent.ensures ∙ c.if-absent.true)
+    let s = c in
+    refused_8 s.args.shape (columns c.args.label_values.now c.args.offsets.now c.args.edge_labels.now c.args.edge_targets.now c.args.edge_weights.now) s.args.rate s.args.observations.now (chain_columns c.args.chain_offsets.now c.args.chain_targets.now c.args.chain_probs.now c.args.chain_seen.now) _ c.model_refusal-refusal.ensures c.if-refusal-ne0.false (sym c.cramped.ensures ∙ c.if-cramped.false) (sym c.absent.ensures ∙ c.if-absent.true)
 
 pub returns-then-not-within : goal.returns-then-not-within
 returns-then-not-within c =
-    let s = m in
-    refused_11 s.args.shape (given s) s.args.rate s.args.observations.now (lent s) _ c.model_refusal-refusal.ensures c.if-refusal-ne0.false (sym c.cramped.ensures ∙ c.if-cramped.false) (sym c.absent.ensures ∙ c.if-absent.false)
+    let s = c in
+    refused_11 s.args.shape (columns c.args.label_values.now c.args.offsets.now c.args.edge_labels.now c.args.edge_targets.now c.args.edge_weights.now) s.args.rate s.args.observations.now (chain_columns c.args.chain_offsets.now c.args.chain_targets.now c.args.chain_probs.now c.args.chain_seen.now) _ c.model_refusal-refusal.ensures c.if-refusal-ne0.false (sym c.cramped.ensures ∙ c.if-cramped.false) (sym c.absent.ensures ∙ c.if-absent.false)
     (outside _ _ (sym c.within.ensures) ∙ (ap not c.if-not-within.true))
 
 pub returns-then-not-all_within : goal.returns-then-not-all_within
 returns-then-not-all_within c =
-    let s = m in
-    refused_12 s.args.shape (given s) s.args.rate s.args.observations.now (lent s) _ c.model_refusal-refusal.ensures c.if-refusal-ne0.false (sym c.cramped.ensures ∙ c.if-cramped.false) (sym c.absent.ensures ∙ c.if-absent.false)
+    let s = c in
+    refused_12 s.args.shape (columns c.args.label_values.now c.args.offsets.now c.args.edge_labels.now c.args.edge_targets.now c.args.edge_weights.now) s.args.rate s.args.observations.now (chain_columns c.args.chain_offsets.now c.args.chain_targets.now c.args.chain_probs.now c.args.chain_seen.now) _ c.model_refusal-refusal.ensures c.if-refusal-ne0.false (sym c.cramped.ensures ∙ c.if-cramped.false) (sym c.absent.ensures ∙ c.if-absent.false)
     (outside _ _ (sym c.within.ensures) ∙ (ap not c.if-not-within.false)) (outside _ _ (sym c.all_within.ensures) ∙ (ap not c.if-not-all_within.true))
 
 pub returns : goal.returns
 returns c =
-    let s = m in
-    refused_none s.args.shape (given s) s.args.rate s.args.observations.now (lent s) _ c.model_refusal-refusal.ensures c.if-refusal-ne0.false (sym c.cramped.ensures ∙ c.if-cramped.false) (sym c.absent.ensures ∙ c.if-absent.false)
+    let s = c in
+    refused_none s.args.shape (columns c.args.label_values.now c.args.offsets.now c.args.edge_labels.now c.args.edge_targets.now c.args.edge_weights.now) s.args.rate s.args.observations.now (chain_columns c.args.chain_offsets.now c.args.chain_targets.now c.args.chain_probs.now c.args.chain_seen.now) _ c.model_refusal-refusal.ensures c.if-refusal-ne0.false (sym c.cramped.ensures ∙ c.if-cramped.false) (sym c.absent.ensures ∙ c.if-absent.false)
     (outside _ _ (sym c.within.ensures) ∙ (ap not c.if-not-within.false)) (outside _ _ (sym c.all_within.ensures) ∙ (ap not c.if-not-all_within.false))

@@ -1,5 +1,4 @@
 use mathlib.Core.Path.{◌≡◌, refl, sym, ap, ◌∙◌}
-use mathlib.Core.Logic.{⊎_elim}
 use mathlib.Core.List.{List}
 use Prim.Native.Nat.{◌+◌}
 use native.Mathlib.Omega.{arith}
@@ -8,6 +7,7 @@ use Rattle.bisim_core.specs.Data.{columns, Edge}
 use Rattle.chain_theory.specs.Chain.{exit_rate, leaving}
 use Rattle.chains.proofs.Exits.{Left, left_skip, left_add, left_end}
 use lib.Ieee.{Float, of_bits, binary64}
+use Rattle.chains.proofs.rates.exit_rate.Goals.{then-wide-s, else-wide-s}
 use Rattle.chains.proofs.rates.exit_rate.Goals as goal
 
 start : (l : List Float) → sum_from (of_bits binary64 0) l ≡ sum l
@@ -28,12 +28,12 @@ loop-i-preserved c =
     let e = c.wide.ensures in (
       omega arith,
       omega arith,
-      ⊎_elim
-          (λ w D O L. ap (λ (x : Float). sum_from x (Left (columns D O L a.edge_targets.now a.edge_weights.now) a.s (c.loop-i.i + 1) a.to)) w.2
-          ∙ left_add (columns D O L a.edge_targets.now a.edge_weights.now) a.s c.loop-i.i a.to c.loop-i.total h (λ q. w.0.taken (e ∙ q)) ∙ c.loop-i.invariant.2 D O L)
-          (λ w D O L. ap (λ (x : Float). sum_from x (Left (columns D O L a.edge_targets.now a.edge_weights.now) a.s (c.loop-i.i + 1) a.to)) w.1
-          ∙ left_skip (columns D O L a.edge_targets.now a.edge_weights.now) a.s c.loop-i.i a.to c.loop-i.total h (sym e ∙ w.0.left) ∙ c.loop-i.invariant.2 D O L)
-          c.if-wide-s.branch,
+      elim c.if-wide-s.branch [
+        | then-wide-s w ↦ λ D O L. ap (λ (x : Float). sum_from x (Left (columns D O L a.edge_targets.now a.edge_weights.now) a.s (c.loop-i.i + 1) a.to)) w.total-is
+            ∙ left_add (columns D O L a.edge_targets.now a.edge_weights.now) a.s c.loop-i.i a.to c.loop-i.total h (λ q. w.if-wide-s.true (e ∙ q)) ∙ c.loop-i.invariant.2 D O L
+        | else-wide-s w ↦ λ D O L. ap (λ (x : Float). sum_from x (Left (columns D O L a.edge_targets.now a.edge_weights.now) a.s (c.loop-i.i + 1) a.to)) w.total-is
+            ∙ left_skip (columns D O L a.edge_targets.now a.edge_weights.now) a.s c.loop-i.i a.to c.loop-i.total h (sym e ∙ w.if-wide-s.false) ∙ c.loop-i.invariant.2 D O L
+      ],
     )
 
 pub returns : goal.returns

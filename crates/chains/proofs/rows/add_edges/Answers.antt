@@ -1,7 +1,7 @@
 use mathlib.Core.Path.{sym, ◌∙◌}
-use mathlib.Core.Logic.{⊎_elim}
 use native.Mathlib.Omega.{arith}
 use Rattle.chains.proofs.Entries.{adding, turn_skip, turn_add, added}
+use Rattle.chains.proofs.rows.add_edges.Goals.{then-wide-s, else-wide-s}
 use Rattle.chains.proofs.rows.add_edges.Goals as goal
 
 pub loop-i-init : goal.loop-i-init
@@ -13,10 +13,10 @@ loop-i-preserved c =
     let I = c.loop-i.invariant in
     let e = c.wide.ensures in
     let p = c.requires in
-    ⊎_elim
-    (λ w. turn_add I h p.3 p.4 (λ q. w.0.taken (e ∙ q)) _ _ _ w.4.kept.0 w.4.kept.1.0 w.4.ensures.0 _ _ _ w.9 w.10 w.11)
-    (λ w. turn_skip I h (sym e ∙ w.0.left) _ _ _ w.1 w.2 w.3)
-    c.if-wide-s.branch
+    elim c.if-wide-s.branch [
+      | then-wide-s w ↦ turn_add I h p.3 p.4 (λ q. w.if-wide-s.true (e ∙ q)) _ _ _ w.add_rate-m.auto.targets w.add_rate-m.auto.rates w.add_rate-m.ensures.0 _ _ _ w.targets-is w.probs-is w.m-is
+      | else-wide-s w ↦ turn_skip I h (sym e ∙ w.if-wide-s.false) _ _ _ w.targets-is w.probs-is w.m-is
+    ]
 
 pub shape_of-targets : goal.shape_of-targets
 shape_of-targets c = c.loop-i.invariant.t_size
