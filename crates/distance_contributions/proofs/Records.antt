@@ -14,7 +14,7 @@ use Rattle.numbers.specs.Real.{nought}
 use Rattle.numbers.specs.Lists.{span, all}
 use Rattle.numbers.proofs.Bools.{and_t}
 use Rattle.numbers.proofs.Alls.{all_front, all_of}
-use Rattle.numbers.proofs.Refuses.{check_skip}
+use Rattle.numbers.proofs.Refuses.{check_hit, check_skip}
 use Rattle.numbers.proofs.Spans.{span_length}
 use Rattle.numbers.proofs.Over.{over, over_length, over_next, over_done}
 use Rattle.epsdelta_theory.proofs.Rows.{at_map_span}
@@ -273,6 +273,18 @@ listed_of_lem G o spent l r few asked long left right =
 
 pub row_accepted : (room count : ℕ) → 64 ≤ room → count ≤ 64 → row_refusal room count ≡ 0
 row_accepted room count h k = check_skip 7 (ltb room 64) _ 0 (le-ltb room 64 h) (check_skip 14 (ltb 64 count) 0 0 (le-ltb 64 count k) refl)
+
+module _ (rs cs : List PairContribution) (n : ℕ) where
+  pub row_short : length rs < 64 → stored 7 rs ≡ written cs n rs
+  row_short e = ap (λ (r : ℕ). stored_if r (take n cs) rs) (sym (check_hit 7 (ltb (length rs) 64) _ (lt-ltb (length rs) 64 e)))
+
+  pub row_crowded : 64 ≤ length rs → 64 < n → stored 14 rs ≡ written cs n rs
+  row_crowded h e = ap (λ (r : ℕ). stored_if r (take n cs) rs) (sym (check_skip 7 (ltb (length rs) 64) _ 14 (le-ltb (length rs) 64 h) (check_hit 14 (ltb 64 n) 0 (lt-ltb 64 n e))))
+
+  pub row_whole : 64 ≤ length rs → n ≤ 64 → length cs ≡ 64 → stored 0 (over cs n rs) ≡ written cs n rs
+  row_whole h k len =
+      ap (stored 0) (ap (λ (j : ℕ). take n cs ++ drop j rs) (sym (length-take-le n cs (omega arith))))
+      ∙ ap (λ (r : ℕ). stored_if r (take n cs) rs) (sym (row_accepted (length rs) n h k))
 
 -- what `contributions` lists goes over the front of a row
 pub listed_written : (cs rs : List PairContribution) → 64 ≤ length rs → length cs ≤ 64 → written (row cs) (length cs) rs ≡ stored 0 (cs ++ drop (length cs) rs)

@@ -63,7 +63,8 @@ pub records_of-records-requires : goal.records_of-records-requires
 records_of-records-requires c =
     let p = c.requires in
     let a = c.args in
-    records_read a.lefts.now a.rights.now a.left_seen.now a.right_seen.now a.spent.now a.n (few_pairs a.n a.lefts.now a.rights.now a.left_seen.now a.right_seen.now a.spent.now a.options.top p) c.weigh.ensures a.options (few_asked a.n a.lefts.now a.rights.now a.left_seen.now a.right_seen.now a.spent.now a.options.top p) (drop a.n (replicate 4096 nought)) c.rank-count.ensures (all_read a.n a.lefts.now a.rights.now a.left_seen.now a.right_seen.now a.spent.now a.options.top p) (drop a.options.top (replicate 64 0))
+    let (p1, p2) = records_read a.lefts.now a.rights.now a.left_seen.now a.right_seen.now a.spent.now a.n (few_pairs a.n a.lefts.now a.rights.now a.left_seen.now a.right_seen.now a.spent.now a.options.top p) c.weigh.ensures a.options (few_asked a.n a.lefts.now a.rights.now a.left_seen.now a.right_seen.now a.spent.now a.options.top p) (drop a.n (replicate 4096 nought)) c.rank-count.ensures (all_read a.n a.lefts.now a.rights.now a.left_seen.now a.right_seen.now a.spent.now a.options.top p) (drop a.options.top (replicate 64 0)) in
+    record { chosen_len_bound = p1; by_index = p2 }
 
 pub returns : goal.returns
 returns c =
