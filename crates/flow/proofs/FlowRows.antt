@@ -83,7 +83,7 @@ module _ (N : FlowNetwork) (whole : length N.links ≡ 2176) (places : length N.
   ready : Indexable H' nodes
   ready = let d = heads_size in let a = small in record { added = k; pairs = A.pairs; small = omega arith; heads_in = λ e h. head_in e (omega arith) }
 
-  cap_fits : (e : ℕ) → e < n → cap_fits (get_or c'' e nan) ≡ true
+  cap_fits_lem : (e : ℕ) → e < n → cap_fits (get_or c'' e nan) ≡ true
   unfolding left
   cap_fits_lem e h = let d = heads_size in let (a, b) = A.range e (omega arith) in in_range (get_or c'' e nan) a b
 

@@ -1,10 +1,11 @@
 -- What the first links are after they were laid from rows: heads and capacities as they stand there, costs 0 and its negation in turn.
-use mathlib.Core.Path.{◌≡◌, refl, sym, ap, ◌∙◌}
+use mathlib.Core.Path.{◌≡◌, refl, sym, ap, ap₂, ◌∙◌}
 use mathlib.Core.Logic.{◌⊎◌, inl, inr}
 use Prim.Native.Nat.{ℕ, zero, suc, ◌+◌, ◌≤◌, ◌<◌}
 use mathlib.Core.List.{List, map}
 use native.Mathlib.Omega.{arith}
 use native.Mathlib.Nat.{not-suc-le-zero}
+use native.Mathlib.Numerals.{add-one}
 use lib.ListN.{length, get_or, set, take, length-map, length-set}
 use lib.Seq.{length-take-le, get_or-take, get_or-set_same, get_or-set_other, ext_get_or}
 use lib.Ieee.{Float, nan, neg, of_bits}
@@ -12,8 +13,9 @@ use Rattle.numbers.specs.Real.{nought}
 use Rattle.numbers.proofs.Bools.{lt_or_ge}
 use Rattle.flow_theory.proofs.Lists.{at_map}
 use Rattle.flow.specs.declared.network.Link.{Link}
-use Rattle.flow.specs.Network.{heads_of, caps_of, costs_of}
-use Rattle.flow.specs.Filled.{cost_at, laid}
+use Rattle.flow.specs.declared.network.FlowNetwork.{FlowNetwork}
+use Rattle.flow.specs.Network.{heads_of, caps_of, costs_of, with_links}
+use Rattle.flow.specs.Filled.{cost_at, laid, stored}
 use Rattle.flow.proofs.Packing.{past_end}
 
 module _ (ls : List Link) (H : List ℕ) (c : List Float) where
@@ -57,6 +59,33 @@ module _ (ls : List Link) (H : List ℕ) (c : List Float) where
 
     pub cost_laid : (i : ℕ) → i < n → get_or (costs_of n (laid ls H c n)) i nan ≡ cost_at i
     cost_laid i h = at_laid (λ (l : Link). l.cost) i h
+
+-- the network and the next cost while links are laid in it
+abbrev pub LaidTo : FlowNetwork → List ℕ → List Float → FlowNetwork → Float → ℕ → ℕ → Type 0
+LaidTo N H c N' cost i n = (i ≤ n) × (N' ≡ with_links N (laid N.links H c i)) × (cost ≡ cost_at i)
+
+module _ (N : FlowNetwork) (H : List ℕ) (c : List Float) where
+  pub lay_begins : (n : ℕ) → LaidTo N H c N nought 0 n
+  unfolding cost_at laid
+  lay_begins n = (omega arith, refl, refl)
+
+  module _ {N' : FlowNetwork} {cost : Float} {i n : ℕ} (I : LaidTo N H c N' cost i n) where
+    pub lay_on : i < n → LaidTo N H c (with_links N' (set N'.links i (record { head = get_or H i 0; cap = get_or c i nan; cost = cost }))) (neg cost) (i + 1) n
+    unfolding cost_at laid
+    lay_on h = (
+      omega arith,
+      ap₂ (λ (M : FlowNetwork) (x : Float). with_links M (set M.links i (record { head = get_or H i 0; cap = get_or c i nan; cost = x }))) I.1 I.2 ∙ ap (λ (m : ℕ). with_links N (laid N.links H c m)) (sym (add-one i)),
+      ap neg I.2 ∙ ap cost_at (sym (add-one i)),
+    )
+
+    pub lay_length : length N'.links ≡ length N.links
+    lay_length = ap (λ (M : FlowNetwork). length M.links) I.1 ∙ laid_length N.links H c i
+
+    pub lay_ends : n ≤ i → (nodes : ℕ) → record { links = N'.links; count = n; nodes = nodes; starts = N'.starts; list = N'.list } ≡ stored N H c n nodes
+    lay_ends h nodes =
+        let u = I.0 in
+        let e : i ≡ n = omega arith in
+        ap (λ (M : FlowNetwork). record { links = M.links; count = n; nodes = nodes; starts = M.starts; list = M.list }) (I.1 ∙ ap (λ (m : ℕ). with_links N (laid N.links H c m)) e)
 
 -- the cost of an added link is 0, and that of its reverse the negation
 pub cost_added : (k : ℕ) → cost_at (k + k) ≡ nought

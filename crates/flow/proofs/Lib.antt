@@ -1,13 +1,8 @@
 pub mod Packing
 pub mod Refusals
 pub mod Grows
-pub mod Apart
-pub mod Local
 pub mod Running
-pub mod Literals
-pub mod Entering
 pub mod Accepted
 pub mod Filling
-pub mod Sharing
 pub mod Laid
 pub mod FlowRows

@@ -22,22 +22,22 @@ pub slice_bounds-heads-end-2 : goal.slice_bounds-heads-end-2
 slice_bounds-heads-end-2 c =
     let whole : length c.args.links ≡ 2176 = search rules in
     let few : c.args.net.count + 2 ≤ 2176 = let p = c.requires.0 in omega arith in
-    front_in c.args.links whole (c.args.net.count + 2) few c.unpack_heads.new.1.0 c.unpack_heads.ensures
+    front_in c.args.links whole (c.args.net.count + 2) few c.unpack_heads.new.heads c.unpack_heads.ensures
 
 pub slice_bounds-node_lists-end : goal.slice_bounds-node_lists-end
 slice_bounds-node_lists-end c =
     let whole : length c.args.links ≡ 2176 = search rules in
     let few : c.args.net.count + 2 ≤ 2176 = let p = c.requires.0 in omega arith in
-    sym (front_length c.args.links whole (c.args.net.count + 2) few c.unpack_heads.new.1.0 c.unpack_heads.ensures)
+    sym (front_length c.args.links whole (c.args.net.count + 2) few c.unpack_heads.new.heads c.unpack_heads.ensures)
 
 pub returns : goal.returns
 returns c =
     let whole : length c.args.links ≡ 2176 = search rules in
     let few : c.args.net.count + 2 ≤ 2176 = let p = c.requires.0 in omega arith in
-    let places : c.args.net.nodes < length c.args.net.starts-1 = let p = c.requires.1 in
-        let q : length c.args.net.starts-1 ≡ 67 = search rules in
-        omega arith in
-    let room : length (heads_of (c.args.net.count + 2) c.args.links) ≤ length c.args.net.list-1 = let p = c.requires.2.small in
-        let q : length c.args.net.list-1 ≡ 2176 = search rules in
-        omega arith in
-    grows c.args.net c.args.links c.requires.1 c.requires.2 places room _ (front_is c.args.links whole (c.args.net.count + 2) few c.unpack_heads.new.1.0 c.unpack_heads.ensures) _ _ _ c.node_lists.ensures
+    let places : c.args.net.nodes < length c.args.net.starts = let p = c.requires.1 in
+    let q : length c.args.net.starts ≡ 67 = search rules in
+    omega arith in
+    let room : length (heads_of (c.args.net.count + 2) c.args.links) ≤ length c.args.net.list = let p = c.requires.2.small in
+    let q : length c.args.net.list ≡ 2176 = search rules in
+    omega arith in
+    grows c.args.net c.args.links c.requires.1 c.requires.2 places room _ (front_is c.args.links whole (c.args.net.count + 2) few c.unpack_heads.new.heads c.unpack_heads.ensures) _ _ _ (c.node_lists.ensures.value, (c.node_lists.ensures.new_starts_after, c.node_lists.ensures.new_list_after))

@@ -28,4 +28,4 @@ pub returns : goal.returns
 returns c =
     let N = c.args.net in
     c.fits_in.ensures
-    ∙ ap (λ (k : ℕ). network_fits (heads_of k N.links-1) (caps_of k N.links-1) (costs_of k N.links-1) N.starts-1 N.list-1 N.nodes) (room_length {A = ℕ} N.count 0 c.requires)
+    ∙ ap (λ (k : ℕ). network_fits (heads_of k N.links) (caps_of k N.links) (costs_of k N.links) N.starts N.list N.nodes) (room_length {A = ℕ} N.count 0 c.requires)

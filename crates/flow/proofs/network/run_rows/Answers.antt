@@ -24,4 +24,4 @@ pub slice_bounds-max_flow_rows-end-4 : goal.slice_bounds-max_flow_rows-end-4
 slice_bounds-max_flow_rows-end-4 c = sym (length-take-le _ _ c.requires.2)
 
 pub returns : goal.returns
-returns c = (rw (front c.max_flow_rows.new.1.0 c.args.caps-1.now c.args.n c.caps-1.given.0 c.requires.1) c.max_flow_rows.ensures.0, behind c.max_flow_rows.new.1.0 c.args.caps-1.now c.args.n c.caps-1.given.0 c.requires.1)
+returns c = (rw (front c.max_flow_rows.new.caps c.args.caps.now c.args.n c.max_flow_rows.auto.caps c.requires.1) c.max_flow_rows.ensures.caps_after, behind c.max_flow_rows.new.caps c.args.caps.now c.args.n c.max_flow_rows.auto.caps c.requires.1)

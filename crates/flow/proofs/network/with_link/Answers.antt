@@ -1,4 +1,5 @@
 -- `network::with_link` meets its contract: room, the link, then the network; the new links can be listed (Grows.listed).
+use borrow.Author.Rules.{rules}
 use borrow.Author.Tests.{le-leb, lt-leb}
 use mathlib.Core.Path.{◌≡◌, sym, ap, ◌∙◌}
 use Prim.Native.Nat.{◌≤◌}
@@ -21,9 +22,9 @@ grow-grown-requires c =
     let N = c.args.net in
     let E = edge_fit c.args.net.nodes c.args.from c.args.to c.args.capacity c.args.cost (sym c.edge_fits.ensures ∙ c.if-edge_fits.true) in
     let P = net_fit N (sym c.net_fits.ensures ∙ c.if-net_fits.true) in
-    let whole : length N.links-1 ≡ 2176 = sym (length-map N.links-1 _) ∙ c.well-formed.0.1.1.0.1.0.1 in
+    let whole : length N.links ≡ 2176 = search rules in
     let few : N.count ≤ 2174 = c.if-count-le2174.true in
-    (few, P.sizes.few, listed N.links-1 N.count c.args.from c.args.to c.args.capacity c.args.cost (omega arith) N.nodes few (indexable (heads_of N.count N.links-1) (caps_of N.count N.links-1) (costs_of N.count N.links-1) N.nodes P.sizes P.links-1) E.from_in E.to_in)
+    (few, P.sizes.few, listed N.links N.count c.args.from c.args.to c.args.capacity c.args.cost (omega arith) N.nodes few (indexable (heads_of N.count N.links) (caps_of N.count N.links) (costs_of N.count N.links) N.nodes P.sizes P.links) E.from_in E.to_in)
 
 pub returns-then-net_fits : goal.returns-then-net_fits
 returns-then-net_fits c = rw (le-leb _ _ c.if-count-le2174.true, sym c.edge_fits.ensures ∙ c.if-edge_fits.true, sym c.net_fits.ensures ∙ c.if-net_fits.true) (ap (λ (M : FlowNetwork). leaves 0 M) c.grow-grown.ensures)

@@ -1,4 +1,5 @@
 -- `rows::list_rows` meets its contract, test by test (Filling).
+use borrow.Author.Rules.{rules}
 use mathlib.Core.Path.{refl, sym, ◌∙◌}
 use native.Mathlib.Omega.{arith}
 use lib.Seq.{length-take-le}
@@ -10,9 +11,9 @@ slice_bounds-node_lists-end c = sym (length-take-le _ _ c.if-n-heads.true)
 
 pub returns-then-n-costs : goal.returns-then-n-costs
 returns-then-n-costs c = (
-  c.node_lists.ensures.0 ∙ listed_fits c.args.heads.now c.args.caps c.args.costs c.args.n c.args.nodes c.if-n-heads.true c.if-n-caps.true c.if-n-costs.true c.args.starts.now c.args.list.now (omega (arith, c.node_lists-arg-then-n-costs-1.given.0)) (omega (arith, c.node-lists-arg3.given.0)),
-  c.node_lists.ensures.1.0,
-  c.node_lists.ensures.1.1,
+  c.node_lists.ensures.value ∙ listed_fits c.args.heads.now c.args.caps c.args.costs c.args.n c.args.nodes c.if-n-heads.true c.if-n-caps.true c.if-n-costs.true c.args.starts.now c.args.list.now (search rules) (search rules),
+  c.node_lists.ensures.new_starts_after,
+  c.node_lists.ensures.new_list_after,
 )
 
 pub returns-else-n-costs : goal.returns-else-n-costs
