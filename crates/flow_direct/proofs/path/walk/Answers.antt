@@ -28,14 +28,11 @@ offset_bounds-left_targets-i c = let (o, u, v) = walking_low c.loop-states.invar
 pub bounds-left_targets-i : goal.bounds-left_targets-i
 bounds-left_targets-i c = let (o, u, v) = walking_low c.loop-states.invariant.0 c.requires.7 in let a = c.loop-states.invariant.1 in let b = c.loop-states.invariant.2 in c.loop-states.invariant.0.placed.lefts c.loop-states.g (omega arith) u
 
-pub overflow_cast-base : goal.overflow_cast-base
-overflow_cast-base c = omega (arith, c.shared_slice_known-in-loop-states-1.given (get_or c.loop-states.by_left c.loop-states.g 0))
-
 pub overflow_mul-base : goal.overflow_mul-base
-overflow_mul-base c = let k = c.shared_slice_known-in-loop-states-1.given (get_or c.loop-states.by_left c.loop-states.g 0) in omega (arith, base_low (get_or c.args.left_targets.now (get_or c.loop-states.by_left c.loop-states.g 0) 0) c.args.states (omega arith) c.requires.0)
+overflow_mul-base c = let k = c.type_inv.left_targets (get_or c.loop-states.by_left c.loop-states.g 0) in omega (arith, base_low (get_or c.args.left_targets.now (get_or c.loop-states.by_left c.loop-states.g 0) 0) c.args.states (omega arith) c.requires.0)
 
 pub first_right-k-requires : goal.first_right-k-requires
-first_right-k-requires c = let k = c.shared_slice_known-in-loop-states-1.given (get_or c.loop-states.by_left c.loop-states.g 0) in (c.requires.4, base_low (get_or c.args.left_targets.now (get_or c.loop-states.by_left c.loop-states.g 0) 0) c.args.states (omega arith) c.requires.0)
+first_right-k-requires c = let k = c.type_inv.left_targets (get_or c.loop-states.by_left c.loop-states.g 0) in (c.requires.4, base_low (get_or c.args.left_targets.now (get_or c.loop-states.by_left c.loop-states.g 0) 0) c.args.states (omega arith) c.requires.0)
 
 pub returns-then-k-right_targets : goal.returns-then-k-right_targets
 returns-then-k-right_targets c = (stops_left c.loop-states.invariant.0 c.first_right-k.ensures c.if-k-right_targets.true, c.loop-states.invariant.1, c.loop-states.invariant.2)

@@ -15,7 +15,7 @@ returns-then-not-v c = (λ q. absurd (false≢true q), λ q. absurd (false≢tru
 
 pub returns-then-not-v-2 : goal.returns-then-not-v-2
 returns-then-not-v-2 c =
-    let h = sym (known_reaches c.args.left_targets.now c.args.left_rates.now c.args.right_targets.now c.args.right_rates.now c.args.states c.args.relation.now c.requires c.args.need c.reach-v.ensures (c.if-not-v.false)) ∙ c.if-not-v-2.true in
+    let h = sym (known_reaches c.args.left_targets.now c.args.left_rates.now c.args.right_targets.now c.args.right_rates.now c.args.states c.args.relation.now c.requires c.args.need c.reach-v.ensures (not-false _ c.if-not-v.false)) ∙ not-true _ c.if-not-v-2.true in
     (λ _. sym h ∙ and_first _ _ h, λ q. absurd (false≢true q), refl)
 
 pub reach-w-requires : goal.reach-w-requires
@@ -24,5 +24,5 @@ reach-w-requires c = let F = fit c.args.left_targets.now c.args.left_rates.now c
 pub returns : goal.returns
 returns c =
     let f = c.requires in
-    let h = sym (known_reaches c.args.left_targets.now c.args.left_rates.now c.args.right_targets.now c.args.right_rates.now c.args.states c.args.relation.now f c.args.need c.reach-v.ensures (c.if-not-v.false)) ∙ c.if-not-v-2.false in
+    let h = sym (known_reaches c.args.left_targets.now c.args.left_rates.now c.args.right_targets.now c.args.right_rates.now c.args.states c.args.relation.now f c.args.need c.reach-v.ensures (not-false _ c.if-not-v.false)) ∙ not-false _ c.if-not-v-2.false in
     (λ z. and_second _ _ _ h (known_reaches c.args.right_targets.now c.args.right_rates.now c.args.left_targets.now c.args.left_rates.now c.args.states c.args.relation.now (fits_back c.args.left_targets.now c.args.left_rates.now c.args.right_targets.now c.args.right_rates.now c.args.states f) c.args.need c.reach-w.ensures z), λ _. h, refl)

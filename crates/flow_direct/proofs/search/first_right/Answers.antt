@@ -21,11 +21,8 @@ offset_bounds-targets-j c = let i = c.loop-j.invariant.0 in let t = c.loop-j-tes
 pub bounds-targets-j : goal.bounds-targets-j
 bounds-targets-j c = let i = c.loop-j.invariant.0 in let t = c.loop-j-test.true in let p = c.requires in omega arith
 
-pub overflow_cast-targets : goal.overflow_cast-targets
-overflow_cast-targets c = omega (arith, c.shared_slice_known-in-loop-j-2-1.given (c.loop-j.j - 1))
-
 pub overflow_add-base : goal.overflow_add-base
-overflow_add-base c = let p = c.requires.1 in omega (arith, c.shared_slice_known-in-loop-j-2-1.given (c.loop-j.j - 1))
+overflow_add-base c = let p = c.requires.1 in omega (arith, c.type_inv.targets (c.loop-j.j - 1))
 
 pub loop-j-smaller : goal.loop-j-smaller
 loop-j-smaller c = let t = c.loop-j-test.true in omega arith

@@ -11,10 +11,10 @@ pub try_once-a-requires : goal.try_once-a-requires
 try_once-a-requires c = let I = c.loop-tries.invariant in (room_sized c.requires.0 I.sized, (let a = I.size_l in let b = c.requires.1 in omega arith), (let a = I.size_r in let b = c.requires.2 in omega arith), I.some, I.few)
 
 pub returns-then-not-a : goal.returns-then-not-a
-returns-then-not-a c = c.try_once-a.ensures.ends (c.if-not-a.true) c.loop-tries.invariant
+returns-then-not-a c = c.try_once-a.ensures.ends (not-true _ c.if-not-a.true) c.loop-tries.invariant
 
 pub loop-tries-preserved : goal.loop-tries-preserved
-loop-tries-preserved c = c.try_once-a.ensures.keeps (c.if-not-a.false) c.loop-tries.invariant
+loop-tries-preserved c = c.try_once-a.ensures.keeps (not-false _ c.if-not-a.false) c.loop-tries.invariant
 
 pub returns : goal.returns
 returns c = settled_unknown _ _ _ _ _ _ _ _ _ _ _
