@@ -61,9 +61,9 @@ give-x-requires c = let R = room_sized c.requires.0 c.loop-k.invariant.0.sized i
 pub loop-k-preserved : goal.loop-k-preserved
 loop-k-preserved c =
     elim c.if-remains.branch [
-      then-remains+then-bit w ↦ given_on c.loop-k.invariant.1 (shut_on c.loop-k.invariant.2 c.loop-k.invariant.1 _) (giving_push c.loop-k.invariant.0 c.requires.1 c.loop-k-test.true (sym c.remains.ensures ∙ c.if-not-remains.false) (sym c.remains-in-loop-k.ensures ∙ w.if-remains.true) (sym w.bit.ensures ∙ w.if-bit.true) w.give-x.ensures.0 refl refl refl) (w.lefts-is ∙ w.give-x.ensures.1) (w.rights-is ∙ w.give-x.ensures.2) (w.flows-is ∙ w.give-x.ensures.3) w.total-is
-    | then-remains+else-bit w ↦ given_on c.loop-k.invariant.1 c.loop-k.invariant.2 (giving_apart c.loop-k.invariant.0 (sym w.bit.ensures ∙ w.if-bit.false)) w.lefts-is w.rights-is w.flows-is w.total-is
-    | else-remains w ↦ given_on c.loop-k.invariant.1 c.loop-k.invariant.2 (giving_full c.loop-k.invariant.0 (sym c.remains-in-loop-k.ensures ∙ w.if-remains.false)) w.lefts-is w.rights-is w.flows-is w.total-is
+      | then-remains+then-bit w ↦ given_on c.loop-k.invariant.1 (shut_on c.loop-k.invariant.2 c.loop-k.invariant.1 _) (giving_push c.loop-k.invariant.0 c.requires.1 c.loop-k-test.true (sym c.remains.ensures ∙ c.if-not-remains.false) (sym c.remains-in-loop-k.ensures ∙ w.if-remains.true) (sym w.bit.ensures ∙ w.if-bit.true) w.give-x.ensures.0 refl refl refl) (w.lefts-is ∙ w.give-x.ensures.1) (w.rights-is ∙ w.give-x.ensures.2) (w.flows-is ∙ w.give-x.ensures.3) w.total-is
+      | then-remains+else-bit w ↦ given_on c.loop-k.invariant.1 c.loop-k.invariant.2 (giving_apart c.loop-k.invariant.0 (sym w.bit.ensures ∙ w.if-bit.false)) w.lefts-is w.rights-is w.flows-is w.total-is
+      | else-remains w ↦ given_on c.loop-k.invariant.1 c.loop-k.invariant.2 (giving_full c.loop-k.invariant.0 (sym c.remains-in-loop-k.ensures ∙ w.if-remains.false)) w.lefts-is w.rights-is w.flows-is w.total-is
     ]
 
 pub shape_of-lefts : goal.shape_of-lefts

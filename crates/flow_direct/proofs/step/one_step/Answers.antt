@@ -46,6 +46,6 @@ bounds-right_labels-k c = let W = stopped_right c.walk-stop.ensures.0 c.if-stop-
 
 pub returns : goal.returns
 returns c = let W = stopped_right c.walk-stop.ensures.0 c.if-stop-eq-LEFT.false in steps_right W.0 (λ e. elim c.if-stop-ne-RIGHT.branch [
-      then-stop-ne-RIGHT+else-remains w ↦ sym w.remains.ensures ∙ w.if-remains.false
-    | else-stop-ne-RIGHT w ↦ let (Q, lo, none) = c.walk-stop.ensures.0.right w.if-stop-ne-RIGHT.false in absurd (omega arith)
-    ]) W.1 c.requires.2 refl _
+  | then-stop-ne-RIGHT+else-remains w ↦ sym w.remains.ensures ∙ w.if-remains.false
+  | else-stop-ne-RIGHT w ↦ let (Q, lo, none) = c.walk-stop.ensures.0.right w.if-stop-ne-RIGHT.false in absurd (omega arith)
+]) W.1 c.requires.2 refl _

@@ -14,7 +14,7 @@ pub loop-j-init : goal.loop-j-init
 loop-j-init c = adding_start c.args.heads.now c.args.caps.now c.args.at (ap (λ (k : ℕ). cross_row c.args.relation.now c.args.base c.args.node k c.args.targets.now) (add-zero c.args.first))
 
 pub overflow_add-base : goal.overflow_add-base
-overflow_add-base c = let p = c.requires.base_bound in record { fits = omega (arith, c.shared_slice_known-in-loop-j-1.given c.loop-j.j) }
+overflow_add-base c = let p = c.requires.base_bound in record { fits = omega (arith, c.type_inv.targets c.loop-j.j) }
 
 pub put_if-e-requires : goal.put_if-e-requires
 put_if-e-requires c =

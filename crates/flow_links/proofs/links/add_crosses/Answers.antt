@@ -12,12 +12,12 @@ loop-i-init c = adding_start c.args.heads.now c.args.caps.now c.args.at refl
 
 pub overflow_mul-u : goal.overflow_mul-u
 overflow_mul-u c =
-    let base : get_or c.args.left.now c.loop-i.i 0 * c.args.states ≤ 8589934590000 = base_low (get_or c.args.left.now c.loop-i.i 0) c.args.states (omega (arith, c.shared_slice_known-in-loop-i-1.given c.loop-i.i)) c.requires.right_len_bound.1 in
+    let base : get_or c.args.left.now c.loop-i.i 0 * c.args.states ≤ 8589934590000 = base_low (get_or c.args.left.now c.loop-i.i 0) c.args.states (omega (arith, c.type_inv.left c.loop-i.i)) c.requires.right_len_bound.1 in
     let l = base in record { fits = omega arith }
 
 pub add_cross-e-requires : goal.add_cross-e-requires
 add_cross-e-requires c =
-    let base : get_or c.args.left.now c.loop-i.i 0 * c.args.states ≤ 8589934590000 = base_low (get_or c.args.left.now c.loop-i.i 0) c.args.states (omega (arith, c.shared_slice_known-in-loop-i-1.given c.loop-i.i)) c.requires.right_len_bound.1 in
+    let base : get_or c.args.left.now c.loop-i.i 0 * c.args.states ≤ 8589934590000 = base_low (get_or c.args.left.now c.loop-i.i 0) c.args.states (omega (arith, c.type_inv.left c.loop-i.i)) c.requires.right_len_bound.1 in
     let h = c.loop-i-test.true in
     let p = c.requires.right_len_bound.0 in
     record { targets_bound = (omega arith, omega arith); base_bound = base; free = free_next (cross_row c.args.relation.now (get_or c.args.left.now c.loop-i.i 0 * c.args.states) c.loop-i.i (length c.args.left.now) c.args.right.now) (cross_rows c.args.relation.now c.args.states (c.loop-i.i + 1) (length c.args.left.now) (drop (c.loop-i.i + 1) c.args.left.now) c.args.right.now) (crosses_next c.args.relation.now c.args.states (length c.args.left.now) c.loop-i.i c.args.left.now c.args.right.now c.loop-i-test.true) c.requires.free c.loop-i.invariant }
