@@ -19,14 +19,14 @@ pub overflow_mul-lo : goal.overflow_mul-lo
 overflow_mul-lo c =
     let I = c.loop-n.invariant in
     let m = some (c.loop-n.n - c.loop-n.n / 2) _ c.below.ensures.1 in
-    let g = c.well-formed.0 in
+    let g = c.well_formed.0 in
     record { fits = omega arith }
 
 pub overflow_add-lo-in-loop-n : goal.overflow_add-lo-in-loop-n
 overflow_add-lo-in-loop-n c =
     let I = c.loop-n.invariant in
     let m = some (c.loop-n.n - c.loop-n.n / 2) _ c.below.ensures.1 in
-    let g = c.well-formed.0 in
+    let g = c.well_formed.0 in
     record { fits = omega arith }
 
 pub loop-n-preserved : goal.loop-n-preserved
