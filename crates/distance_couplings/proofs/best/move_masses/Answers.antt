@@ -7,7 +7,7 @@ use Rattle.distance_couplings.proofs.Moves.{no_refusal, in_rows, has_room_lem, m
 use Rattle.distance_couplings.proofs.best.move_masses.Goals as goal
 
 pub lay_planned-requires : goal.lay_planned-requires
-lay_planned-requires c = record { codes_len_bound = has_room_lem c.requires (replicate 1024 0) (replicate 1024 0) c.args.masses.now (length-replicate {A = ℕ} 1024 0) (length-replicate {A = ℕ} 1024 0) refl c.transport_sized-moved.ensures _ _ c.moved-1.given.1; by_index = in_rows c.requires (replicate 1024 0) (replicate 1024 0) c.args.masses.now (length-replicate {A = ℕ} 1024 0) (length-replicate {A = ℕ} 1024 0) refl c.transport_sized-moved.ensures _ _ c.moved-1.given.1 }
+lay_planned-requires c = record { codes_len_bound = has_room_lem c.requires (replicate 1024 0) (replicate 1024 0) c.args.masses.now (length-replicate {A = ℕ} 1024 0) (length-replicate {A = ℕ} 1024 0) refl c.transport_sized-moved.ensures _ _ c.in-Plan.is; by_index = in_rows c.requires (replicate 1024 0) (replicate 1024 0) c.args.masses.now (length-replicate {A = ℕ} 1024 0) (length-replicate {A = ℕ} 1024 0) refl c.transport_sized-moved.ensures _ _ c.in-Plan.is }
 
 pub returns-in-Plan : goal.returns-in-Plan
 returns-in-Plan c = moved_end c.requires (replicate 1024 0) (replicate 1024 0) c.args.masses.now (length-replicate {A = ℕ} 1024 0) (length-replicate {A = ℕ} 1024 0) refl c.transport_sized-moved.ensures _ _ c.in-Plan.is (look_up c.args.codes.now) _ c.args.places.now c.lay_planned.ensures
