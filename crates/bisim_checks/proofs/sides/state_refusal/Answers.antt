@@ -19,14 +19,14 @@ stray : (n : ℕ) {k s : ℕ} → k ≡ s → leb n s ≡ leb n k
 stray n e = ap (leb n) (sym e)
 
 pub returns-then-refusal-eq3 : goal.returns-then-refusal-eq3
-returns-then-refusal-eq3 c = sym (check_hit 3 _ _ (eq-eqb _ _ c.if-refusal-eq3.true)) ∙ by c.args.shape (given s) (leb c.args.shape.states c.args.state.0) _ c.model_refusal-refusal.ensures
+returns-then-refusal-eq3 c = sym (check_hit 3 _ _ (eq-eqb _ _ c.if-refusal-eq3.true)) ∙ by c.args.shape (columns c.args.label_values.now c.args.offsets.now c.args.edge_labels.now c.args.edge_targets.now c.args.edge_weights.now) (leb c.args.shape.states c.args.state.0) _ c.model_refusal-refusal.ensures
 
 pub returns-then-shape-wide : goal.returns-then-shape-wide
 returns-then-shape-wide c =
     sym (check_skip 3 _ _ _ (ne_eqb _ _ c.if-refusal-eq3.false) (check_hit 4 _ _ (stray c.args.shape.states c.wide.ensures ∙ le-leb _ _ c.if-shape-wide.true)))
-    ∙ by c.args.shape (given s) (leb c.args.shape.states c.args.state.0) _ c.model_refusal-refusal.ensures
+    ∙ by c.args.shape (columns c.args.label_values.now c.args.offsets.now c.args.edge_labels.now c.args.edge_targets.now c.args.edge_weights.now) (leb c.args.shape.states c.args.state.0) _ c.model_refusal-refusal.ensures
 
 pub returns : goal.returns
 returns c =
     sym (check_skip 3 _ _ _ (ne_eqb _ _ c.if-refusal-eq3.false) (check_skip 4 _ _ _ (stray c.args.shape.states c.wide.ensures ∙ lt-leb _ _ c.if-shape-wide.false) refl))
-    ∙ by c.args.shape (given s) (leb c.args.shape.states c.args.state.0) _ c.model_refusal-refusal.ensures
+    ∙ by c.args.shape (columns c.args.label_values.now c.args.offsets.now c.args.edge_labels.now c.args.edge_targets.now c.args.edge_weights.now) (leb c.args.shape.states c.args.state.0) _ c.model_refusal-refusal.ensures
