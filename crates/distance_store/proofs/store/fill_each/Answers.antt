@@ -1,5 +1,4 @@
-use mathlib.Core.Bool.{not}
-use mathlib.Core.Path.{ap, ◌∙◌}
+use mathlib.Core.Path.{◌∙◌}
 use mathlib.Core.List.{[]}
 use native.Mathlib.Omega.{arith}
 use Rattle.parts.proofs.Lent.{back_length}
@@ -47,7 +46,7 @@ pub shape_of-masses-then-not-part : goal.shape_of-masses-then-not-part
 shape_of-masses-then-not-part c = back_length c.loop-k.at c.loop-k.masses c.lay_pair-part.new.masses c.loop-k.invariant.in_masses c.lay_pair-part.auto.masses ∙ c.loop-k.invariant.masses_size
 
 pub returns-then-not-part : goal.returns-then-not-part
-returns-then-not-part c = fills_stop c.args.lefts.now c.args.rights.now c.args.codes.now (chain_columns c.args.left_offsets.now c.args.left_targets.now c.args.left_probs.now []) (chain_columns c.args.right_offsets.now c.args.right_targets.now c.args.right_probs.now []) c.loop-k.invariant c.loop-k-test.true c.wide-x.result c.wide-y.result c.wide-x.ensures c.wide-y.ensures c.lay_pair-part.result.done c.lay_pair-part.result.cells _ _ c.lay_pair-part.ensures (ap not c.if-not-part.true)
+returns-then-not-part c = fills_stop c.args.lefts.now c.args.rights.now c.args.codes.now (chain_columns c.args.left_offsets.now c.args.left_targets.now c.args.left_probs.now []) (chain_columns c.args.right_offsets.now c.args.right_targets.now c.args.right_probs.now []) c.loop-k.invariant c.loop-k-test.true c.wide-x.result c.wide-y.result c.wide-x.ensures c.wide-y.ensures c.lay_pair-part.result.done c.lay_pair-part.result.cells _ _ c.lay_pair-part.ensures c.if-not-part.true
 
 pub overflow_cast-starts : goal.overflow_cast-starts
 overflow_cast-starts c = let h = c.loop-k-test.true in let p = c.requires.0 in let e = c.loop-k.invariant.few in omega arith
@@ -56,16 +55,16 @@ pub bounds-starts-k : goal.bounds-starts-k
 bounds-starts-k c = let h = c.loop-k-test.true in let p = c.requires.3 in let e = c.loop-k.invariant.starts_size in omega arith
 
 pub overflow_cast-lengths : goal.overflow_cast-lengths
-overflow_cast-lengths c = let q = cells_in c.args.lefts.now c.args.rights.now c.args.codes.now (chain_columns c.args.left_offsets.now c.args.left_targets.now c.args.left_probs.now []) (chain_columns c.args.right_offsets.now c.args.right_targets.now c.args.right_probs.now []) c.loop-k.invariant c.loop-k-test.true c.wide-x.result c.wide-y.result c.wide-x.ensures c.wide-y.ensures c.lay_pair-part.result.done c.lay_pair-part.result.cells _ _ c.lay_pair-part.ensures (ap not c.if-not-part.false) in let e = q.0 in omega arith
+overflow_cast-lengths c = let q = cells_in c.args.lefts.now c.args.rights.now c.args.codes.now (chain_columns c.args.left_offsets.now c.args.left_targets.now c.args.left_probs.now []) (chain_columns c.args.right_offsets.now c.args.right_targets.now c.args.right_probs.now []) c.loop-k.invariant c.loop-k-test.true c.wide-x.result c.wide-y.result c.wide-x.ensures c.wide-y.ensures c.lay_pair-part.result.done c.lay_pair-part.result.cells _ _ c.lay_pair-part.ensures c.if-not-part.false in let e = q.0 in omega arith
 
 pub bounds-lengths-k : goal.bounds-lengths-k
 bounds-lengths-k c = let h = c.loop-k-test.true in let p = c.requires.4 in let e = c.loop-k.invariant.lengths_size in omega arith
 
 pub overflow_add-at : goal.overflow_add-at
-overflow_add-at c = let q = cells_in c.args.lefts.now c.args.rights.now c.args.codes.now (chain_columns c.args.left_offsets.now c.args.left_targets.now c.args.left_probs.now []) (chain_columns c.args.right_offsets.now c.args.right_targets.now c.args.right_probs.now []) c.loop-k.invariant c.loop-k-test.true c.wide-x.result c.wide-y.result c.wide-x.ensures c.wide-y.ensures c.lay_pair-part.result.done c.lay_pair-part.result.cells _ _ c.lay_pair-part.ensures (ap not c.if-not-part.false) in let e = q.0 in let f = c.loop-k.invariant.few in let h = c.loop-k-test.true in let p = c.requires.0 in omega arith
+overflow_add-at c = let q = cells_in c.args.lefts.now c.args.rights.now c.args.codes.now (chain_columns c.args.left_offsets.now c.args.left_targets.now c.args.left_probs.now []) (chain_columns c.args.right_offsets.now c.args.right_targets.now c.args.right_probs.now []) c.loop-k.invariant c.loop-k-test.true c.wide-x.result c.wide-y.result c.wide-x.ensures c.wide-y.ensures c.lay_pair-part.result.done c.lay_pair-part.result.cells _ _ c.lay_pair-part.ensures c.if-not-part.false in let e = q.0 in let f = c.loop-k.invariant.few in let h = c.loop-k-test.true in let p = c.requires.0 in omega arith
 
 pub loop-k-preserved : goal.loop-k-preserved
-loop-k-preserved c = fills_next c.args.lefts.now c.args.rights.now c.args.codes.now (chain_columns c.args.left_offsets.now c.args.left_targets.now c.args.left_probs.now []) (chain_columns c.args.right_offsets.now c.args.right_targets.now c.args.right_probs.now []) c.loop-k.invariant c.loop-k-test.true c.wide-x.result c.wide-y.result c.wide-x.ensures c.wide-y.ensures c.lay_pair-part.result.done c.lay_pair-part.result.cells _ _ c.lay_pair-part.ensures (ap not c.if-not-part.false) c.lay_pair-part.auto.places c.lay_pair-part.auto.masses
+loop-k-preserved c = fills_next c.args.lefts.now c.args.rights.now c.args.codes.now (chain_columns c.args.left_offsets.now c.args.left_targets.now c.args.left_probs.now []) (chain_columns c.args.right_offsets.now c.args.right_targets.now c.args.right_probs.now []) c.loop-k.invariant c.loop-k-test.true c.wide-x.result c.wide-y.result c.wide-x.ensures c.wide-y.ensures c.lay_pair-part.result.done c.lay_pair-part.result.cells _ _ c.lay_pair-part.ensures c.if-not-part.false c.lay_pair-part.auto.places c.lay_pair-part.auto.masses
 
 pub shape_of-starts : goal.shape_of-starts
 shape_of-starts c = c.loop-k.invariant.starts_size
