@@ -7,28 +7,28 @@ use Rattle.distance_rounds.proofs.Iterates.{iterates_start, iterates_end, iterat
 use Rattle.distance_rounds.proofs.rounds.iterate.Goals as goal
 
 pub loop-rounds-init : goal.loop-rounds-init
-loop-rounds-init c = iterates_start (task c.args.n c.args.lefts.now c.args.rights.now c.args.codes.now (chain_columns c.args.left_offsets.now c.args.left_targets.now c.args.left_probs.now []) (chain_columns c.args.right_offsets.now c.args.right_targets.now c.args.right_probs.now []) c.args.cost.now c.args.gamma c.args.starts.now c.args.aim c.args.tol) c.args.max_rounds _ c.args.values-1.now c.args.lengths-1.now c.args.places-1.now c.args.masses-1.now c.infinity-residual.ensures
+loop-rounds-init c = iterates_start (task c.args.n c.args.lefts.now c.args.rights.now c.args.codes.now (chain_columns c.args.left_offsets.now c.args.left_targets.now c.args.left_probs.now []) (chain_columns c.args.right_offsets.now c.args.right_targets.now c.args.right_probs.now []) c.args.cost.now c.args.gamma c.args.starts.now c.args.aim c.args.tol) c.args.max_rounds _ c.args.values.now c.args.lengths.now c.args.places.now c.args.masses.now c.infinity-residual.ensures
 
 pub overflow_add-rounds : goal.overflow_add-rounds
 overflow_add-rounds c = let h = c.loop-rounds-test.true in let g = c.ranges.max_rounds in omega arith
 
 pub shape_of-lengths-then-ended : goal.shape_of-lengths-then-ended
-shape_of-lengths-then-ended c = c.improve-step.auto.1.1.1.1.1.1.1.1.1.1.1.1.1.1.0 ∙ c.loop-rounds.invariant.lengths_size
+shape_of-lengths-then-ended c = c.improve-step.auto.lengths ∙ c.loop-rounds.invariant.lengths_size
 
 pub shape_of-places-then-ended : goal.shape_of-places-then-ended
-shape_of-places-then-ended c = c.improve-step.auto.1.1.1.1.1.1.1.1.1.1.1.1.1.1.1.0 ∙ c.loop-rounds.invariant.places_size
+shape_of-places-then-ended c = c.improve-step.auto.places ∙ c.loop-rounds.invariant.places_size
 
 pub shape_of-masses-then-ended : goal.shape_of-masses-then-ended
-shape_of-masses-then-ended c = c.improve-step.auto.1.1.1.1.1.1.1.1.1.1.1.1.1.1.1.1.0 ∙ c.loop-rounds.invariant.masses_size
+shape_of-masses-then-ended c = c.improve-step.auto.masses ∙ c.loop-rounds.invariant.masses_size
 
 pub shape_of-values-then-ended : goal.shape_of-values-then-ended
-shape_of-values-then-ended c = c.evaluate.auto.1.1.1.1.1.1.1.1.0 ∙ c.loop-rounds.invariant.values_size
+shape_of-values-then-ended c = c.evaluate.auto.value ∙ c.loop-rounds.invariant.values_size
 
 pub returns-then-ended : goal.returns-then-ended
 returns-then-ended c = iterates_stop c.loop-rounds.invariant c.loop-rounds-test.true c.evaluate.ensures c.improve-step.ensures c.ended.ensures c.if-ended.true
 
 pub loop-rounds-preserved : goal.loop-rounds-preserved
-loop-rounds-preserved c = iterates_next c.loop-rounds.invariant c.loop-rounds-test.true c.evaluate.ensures c.improve-step.ensures c.ended.ensures c.if-ended.false c.evaluate.auto.1.1.1.1.1.1.1.1.0 c.improve-step.auto.1.1.1.1.1.1.1.1.1.1.1.1.1.1.0 c.improve-step.auto.1.1.1.1.1.1.1.1.1.1.1.1.1.1.1.0 c.improve-step.auto.1.1.1.1.1.1.1.1.1.1.1.1.1.1.1.1.0
+loop-rounds-preserved c = iterates_next c.loop-rounds.invariant c.loop-rounds-test.true c.evaluate.ensures c.improve-step.ensures c.ended.ensures c.if-ended.false c.evaluate.auto.value c.improve-step.auto.lengths c.improve-step.auto.places c.improve-step.auto.masses
 
 pub shape_of-lengths : goal.shape_of-lengths
 shape_of-lengths c = c.loop-rounds.invariant.lengths_size

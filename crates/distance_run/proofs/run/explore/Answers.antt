@@ -6,4 +6,4 @@ use Rattle.distance_run.proofs.run.explore.Goals as goal
 pub returns : goal.returns
 returns c = λ s t.
     let a = c.args in
-    explored_from a.left a.right (chain_columns a.left_offsets.now a.left_targets.now a.left_probs.now s) (chain_columns a.right_offsets.now a.right_targets.now a.right_probs.now t) a.lefts-1.now a.rights-1.now a.codes-1.now (c.discover_from.ensures s t)
+    explored_from a.left a.right (chain_columns a.left_offsets.now a.left_targets.now a.left_probs.now s) (chain_columns a.right_offsets.now a.right_targets.now a.right_probs.now t) a.lefts.now a.rights.now a.codes.now (c.discover_from.ensures s t)

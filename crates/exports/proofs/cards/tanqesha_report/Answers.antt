@@ -7,4 +7,4 @@ use Rattle.exports.proofs.cards.tanqesha_report.Goals as goal
 pub returns : goal.returns
 returns c =
     let x = c.args.written.now in
-    (c.put_text.ensures ∙ ap (λ (t : Text). of_text t x) c.report-answer.ensures.answers, c.report-answer.ensures.leaves)
+    record { written_after = c.put_text.ensures ∙ ap (λ (t : Text). of_text t x) c.report-answer.ensures.answers; out_after = c.report-answer.ensures.leaves }

@@ -6,7 +6,5 @@ use Rattle.exports.proofs.model_chains.tanqesha_common_rate.Goals as goal
 
 pub returns : goal.returns
 returns c =
-    let right = e in
-    let left = right in
-    let x = left.args.rate.now in
-    rw (c.put_rate.ensures, ← left.initial_of-left_initial.ensures, ← left.shape_from-left.ensures, ← right.initial_of-right_initial.ensures, ← right.shape_from-right.ensures) (ap (λ (a : Rated). of_rated a x) c.common_rate-answer.ensures)
+    let x = c.args.rate.now in
+    rw (c.put_rate.ensures, ← c.initial_of-left_initial.ensures, ← c.shape_from-left.ensures, ← c.initial_of-right_initial.ensures, ← c.shape_from-right.ensures) (ap (λ (a : Rated). of_rated a x) c.common_rate-answer.ensures)

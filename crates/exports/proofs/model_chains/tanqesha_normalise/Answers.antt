@@ -6,7 +6,5 @@ use Rattle.exports.proofs.model_chains.tanqesha_normalise.Goals as goal
 
 pub returns : goal.returns
 returns c =
-    let right = e in
-    let left = right in
-    let x = left.args.scale.now in
-    rw (c.put_scale.ensures, ← left.chain_of-left.ensures, ← right.chain_of-right.ensures) (ap (λ (o : Outcome). scaled o x) c.normalise-answer.ensures)
+    let x = c.args.scale.now in
+    rw (c.put_scale.ensures, ← c.chain_of-left.ensures, ← c.chain_of-right.ensures) (ap (λ (o : Outcome). scaled o x) c.normalise-answer.ensures)

@@ -6,6 +6,5 @@ use Rattle.exports.proofs.model_chains.tanqesha_uniformise.Goals as goal
 
 pub returns : goal.returns
 returns c =
-    let m = e in
-    let x = m.args.entries.now in
-    rw (c.put_chain.ensures, ← m.initial_of-initial.ensures, ← m.shape_from-shape.ensures) (ap (λ (o : Outcome). made o x) c.uniformise-answer.ensures)
+    let x = c.args.entries.now in
+    rw (c.put_chain.ensures, ← c.initial_of-initial.ensures, ← c.shape_from-shape.ensures) (ap (λ (o : Outcome). made o x) c.uniformise-answer.ensures)

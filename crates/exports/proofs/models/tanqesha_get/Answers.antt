@@ -8,4 +8,4 @@ use Rattle.exports.proofs.models.tanqesha_get.Goals as goal
 pub returns : goal.returns
 returns c =
     let a = c.args in
-    tells (λ (x : Found). of_found x a.present.now a.id.now) _ c.get-answer.result (Ids.get-answer a.labels.now a.count a.value) c.put_found.ensures c.get-answer.ensures
+    tells (λ (x : Found). of_found x a.present.now a.id.now) _ c.get-answer.result (Ids.get a.labels.now a.count a.value) c.put_found.ensures c.get-answer.ensures

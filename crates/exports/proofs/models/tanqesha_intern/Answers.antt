@@ -10,4 +10,4 @@ pub returns : goal.returns
 returns c =
     let a = c.args in
     let o = c.intern-answer.ensures in
-    (tells (λ (x : Interned). of_interned x a.id.now a.total.now) _ c.intern-answer.result (interning a.labels-1.now a.count a.value).answer c.put_interned.ensures (ap (λ (x : Outcome). x.answer) o), ap (λ (x : Outcome). x.labels-1) o)
+    record { total_after = tells (λ (x : Interned). of_interned x a.id.now a.total.now) _ c.intern-answer.result (interning a.labels.now a.count a.value).answer c.put_interned.ensures (ap (λ (x : Outcome). x.answer) o); labels_after = ap (λ (x : Outcome). x.labels) o }

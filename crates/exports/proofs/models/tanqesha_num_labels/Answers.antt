@@ -9,7 +9,6 @@ use Rattle.exports.proofs.models.tanqesha_num_labels.Goals as goal
 
 pub returns : goal.returns
 returns c =
-    let s = q in
-    let a = s.args in
+    let a = c.args in
     let M = columns a.label_values.now a.offsets.now a.edge_labels.now a.edge_targets.now a.edge_weights.now in
-    tells_of (λ (x : Counted). of_counted x a.count.now) (λ (x : Shape). num_labels x M) _ c.num_labels-answer.result s.shape_of-shape.result (shape a.states a.edges a.labels (initial a.present a.start)) c.put_counted.ensures c.num_labels-answer.ensures s.shape_of-shape.ensures
+    tells_of (λ (x : Counted). of_counted x a.count.now) (λ (x : Shape). num_labels x M) _ c.num_labels-answer.result c.shape_of-shape.result (shape a.states a.edges a.labels (initial a.present a.start)) c.put_counted.ensures c.num_labels-answer.ensures c.shape_of-shape.ensures

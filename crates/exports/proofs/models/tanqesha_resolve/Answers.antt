@@ -8,4 +8,4 @@ use Rattle.exports.proofs.models.tanqesha_resolve.Goals as goal
 pub returns : goal.returns
 returns c =
     let a = c.args in
-    tells (λ (x : Resolved). of_resolved x a.value.now) _ c.resolve-answer.result (Ids.resolve-answer a.labels.now a.count a.id) c.put_resolved.ensures c.resolve-answer.ensures
+    tells (λ (x : Resolved). of_resolved x a.value.now) _ c.resolve-answer.result (Ids.resolve a.labels.now a.count a.id) c.put_resolved.ensures c.resolve-answer.ensures

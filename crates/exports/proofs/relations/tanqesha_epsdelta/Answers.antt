@@ -11,17 +11,15 @@ use Rattle.exports.proofs.relations.tanqesha_epsdelta.Goals as goal
 
 pub returns : goal.returns
 returns c =
-    let right = e in
-    let left = right in
-    let a = left.args in
+    let a = c.args in
     let ML = columns a.left_label_values.now a.left_offsets.now a.left_edge_labels.now a.left_edge_targets.now a.left_edge_weights.now in
     let MR = columns a.right_label_values.now a.right_offsets.now a.right_edge_labels.now a.right_edge_targets.now a.right_edge_weights.now in
-    let bytes = c.epsdelta.new.1.1.1.1.1.1.1.1.1.1.1.1.1.1.1.1.0 in
+    let bytes = c.epsdelta.new.relation in
     tells_both
     answered
-    (λ (x y : Shape). outcome x ML y MR a.left_classes.now a.right_classes.now a.epsilon a.rho a.relation-1.now)
-    _ _ left.shape_from-left.result (shape a.left_states a.left_edges a.left_labels (initial a.left_present a.left_start)) right.shape_from-right.result (shape a.right_states a.right_edges a.right_labels (initial a.right_present a.right_start))
+    (λ (x y : Shape). outcome x ML y MR a.left_classes.now a.right_classes.now a.epsilon a.rho a.relation.now)
+    _ _ c.shape_from-left.result (shape a.left_states a.left_edges a.left_labels (initial a.left_present a.left_start)) c.shape_from-right.result (shape a.right_states a.right_edges a.right_labels (initial a.right_present a.right_start))
     (ap (λ (n : ℕ). leaves n bytes) c.number_of.ensures)
-    c.epsdelta.ensures.0
-    (tells (shape a.left_states a.left_edges a.left_labels) left.shape_from-left.result left.initial_of-left_initial.result (initial a.left_present a.left_start) left.shape_from-left.ensures left.initial_of-left_initial.ensures)
-    (tells (shape a.right_states a.right_edges a.right_labels) right.shape_from-right.result right.initial_of-right_initial.result (initial a.right_present a.right_start) right.shape_from-right.ensures right.initial_of-right_initial.ensures)
+    c.epsdelta.ensures.relation_after
+    (tells (shape a.left_states a.left_edges a.left_labels) c.shape_from-left.result c.initial_of-left_initial.result (initial a.left_present a.left_start) c.shape_from-left.ensures c.initial_of-left_initial.ensures)
+    (tells (shape a.right_states a.right_edges a.right_labels) c.shape_from-right.result c.initial_of-right_initial.result (initial a.right_present a.right_start) c.shape_from-right.ensures c.initial_of-right_initial.ensures)

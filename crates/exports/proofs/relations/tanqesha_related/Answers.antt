@@ -8,4 +8,4 @@ use Rattle.exports.proofs.relations.tanqesha_related.Goals as goal
 pub returns : goal.returns
 returns c =
     let a = c.args in
-    tells (λ (v : Verdict). of_verdict v a.related-answer.now) _ c.related-answer.result (related_outcome a.left_states a.right_states a.relation.now a.s a.t) c.put_verdict.ensures c.related-answer.ensures
+    tells (λ (v : Verdict). of_verdict v a.related.now) _ c.related-answer.result (related_outcome a.left_states a.right_states a.relation.now a.s a.t) c.put_verdict.ensures c.related-answer.ensures
