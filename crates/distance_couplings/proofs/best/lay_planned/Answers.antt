@@ -17,14 +17,8 @@ bounds-rows-i c = let h = c.loop-i-test.true in let r = c.requires.codes_len_bou
 pub bounds-columns-i : goal.bounds-columns-i
 bounds-columns-i c = let h = c.loop-i-test.true in let r = c.requires.codes_len_bound.2 in omega arith
 
-pub offset_bounds-xs-row : goal.offset_bounds-xs-row
-offset_bounds-xs-row c = let e = c.wide-row.ensures in let q = (c.requires.by_index c.loop-i.i c.loop-i-test.true).0 in let g = c.well_formed.0.1 in record { fits = omega arith }
-
 pub bounds-xs-row : goal.bounds-xs-row
 bounds-xs-row c = let e = c.wide-row.ensures in let q = (c.requires.by_index c.loop-i.i c.loop-i-test.true).0 in omega arith
-
-pub offset_bounds-ys-column : goal.offset_bounds-ys-column
-offset_bounds-ys-column c = let e = c.wide-column.ensures in let q = (c.requires.by_index c.loop-i.i c.loop-i-test.true).1 in let g = c.well_formed.1.0.1 in record { fits = omega arith }
 
 pub bounds-ys-column : goal.bounds-ys-column
 bounds-ys-column c = let e = c.wide-column.ensures in let q = (c.requires.by_index c.loop-i.i c.loop-i-test.true).1 in omega arith

@@ -10,9 +10,6 @@ use Rattle.transport.proofs.check.costs_fit.Goals as goal
 pub returns-then-lacks : goal.returns-then-lacks
 returns-then-lacks c = costs_whole c.args.m c.args.n c.args.costs.now (sym c.lacks.ensures ∙ c.if-lacks.true) _ c.values_fit.ensures
 
-pub overflow_mul-m : goal.overflow_mul-m
-overflow_mul-m c = let p = (product_in (length c.args.costs.now) c.args.m c.args.n (sym c.lacks.ensures ∙ c.if-lacks.false)) in record { fits = omega (arith, c.well_formed.1.1.0.0) }
-
 pub slice_bounds-values_fit-end : goal.slice_bounds-values_fit-end
 slice_bounds-values_fit-end c = sym (length-take-le (c.args.m * c.args.n) c.args.costs.now (product_in (length c.args.costs.now) c.args.m c.args.n (sym c.lacks.ensures ∙ c.if-lacks.false)))
 

@@ -35,7 +35,7 @@ pub bounds-heads-e : goal.bounds-heads-e
 bounds-heads-e c = back_in c.args.heads.now (length c.args.via.now) c.args.source c.args.sink c.requires c.loop-v.invariant c.loop-v-test.true
 
 pub overflow_cast-v : goal.overflow_cast-v
-overflow_cast-v c = omega (arith, c.shared_slice_known-in-loop-v-1.given (bit_xor (get_or c.args.via.now c.loop-v.v 0) 1))
+overflow_cast-v c = omega (arith, c.type_inv.heads (bit_xor (get_or c.args.via.now c.loop-v.v 0) 1))
 
 pub loop-v-smaller : goal.loop-v-smaller
 loop-v-smaller c = let l = c.if-via-length.false in omega arith

@@ -13,9 +13,6 @@ offset_bounds-starts-u c = omega (arith, node_low c.requires c.loop-u.invariant 
 pub bounds-starts-u : goal.bounds-starts-u
 bounds-starts-u c = omega (arith, node_low c.requires c.loop-u.invariant c.loop-u-test.true)
 
-pub overflow_cast-from : goal.overflow_cast-from
-overflow_cast-from c = let s = relaxable c.requires c.loop-u.invariant c.loop-u-test.true in record { fits = omega (arith, c.well_formed.1.1.1.1.0.0) }
-
 pub overflow_add-to : goal.overflow_add-to
 overflow_add-to c = omega (arith, node_low c.requires c.loop-u.invariant c.loop-u-test.true)
 
@@ -24,9 +21,6 @@ offset_bounds-starts-u-then-not-is_infinite c = omega (arith, node_low c.require
 
 pub bounds-starts-u-then-not-is_infinite : goal.bounds-starts-u-then-not-is_infinite
 bounds-starts-u-then-not-is_infinite c = omega (arith, node_low c.requires c.loop-u.invariant c.loop-u-test.true)
-
-pub overflow_cast-to : goal.overflow_cast-to
-overflow_cast-to c = let s = relaxable c.requires c.loop-u.invariant c.loop-u-test.true in record { fits = omega (arith, c.well_formed.1.1.1.1.0.0) }
 
 pub relax-changed-requires : goal.relax-changed-requires
 relax-changed-requires c = relaxable c.requires c.loop-u.invariant c.loop-u-test.true

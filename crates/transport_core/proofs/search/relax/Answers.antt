@@ -9,7 +9,7 @@ pub loop-j-init : goal.loop-j-init
 loop-j-init c = relax_starts c.requires
 
 pub overflow_cast-e : goal.overflow_cast-e
-overflow_cast-e c = omega (arith, c.shared_slice_known-1.given c.loop-j.j)
+overflow_cast-e c = omega (arith, c.type_inv.list c.loop-j.j)
 
 pub offset_bounds-heads-e : goal.offset_bounds-heads-e
 offset_bounds-heads-e c = omega (arith, e_in c.requires c.loop-j.invariant c.loop-j-test.true)
@@ -18,7 +18,7 @@ pub bounds-heads-e : goal.bounds-heads-e
 bounds-heads-e c = e_in c.requires c.loop-j.invariant c.loop-j-test.true
 
 pub overflow_cast-v : goal.overflow_cast-v
-overflow_cast-v c = omega (arith, c.shared_slice_known-in-loop-j-1.given (get_or c.args.list.now c.loop-j.j 0))
+overflow_cast-v c = omega (arith, c.type_inv.heads (get_or c.args.list.now c.loop-j.j 0))
 
 pub offset_bounds-caps-e : goal.offset_bounds-caps-e
 offset_bounds-caps-e c = omega (arith, e_in c.requires c.loop-j.invariant c.loop-j-test.true)
