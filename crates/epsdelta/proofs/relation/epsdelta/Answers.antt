@@ -15,4 +15,7 @@ returns c =
     let cl = a.left_classes.now in
     let cr = a.right_classes.now in
     let store = a.relation.now in
-    (plain SL ML SR MR cl cr a.epsilon a.rho store c.epsdelta_unless.ensures, λ e. epsdelta_sound SL ML SR MR cl cr a.epsilon a.rho (length store) e)
+    record {
+      relation_after = plain SL ML SR MR cl cr a.epsilon a.rho store c.epsdelta_unless.ensures;
+      sound = λ e. epsdelta_sound SL ML SR MR cl cr a.epsilon a.rho (length store) e;
+    }

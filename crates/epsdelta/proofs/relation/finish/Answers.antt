@@ -15,7 +15,7 @@ pub returns-then-refusal-ne0 : goal.returns-then-refusal-ne0
 returns-then-refusal-ne0 c =
     let a = c.args in
     let z = c.if-refusal-ne0.true in
-    λ J j. settled_refused a.refusal (first a.refusal (later_refusal a.settings.absent (tolerances_outside a.settings.epsilon a.settings.rho) a.left a.right (length a.left_classes.now) (length a.right_classes.now) (length a.relation.now))) a.relation.now (epsdelta (given_rows J (take a.left a.left_classes.now ++ take a.right a.right_classes.now) a.settings.epsilon a.settings.rho)).relation-1 (sym (first_hit a.refusal (later_refusal a.settings.absent (tolerances_outside a.settings.epsilon a.settings.rho) a.left a.right (length a.left_classes.now) (length a.right_classes.now) (length a.relation.now)) z)) z
+    λ J j. settled_refused a.refusal (first a.refusal (later_refusal a.settings.absent (tolerances_outside a.settings.epsilon a.settings.rho) a.left a.right (length a.left_classes.now) (length a.right_classes.now) (length a.relation.now))) a.relation.now (epsdelta (given_rows J (take a.left a.left_classes.now ++ take a.right a.right_classes.now) a.settings.epsilon a.settings.rho)).relation (sym (first_hit a.refusal (later_refusal a.settings.absent (tolerances_outside a.settings.epsilon a.settings.rho) a.left a.right (length a.left_classes.now) (length a.right_classes.now) (length a.relation.now)) z)) z
 
 pub later-last-requires : goal.later-last-requires
 later-last-requires c = let p = c.requires c.if-refusal-ne0.false in (p.0, p.1)
@@ -23,7 +23,7 @@ later-last-requires c = let p = c.requires c.if-refusal-ne0.false in (p.0, p.1)
 pub returns-then-last-ne0 : goal.returns-then-last-ne0
 returns-then-last-ne0 c =
     let a = c.args in
-    λ J j. settled_refused c.later-last.result (first a.refusal (later_refusal a.settings.absent (tolerances_outside a.settings.epsilon a.settings.rho) a.left a.right (length a.left_classes.now) (length a.right_classes.now) (length a.relation.now))) a.relation.now (epsdelta (given_rows J (take a.left a.left_classes.now ++ take a.right a.right_classes.now) a.settings.epsilon a.settings.rho)).relation-1 (c.later-last.ensures ∙ sym (first_skip a.refusal (later_refusal a.settings.absent (tolerances_outside a.settings.epsilon a.settings.rho) a.left a.right (length a.left_classes.now) (length a.right_classes.now) (length a.relation.now)) (later_refusal a.settings.absent (tolerances_outside a.settings.epsilon a.settings.rho) a.left a.right (length a.left_classes.now) (length a.right_classes.now) (length a.relation.now)) c.if-refusal-ne0.false refl)) c.if-last-ne0.true
+    λ J j. settled_refused c.later-last.result (first a.refusal (later_refusal a.settings.absent (tolerances_outside a.settings.epsilon a.settings.rho) a.left a.right (length a.left_classes.now) (length a.right_classes.now) (length a.relation.now))) a.relation.now (epsdelta (given_rows J (take a.left a.left_classes.now ++ take a.right a.right_classes.now) a.settings.epsilon a.settings.rho)).relation (c.later-last.ensures ∙ sym (first_skip a.refusal (later_refusal a.settings.absent (tolerances_outside a.settings.epsilon a.settings.rho) a.left a.right (length a.left_classes.now) (length a.right_classes.now) (length a.relation.now)) (later_refusal a.settings.absent (tolerances_outside a.settings.epsilon a.settings.rho) a.left a.right (length a.left_classes.now) (length a.right_classes.now) (length a.relation.now)) c.if-refusal-ne0.false refl)) c.if-last-ne0.true
 
 pub put_classes-requires : goal.put_classes-requires
 put_classes-requires c =

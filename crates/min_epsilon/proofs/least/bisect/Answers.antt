@@ -40,7 +40,7 @@ holds-requires c =
     let cl = a.left_classes.now in
     let cr = a.right_classes.now in
     let l = c.loop-hi in
-    allowed SL ML SR MR cl cr a.rho _ l.relation-1 a.relation.now c.requires.1 (zero_length l.relation-1 a.relation.now l.invariant.0)
+    allowed SL ML SR MR cl cr a.rho _ l.relation a.relation.now c.requires.1 (zero_length l.relation a.relation.now l.invariant.0)
     (going_valid (alike_at SL ML SR MR cl cr a.rho) l.lo l.hi _ c.loop-hi-test.true refl l.invariant.1)
 
 -- src/least.rt:104:5
@@ -68,7 +68,7 @@ loop-hi-preserved-then-holds c =
     let cr = a.right_classes.now in
     let l = c.loop-hi in
     let r = c.holds in
-    (zero_again r.new.1.1.1.1.1.1.1.1.1.1.1.1.1.1.1.1.0 l.relation-1 a.relation.now l.invariant.0 r.ensures.1, going_lower (alike_at SL ML SR MR cl cr a.rho) l.lo l.hi _ c.loop-hi-test.true refl l.invariant.1 r.result r.ensures.0 c.if-holds.true)
+    (zero_again r.new.1.1.1.1.1.1.1.1.1.1.1.1.1.1.1.1.0 l.relation a.relation.now l.invariant.0 r.ensures.1, going_lower (alike_at SL ML SR MR cl cr a.rho) l.lo l.hi _ c.loop-hi-test.true refl l.invariant.1 r.result r.ensures.0 c.if-holds.true)
 
 -- src/least.rt:104:5
 pub loop-hi-smaller : goal.loop-hi-smaller
@@ -95,14 +95,14 @@ loop-hi-preserved c =
     let cr = a.right_classes.now in
     let l = c.loop-hi in
     let r = c.holds in
-    (zero_again r.new.1.1.1.1.1.1.1.1.1.1.1.1.1.1.1.1.0 l.relation-1 a.relation.now l.invariant.0 r.ensures.1, going_upper (alike_at SL ML SR MR cl cr a.rho) l.lo l.hi _ c.loop-hi-test.true refl l.invariant.1 r.result r.ensures.0 c.if-holds.false)
+    (zero_again r.new.1.1.1.1.1.1.1.1.1.1.1.1.1.1.1.1.0 l.relation a.relation.now l.invariant.0 r.ensures.1, going_upper (alike_at SL ML SR MR cl cr a.rho) l.lo l.hi _ c.loop-hi-test.true refl l.invariant.1 r.result r.ensures.0 c.if-holds.false)
 
 -- src/least.rt:77:1
 pub shape_of-relation : goal.shape_of-relation
 shape_of-relation c =
     let a = c.args in
     let l = c.loop-hi in
-    zero_length l.relation-1 a.relation.now l.invariant.0
+    zero_length l.relation a.relation.now l.invariant.0
 
 -- src/least.rt:77:1
 pub returns : goal.returns
