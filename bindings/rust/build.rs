@@ -19,7 +19,7 @@ fn main() {
     println!("cargo:rerun-if-changed={}", archive.display());
     if !archive.exists() {
         println!(
-            "cargo:warning={} is missing: rt staticlib {LIBRARY}",
+            "cargo:warning={} is missing: oracle/library makes it",
             archive.display()
         );
     }

@@ -22,7 +22,7 @@
 //! Every call can be made from several threads at once: nothing is kept between calls. [`sys`] has the exported functions
 //! one to one, over lent memory, for callers that keep their own columns; all `unsafe` code is there.
 //!
-//! Building this crate needs the static library (`rt staticlib exports` of the repository, or the folder that `TANQESHA_LIB`
+//! Building this crate needs the static library (`oracle/library` of the repository makes it; or the folder that `TANQESHA_LIB`
 //! names).
 
 #![deny(unsafe_code)]
