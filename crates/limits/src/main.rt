@@ -4,7 +4,7 @@
 use bisim_build::builder;
 use bisim_build::builder::Built;
 use bisim_core::wlts::Initial;
-use libc::STDOUT_FILENO;
+use std::io;
 
 // The outcome of `build` with stores that are long enough.
 fn outcome(
@@ -95,39 +95,38 @@ fn weight(w: f64) -> u32 {
     outcome(2, &[0u32; 1], &[0u32; 1], &[1u32; 1], &[w; 1], 1)
 }
 
-fn show(what: &[u8], refusal: u32) {
-    io::write_all(STDOUT_FILENO, what);
-    io::write_all(STDOUT_FILENO, b": ");
-    io::print_decimal(STDOUT_FILENO, refusal as u64);
-    io::write_all(STDOUT_FILENO, b"\n");
+fn show(rt: &impl Print, what: &str, refusal: u32) -> io::Result<()> {
+    println!(rt; "{what}: {refusal}")
 }
 
-fn show_sizes() {
-    show(b"31 targets", targets(31));
-    show(b"32 targets", targets(32));
-    show(b"2,000 states", states(2000));
-    show(b"2,001 states", states(2001));
-    show(b"4,096 transitions", transitions(4096));
-    show(b"4,097 transitions", transitions(4097));
-    show(b"256 labels", labels(256));
-    show(b"257 labels", labels(257));
+fn show_sizes(rt: &impl Print) -> io::Result<()> {
+    show(rt, "31 targets", targets(31))?;
+    show(rt, "32 targets", targets(32))?;
+    show(rt, "2,000 states", states(2000))?;
+    show(rt, "2,001 states", states(2001))?;
+    show(rt, "4,096 transitions", transitions(4096))?;
+    show(rt, "4,097 transitions", transitions(4097))?;
+    show(rt, "256 labels", labels(256))?;
+    show(rt, "257 labels", labels(257))?;
+    Ok(())
 }
 
-fn show_weights() {
+fn show_weights(rt: &impl Print) -> io::Result<()> {
     let zero = 0.0;
-    show(b"weight 0", weight(zero));
-    show(b"weight -0", weight(-zero));
-    show(b"weight 2^-40", weight(9.094947017729282e-13));
-    show(b"weight just below 2^-40", weight(9.094947017729281e-13));
-    show(b"weight 2^40", weight(1099511627776.0));
-    show(b"weight just above 2^40", weight(1099511627776.0002));
-    show(b"weight NaN", weight(zero / zero));
-    show(b"weight infinity", weight(numbers::infinity()));
-    show(b"weight -infinity", weight(-numbers::infinity()));
-    show(b"weight -1", weight(-1.0));
+    show(rt, "weight 0", weight(zero))?;
+    show(rt, "weight -0", weight(-zero))?;
+    show(rt, "weight 2^-40", weight(9.094947017729282e-13))?;
+    show(rt, "weight just below 2^-40", weight(9.094947017729281e-13))?;
+    show(rt, "weight 2^40", weight(1099511627776.0))?;
+    show(rt, "weight just above 2^40", weight(1099511627776.0002))?;
+    show(rt, "weight NaN", weight(zero / zero))?;
+    show(rt, "weight infinity", weight(numbers::infinity()))?;
+    show(rt, "weight -infinity", weight(-numbers::infinity()))?;
+    show(rt, "weight -1", weight(-1.0))?;
+    Ok(())
 }
 
-fn main() {
-    show_sizes();
-    show_weights();
+fn main(rt: HostRuntime) -> io::Result<()> {
+    show_sizes(&rt)?;
+    show_weights(&rt)
 }

@@ -48,13 +48,7 @@ pub fn run_intern(buf: &[u8], r: Reader, counts: &mut [u64; 48]) -> Reader {
     check_intern(buf, value.r, counts, fronts::front_mut(&mut labels, l.n), x)
 }
 
-fn check_label(
-    buf: &[u8],
-    r: Reader,
-    counts: &mut [u64; 48],
-    labels: &[u32],
-    x: Asked,
-) -> Reader {
+fn check_label(buf: &[u8], r: Reader, counts: &mut [u64; 48], labels: &[u32], x: Asked) -> Reader {
     let get = outcomes::of_found(ids::get(labels, x.count, x.value));
     let resolve = outcomes::of_resolved(ids::resolve(labels, x.count, ids::LabelId(x.id)));
     let s = answers::check_one(buf, r, counts, entries::GET, get);
