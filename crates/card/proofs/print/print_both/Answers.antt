@@ -17,6 +17,5 @@ pub returns-in-Models : goal.returns-in-Models
 returns-in-Models c =
     let p = c.requires in
     let a = c.args in
-    let g = c.models-in-Models-1.given in
-    let f = subst FewBoth g.1 p.0 in
-    retold (lists_related (columns a.left_values.now a.left_offsets.now a.left_labels.now a.left_targets.now a.left_weights.now) (columns a.right_values.now a.right_offsets.now a.right_labels.now a.right_targets.now a.right_weights.now) a.heads a.classes.now a.models _ _ g.1) (relation_free g.0.0 g.0.1.0 _ a.out.now _ _ f.0 f.1 p.2 c.relation_text.ensures)
+    let f = subst FewBoth c.in-Models.is p.0 in
+    retold (lists_related (columns a.left_values.now a.left_offsets.now a.left_labels.now a.left_targets.now a.left_weights.now) (columns a.right_values.now a.right_offsets.now a.right_labels.now a.right_targets.now a.right_weights.now) a.heads a.classes.now a.models _ _ c.in-Models.is) (relation_free c.in-Models.a c.in-Models.b _ a.out.now _ _ f.0 f.1 p.2 c.relation_text.ensures)

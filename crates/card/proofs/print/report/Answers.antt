@@ -8,7 +8,7 @@ pub returns-then-out-lt-MOST_REPORT : goal.returns-then-out-lt-MOST_REPORT
 returns-then-out-lt-MOST_REPORT c = line_short _ c.args.out.now c.if-out-lt-MOST_REPORT.true
 
 pub print_card-requires : goal.print_card-requires
-print_card-requires c = (was_room c.read_card-answer.ensures c.answer-in-Card-1.given.1, c.if-out-lt-MOST_REPORT.false)
+print_card-requires c = (was_room c.read_card-answer.ensures c.in-Card.is, c.if-out-lt-MOST_REPORT.false)
 
 pub returns-in-Refused : goal.returns-in-Refused
 returns-in-Refused c = retold (was_refused c.read_card-answer.ensures c.in-Refused.is) c.refusal_text.ensures

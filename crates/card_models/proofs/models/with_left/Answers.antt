@@ -5,11 +5,9 @@ use Rattle.card_models.proofs.models.with_left.Goals as goal
 pub returns-in-Model : goal.returns-in-Model
 returns-in-Model c =
     let a = c.args in
-    let g = c.right-1.given in
-    with_model a.a g.0.0 a.right g.1
+    with_model a.a _ a.right c.in-Model.is
 
 pub returns-in-Refused : goal.returns-in-Refused
 returns-in-Refused c =
     let a = c.args in
-    let g = c.right-in-Refused-1.given in
-    with_refused a.a g.0.0 a.right g.1
+    with_refused a.a _ a.right c.in-Refused.is

@@ -20,4 +20,4 @@ returns c =
     let x = c.parts.result in
     let y = c.parts-2.result in
     retold (same_relation SL ML SR MR cl cr a.epsilon a.rho c.parts.ensures c.parts-2.ensures p.0 p.1)
-    (c.finish.ensures (epsdelta_refusal SL ML SR MR cl cr x y 512) (replicate 512 0) (final (given SL ML SR MR cl cr x y)) c.epsdelta-ended.ensures.0 (final_length SL ML SR MR cl cr x y))
+    (c.finish.ensures (epsdelta_refusal SL ML SR MR cl cr x y 512) (replicate 512 0) (final (given SL ML SR MR cl cr x y)) c.epsdelta-ended.ensures.relation_after (final_length SL ML SR MR cl cr x y))

@@ -5,7 +5,7 @@ use Rattle.min_epsilon.proofs.least.after_one.Goals as goal
 
 -- src/least.rt:219:39
 pub below_one-requires : goal.below_one-requires
-below_one-requires c = c.requires c.enum_told-1.given.1
+below_one-requires c = c.requires c.in-Related.is
 
 -- src/least.rt:196:1
 pub returns-in-Related : goal.returns-in-Related
@@ -18,7 +18,7 @@ returns-in-Related c =
     let cl = a.left_classes.now in
     let cr = a.right_classes.now in
     let b = c.below_one in
-    λ store e. ends_at SL ML SR MR cl cr a.rho store a.relation.now a.first e b.result b.new.1.1.1.1.1.1.1.1.1.1.1.1.1.1.1.0 c.in-Related.is b.ensures.0 b.ensures.1
+    λ store e. ends_at SL ML SR MR cl cr a.rho store a.relation.now a.first e b.result b.new.relation c.in-Related.is b.ensures.0 b.ensures.1
 
 -- src/least.rt:196:1
 pub returns-in-Unrelated : goal.returns-in-Unrelated
@@ -42,4 +42,4 @@ returns-in-Refused c =
     let MR = columns a.right_values.now a.right_offsets.now a.right_labels.now a.right_targets.now a.right_weights.now in
     let cl = a.left_classes.now in
     let cr = a.right_classes.now in
-    λ store e. ends_refused SL ML SR MR cl cr a.rho store a.relation.now a.first e c.first-1.given.0.0 c.in-Refused.is
+    λ store e. ends_refused SL ML SR MR cl cr a.rho store a.relation.now a.first e _ c.in-Refused.is

@@ -29,7 +29,7 @@ bisect-requires c =
     let cl = a.left_classes.now in
     let cr = a.right_classes.now in
     let h = c.holds-zero in
-    (h.ensures.0, unrefused SL ML SR MR cl cr a.rho h.new.1.1.1.1.1.1.1.1.1.1.1.1.1.1.1.1.0 a.relation.now c.requires h.ensures.1, zero_still h.new.1.1.1.1.1.1.1.1.1.1.1.1.1.1.1.1.0 a.relation.now h.ensures.1)
+    (h.ensures.0, unrefused SL ML SR MR cl cr a.rho h.new.relation a.relation.now c.requires h.ensures.1, zero_still h.new.relation a.relation.now h.ensures.1)
 
 -- src/least.rt:134:1
 pub returns : goal.returns
@@ -37,4 +37,4 @@ returns c =
     let a = c.args in
     let h = c.holds-zero in
     let b = c.bisect in
-    (b.ensures.0, zero_again b.new.1.1.1.1.1.1.1.1.1.1.1.1.1.1.1.1.0 h.new.1.1.1.1.1.1.1.1.1.1.1.1.1.1.1.1.0 a.relation.now h.ensures.1 b.ensures.1)
+    (b.ensures.0, zero_again b.new.relation h.new.relation a.relation.now h.ensures.1 b.ensures.1)

@@ -68,7 +68,7 @@ loop-hi-preserved-then-holds c =
     let cr = a.right_classes.now in
     let l = c.loop-hi in
     let r = c.holds in
-    (zero_again r.new.1.1.1.1.1.1.1.1.1.1.1.1.1.1.1.1.0 l.relation a.relation.now l.invariant.0 r.ensures.1, going_lower (alike_at SL ML SR MR cl cr a.rho) l.lo l.hi _ c.loop-hi-test.true refl l.invariant.1 r.result r.ensures.0 c.if-holds.true)
+    (zero_again r.new.relation l.relation a.relation.now l.invariant.0 r.ensures.1, going_lower (alike_at SL ML SR MR cl cr a.rho) l.lo l.hi _ c.loop-hi-test.true refl l.invariant.1 r.result r.ensures.0 c.if-holds.true)
 
 -- src/least.rt:104:5
 pub loop-hi-smaller : goal.loop-hi-smaller
@@ -95,7 +95,7 @@ loop-hi-preserved c =
     let cr = a.right_classes.now in
     let l = c.loop-hi in
     let r = c.holds in
-    (zero_again r.new.1.1.1.1.1.1.1.1.1.1.1.1.1.1.1.1.0 l.relation a.relation.now l.invariant.0 r.ensures.1, going_upper (alike_at SL ML SR MR cl cr a.rho) l.lo l.hi _ c.loop-hi-test.true refl l.invariant.1 r.result r.ensures.0 c.if-holds.false)
+    (zero_again r.new.relation l.relation a.relation.now l.invariant.0 r.ensures.1, going_upper (alike_at SL ML SR MR cl cr a.rho) l.lo l.hi _ c.loop-hi-test.true refl l.invariant.1 r.result r.ensures.0 c.if-holds.false)
 
 -- src/least.rt:77:1
 pub shape_of-relation : goal.shape_of-relation

@@ -15,7 +15,7 @@ after_one-requires c =
     let cl = a.left_classes.now in
     let cr = a.right_classes.now in
     let r = c.epsdelta_bisimilar-first in
-    next_allowed SL ML SR MR cl cr a.rho a.relation.now r.new.1.1.1.1.1.1.1.1.1.1.1.1.1.1.1.1.0 r.result r.ensures
+    next_allowed SL ML SR MR cl cr a.rho a.relation.now r.new.relation r.result r.ensures
 
 -- src/least.rt:243:1
 pub returns : goal.returns
@@ -28,4 +28,4 @@ returns c =
     let cl = a.left_classes.now in
     let cr = a.right_classes.now in
     let r = c.epsdelta_bisimilar-first in
-    (c.after_one.ensures a.relation.now r.ensures, min_epsilon_searched SL ML SR MR cl cr a.rho)
+    record { relation_after = c.after_one.ensures a.relation.now r.ensures; searched = min_epsilon_searched SL ML SR MR cl cr a.rho }
