@@ -72,12 +72,7 @@ fn expect_weights(
 }
 
 // The first n records.
-fn expect_records(
-    buf: &[u8],
-    r: Reader,
-    records: [PairContribution; 64],
-    n: usize,
-) -> Reader
+fn expect_records(buf: &[u8], r: Reader, records: [PairContribution; 64], n: usize) -> Reader
     ensures { Lasts r result }
 {
     let mut lefts = [0u32; 64];

@@ -152,13 +152,7 @@ fn reals_state(xs: &[f64]) -> u64 {
 }
 
 // What the lists of pairs hold is as stored.
-fn expect_pairs(
-    buf: &[u8],
-    r: Reader,
-    lefts: &[u32],
-    rights: &[u32],
-    codes: &[u64],
-) -> Reader
+fn expect_pairs(buf: &[u8], r: Reader, lefts: &[u32], rights: &[u32], codes: &[u64]) -> Reader
     ensures { Lasts r result }
 {
     let a = text::expect(buf, r, state(lefts));
