@@ -7,6 +7,7 @@ mod side; // side.rt: a model in the text
 
 use replay_text::text::Reader;
 use replay_text::{tally, text};
+use std::io;
 
 // The first eight letters of the kind's word, by their bytes.
 const BISIM_DI: u64 = 0x626973696d5f6469;
@@ -31,15 +32,13 @@ fn run_all(buf: &[u8], counts: &mut [u64; 48]) {
     }
 }
 
-fn main() {
-    let mut buf = io::large_buffer();
+fn main(rt: HostRuntime) -> io::Result<()> {
+    let buf = text::input(&rt)?;
     let mut counts = [0u64; 48];
-    run_all(&mut buf, &mut counts);
-    tally::print_entry(
-        b"bisim_distance bisim_distance ",
-        &counts,
-        models::BISIM_DISTANCE,
-    );
-    tally::print_entry(b"other ", &counts, tally::OTHER);
-    tally::print_total(&counts);
+    run_all(&buf, &mut counts);
+    tally::print_entry(&rt, "bisim_distance bisim_distance ", &counts,
+        models::BISIM_DISTANCE,)?;
+    tally::print_entry(&rt, "other ", &counts, tally::OTHER)?;
+    tally::print_total(&rt, &counts)?;
+    Ok(())
 }

@@ -6,6 +6,7 @@ mod cards; // cards.rt: a stored card, its report and the store
 
 use replay_text::text::Reader;
 use replay_text::{tally, text};
+use std::io;
 
 // The word of the kind, by its bytes.
 const CARD: u64 = 0x63617264;
@@ -36,13 +37,14 @@ fn run_all(buf: &[u8], counts: &mut [u64; 48], card: &mut [u8], out: &mut [u8]) 
     }
 }
 
-fn main() {
-    let mut buf = io::large_buffer();
+fn main(rt: HostRuntime) -> io::Result<()> {
+    let buf = text::input(&rt)?;
     let mut counts = [0u64; 48];
     let mut card = [0u8; 10500];
     let mut out = [0u8; 26662];
-    run_all(&mut buf, &mut counts, &mut card, &mut out);
-    tally::print_entry(b"card report ", &counts, cards::REPORT);
-    tally::print_entry(b"other ", &counts, tally::OTHER);
-    tally::print_total(&counts);
+    run_all(&buf, &mut counts, &mut card, &mut out);
+    tally::print_entry(&rt, "card report ", &counts, cards::REPORT)?;
+    tally::print_entry(&rt, "other ", &counts, tally::OTHER)?;
+    tally::print_total(&rt, &counts)?;
+    Ok(())
 }

@@ -10,6 +10,7 @@ mod scaled; // scaled.rt: the kind `normalise`
 
 use replay_text::text::Reader;
 use replay_text::{tally, text};
+use std::io;
 
 // The first eight letters of the words of the kinds, by their bytes.
 const RATE: u64 = 0x72617465;
@@ -47,13 +48,14 @@ fn run_all(buf: &[u8], counts: &mut [u64; 48]) {
     }
 }
 
-fn main() {
-    let mut buf = io::large_buffer();
+fn main(rt: HostRuntime) -> io::Result<()> {
+    let buf = text::input(&rt)?;
     let mut counts = [0u64; 48];
-    run_all(&mut buf, &mut counts);
-    tally::print_entry(b"rate common_rate ", &counts, entries::COMMON_RATE);
-    tally::print_entry(b"uniformise uniformise ", &counts, entries::UNIFORMISE);
-    tally::print_entry(b"normalise normalise ", &counts, entries::NORMALISE);
-    tally::print_entry(b"other ", &counts, tally::OTHER);
-    tally::print_total(&counts);
+    run_all(&buf, &mut counts);
+    tally::print_entry(&rt, "rate common_rate ", &counts, entries::COMMON_RATE)?;
+    tally::print_entry(&rt, "uniformise uniformise ", &counts, entries::UNIFORMISE)?;
+    tally::print_entry(&rt, "normalise normalise ", &counts, entries::NORMALISE)?;
+    tally::print_entry(&rt, "other ", &counts, tally::OTHER)?;
+    tally::print_total(&rt, &counts)?;
+    Ok(())
 }

@@ -6,6 +6,7 @@ mod chains; // chains.rt: the kind `distance`
 
 use replay_text::text::Reader;
 use replay_text::{tally, text};
+use std::io;
 
 // The letters of the kind's word, by their bytes.
 const DISTANCE: u64 = 0x64697374616e6365;
@@ -30,11 +31,12 @@ fn run_all(buf: &[u8], counts: &mut [u64; 48]) {
     }
 }
 
-fn main() {
-    let mut buf = io::large_buffer();
+fn main(rt: HostRuntime) -> io::Result<()> {
+    let buf = text::input(&rt)?;
     let mut counts = [0u64; 48];
-    run_all(&mut buf, &mut counts);
-    tally::print_entry(b"distance distance ", &counts, chains::DISTANCE);
-    tally::print_entry(b"other ", &counts, tally::OTHER);
-    tally::print_total(&counts);
+    run_all(&buf, &mut counts);
+    tally::print_entry(&rt, "distance distance ", &counts, chains::DISTANCE)?;
+    tally::print_entry(&rt, "other ", &counts, tally::OTHER)?;
+    tally::print_total(&rt, &counts)?;
+    Ok(())
 }

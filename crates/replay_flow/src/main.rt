@@ -12,6 +12,7 @@ mod nodes; // nodes.rt: the kind `nodes`
 
 use replay_text::text::Reader;
 use replay_text::{tally, text};
+use std::io;
 
 // The words of the kinds, by their bytes.
 const FLOW: u64 = 0x666c6f77;
@@ -49,17 +50,18 @@ fn run_all(buf: &[u8], counts: &mut [u64; 48]) {
     }
 }
 
-fn print_all(counts: &[u64; 48]) {
-    tally::print_entry(b"flow max_flow ", counts, entries::MAX_FLOW);
-    tally::print_entry(b"edge add_edge ", counts, entries::ADD_EDGE);
-    tally::print_entry(b"nodes new ", counts, entries::NEW);
-    tally::print_entry(b"other ", counts, tally::OTHER);
-    tally::print_total(counts);
+fn print_all(rt: &impl Print, counts: &[u64; 48]) -> io::Result<()> {
+    tally::print_entry(rt, "flow max_flow ", counts, entries::MAX_FLOW)?;
+    tally::print_entry(rt, "edge add_edge ", counts, entries::ADD_EDGE)?;
+    tally::print_entry(rt, "nodes new ", counts, entries::NEW)?;
+    tally::print_entry(rt, "other ", counts, tally::OTHER)?;
+    tally::print_total(rt, counts)?;
+    Ok(())
 }
 
-fn main() {
-    let mut buf = io::large_buffer();
+fn main(rt: HostRuntime) -> io::Result<()> {
+    let buf = text::input(&rt)?;
     let mut counts = [0u64; 48];
-    run_all(&mut buf, &mut counts);
-    print_all(&counts);
+    run_all(&buf, &mut counts);
+    print_all(&rt, &counts)
 }

@@ -9,6 +9,7 @@ mod store; // store.rt: the bytes lent for a relation
 
 use replay_text::text::Reader;
 use replay_text::{tally, text};
+use std::io;
 
 // The words of the kinds, by their bytes.
 const RELATION: u64 = 0x72656c6174696f6e;
@@ -47,23 +48,21 @@ fn run_all(buf: &[u8], counts: &mut [u64; 48], store: &mut [u8]) {
     }
 }
 
-fn print_all(counts: &[u64; 48]) {
-    tally::print_entry(b"relation epsdelta ", counts, entries::EPSDELTA);
-    tally::print_entry(
-        b"relation epsdelta_bisimilar ",
-        counts,
-        entries::EPSDELTA_BISIMILAR,
-    );
-    tally::print_entry(b"relation min_epsilon ", counts, entries::MIN_EPSILON);
-    tally::print_entry(b"related ", counts, entries::RELATED);
-    tally::print_entry(b"other ", counts, tally::OTHER);
-    tally::print_total(counts);
+fn print_all(rt: &impl Print, counts: &[u64; 48]) -> io::Result<()> {
+    tally::print_entry(rt, "relation epsdelta ", counts, entries::EPSDELTA)?;
+    tally::print_entry(rt, "relation epsdelta_bisimilar ", counts,
+        entries::EPSDELTA_BISIMILAR,)?;
+    tally::print_entry(rt, "relation min_epsilon ", counts, entries::MIN_EPSILON)?;
+    tally::print_entry(rt, "related ", counts, entries::RELATED)?;
+    tally::print_entry(rt, "other ", counts, tally::OTHER)?;
+    tally::print_total(rt, counts)?;
+    Ok(())
 }
 
-fn main() {
-    let mut buf = io::large_buffer();
+fn main(rt: HostRuntime) -> io::Result<()> {
+    let buf = text::input(&rt)?;
     let mut counts = [0u64; 48];
     let mut store = [0u8; 501502];
-    run_all(&mut buf, &mut counts, &mut store);
-    print_all(&counts);
+    run_all(&buf, &mut counts, &mut store);
+    print_all(&rt, &counts)
 }

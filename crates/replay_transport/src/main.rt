@@ -6,6 +6,7 @@ mod plans; // plans.rt: a stored case, its answer and its columns
 
 use replay_text::text::Reader;
 use replay_text::{tally, text};
+use std::io;
 
 // The first eight letters of the word of the kind, by their bytes.
 const TRANSPOR: u64 = 0x7472616e73706f72;
@@ -30,11 +31,12 @@ fn run_all(buf: &[u8], counts: &mut [u64; 48]) {
     }
 }
 
-fn main() {
-    let mut buf = io::large_buffer();
+fn main(rt: HostRuntime) -> io::Result<()> {
+    let buf = text::input(&rt)?;
     let mut counts = [0u64; 48];
-    run_all(&mut buf, &mut counts);
-    tally::print_entry(b"transport transport ", &counts, plans::TRANSPORT);
-    tally::print_entry(b"other ", &counts, tally::OTHER);
-    tally::print_total(&counts);
+    run_all(&buf, &mut counts);
+    tally::print_entry(&rt, "transport transport ", &counts, plans::TRANSPORT)?;
+    tally::print_entry(&rt, "other ", &counts, tally::OTHER)?;
+    tally::print_total(&rt, &counts)?;
+    Ok(())
 }

@@ -1,23 +1,40 @@
 // The report program: a card on standard input, its report on standard output. Of a longer input the first 10,500 bytes decide.
 #![tactic(auto)]
 
-ghost use Rattle.std.specs.Prelude.{◌≡◌, List, ℕ, ◌≤◌, length, take};
+ghost use Rattle.std.specs.Prelude.{◌≡◌, List, ℕ, ◌≤◌, length, take, IfOk};
 ghost use Rattle.card_report.specs.Report.{Printed};
 ghost use Rattle.card.specs.Printing.{printed};
 
 use card::report;
 use card_report::Text;
-use libc::{STDIN_FILENO, STDOUT_FILENO};
+use std::io;
+use std::io::{Read, Write};
 
-fn print_text(text: Text, out: &[u8]) {
+fn print_text(rt: &impl Print, text: Text, out: &[u8]) -> io::Result<()> {
     match text {
         Text::Written(n) => {
             if n <= out.len() {
-                io::write_all(STDOUT_FILENO, &out[..n]);
+                io::writer(rt).write_all(&out[..n])?;
             }
         }
         Text::Refused(_) => {}
     }
+    Ok(())
+}
+
+// Reads until the bytes are full, or the input ends: how many were read.
+fn read_full(reader: &mut impl Read, bytes: &mut [u8]) -> io::Result<usize>
+    ensures { (length bytes.new ≡ length bytes.old) × IfOk result (λ n. n ≤ length bytes.old) }
+{
+    let mut n: usize = 0;
+    while n < bytes.len() {
+        let more = reader.read(&mut bytes[n..])?;
+        if more == 0 {
+            return Ok(n);
+        }
+        n += more;
+    }
+    Ok(n)
 }
 
 // The report of what was read, n bytes: it is that of every input whose first 10,500 bytes are these.
@@ -28,10 +45,10 @@ fn report_input(bytes: &[u8], n: usize, out: &mut [u8]) -> Text
     report(&bytes[..n], out)
 }
 
-fn main() {
+fn main(rt: HostRuntime) -> io::Result<()> {
     let mut bytes = [0u8; 10500];
     let mut out = [0u8; 13331];
-    let n = io::read_full(STDIN_FILENO, &mut bytes);
+    let n = read_full(&mut rt.reader(), &mut bytes)?;
     let text = report_input(&bytes, n, &mut out);
-    print_text(text, &out);
+    print_text(&rt, text, &out)
 }

@@ -1,0 +1,11 @@
+-- `run_all` is safe and ends: its turns are counted, and the measure is how many are left; the lent bytes keep their lengths.
+use mathlib.Core.Path.{◌≡◌}
+use Prim.Native.Nat.{◌≤◌, ◌-◌}
+use lib.ListN.{length}
+use Rattle.replay_card.proofs.run_all.Given as goal
+
+abbrev pub invariant-loop-turns : goal.invariant-loop-turns
+invariant-loop-turns l = (l.turns ≤ 1000000) × (length l.card ≡ length l.initial.card) × (length l.out ≡ length l.initial.out)
+
+abbrev pub decreases-loop-turns : goal.decreases-loop-turns
+decreases-loop-turns l = 1000000 - l.turns
