@@ -8,13 +8,7 @@ use transport::entry::Transported;
 // The place of its counts.
 pub const TRANSPORT: usize = 0;
 
-fn expect_figures(
-    buf: &[u8],
-    r: Reader,
-    refusal: u32,
-    total: f64,
-    cells: usize,
-) -> Reader {
+fn expect_figures(buf: &[u8], r: Reader, refusal: u32, total: f64, cells: usize) -> Reader {
     let named = text::name(buf, r);
     let s = text::expect(buf, named, refusal as u64);
     let t = text::expect_real(buf, s, total);
