@@ -2,5 +2,4 @@ pub mod Marking
 pub mod Turns
 pub mod Noting
 pub mod Resuming
-pub mod Lending
 pub mod Reading

@@ -101,6 +101,7 @@ fn asked_on(
     requires { RowsFit states starts.now targets.now probs.now × (p.s < states) × (p.t < states) × (length heads.old ≡ 2046) × (length caps.old ≡ 2046) × (length costs.old ≡ 2046) }
     ensures { (need : Float) (R : List Bool) → relation.now ≡ packed R → (p.back ≡ false → test_in states starts.now targets.now probs.now need R p.s p.t ≡ at_least need result) × (p.back ≡ true → test_in states starts.now targets.now probs.now need R p.t p.s ≡ at_least need result) }
 {
+    let _link = net.links[0]; // for the proof: a read tells how long the network's arrays are
     let w = lay(starts, targets, probs, states, relation, p, heads, caps);
     flow_rows(net, heads, caps, costs, w.places, w.nodes, w.source, w.sink)
 }

@@ -13,4 +13,4 @@ pub returns-then-v-s : goal.returns-then-v-s
 returns-then-v-s c = λ _. (reads_off c.args.recent (c.args.v % 64) c.if-recent-v-eq1.false, λ l. absurd (omega arith))
 
 pub returns : goal.returns
-returns c = λ z. (reads_off c.args.recent (c.args.v % 64) c.if-recent-v-eq1.false, λ _. reads_off c.args (c.args.v % 64) (eqb-false _ _ z))
+returns c = λ z. (reads_off c.args.recent (c.args.v % 64) c.if-recent-v-eq1.false, λ _. reads_off c.args.before (c.args.v % 64) (eqb-false _ _ z))

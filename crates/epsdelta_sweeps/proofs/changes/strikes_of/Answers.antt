@@ -46,7 +46,7 @@ loop-i-preserved c =
     let l = c.loop-i in
     let u = get_or a.targets.now l.i 0 in
     let w = c.not_below-before.result in
-    (omega arith, one_more (λ j. Told a.states a.changed.now a.s (get_or a.targets.now j 0) (bit_or l.recent (get_or a.changed.now (2 * u) 0)) (bit_or l w)) a.a l.i (λ j h m. told_more a.states a.changed.now a.s (get_or a.targets.now j 0) l.recent l (get_or a.changed.now (2 * u) 0) w (l.invariant.1 j h m)) (told_this a.states a.changed.now a.s u l.recent l w c.if-states-u.false c.not_below-before.ensures))
+    (omega arith, one_more (λ j. Told a.states a.changed.now a.s (get_or a.targets.now j 0) (bit_or l.recent (get_or a.changed.now (2 * u) 0)) (bit_or l.before w)) a.a l.i (λ j h m. told_more a.states a.changed.now a.s (get_or a.targets.now j 0) l.recent l.before (get_or a.changed.now (2 * u) 0) w (l.invariant.1 j h m)) (told_this a.states a.changed.now a.s u l.recent l.before w c.if-states-u.false c.not_below-before.ensures))
 
 pub returns : goal.returns
 returns c = λ e i h l. c.loop-i.invariant.1 i h (omega arith)

@@ -29,7 +29,7 @@ returns-then-m c = λ e.
     record {
       some = c.if-a-b.true;
       more = c.if-c-d.true;
-      at = λ i k x y z w. told_missed a.states a.changed.now a.s (get_or a.targets.now i 0) (get_or a.targets.now k 0) m.recent m (omega arith) (c.strikes_of-m.ensures c.if-m.true i x y) (c.untouched.ensures e k z w);
+      at = λ i k x y z w. told_missed a.states a.changed.now a.s (get_or a.targets.now i 0) (get_or a.targets.now k 0) m.recent m.before (omega arith) (c.strikes_of-m.ensures c.if-m.true i x y) (c.untouched.ensures e k z w);
     }
 
 pub returns-else-m : goal.returns-else-m

@@ -25,7 +25,7 @@ loop-k-preserved c =
     let a = c.args in
     let l = c.loop-k in
     let (x, y) = c.since.ensures c.if-since.false in
-    (omega arith, one_more (λ j. Missed a.states a.s (get_or a.targets.now j 0) a.recent a) a.c l.k l.invariant.1 (c.if-states-v.false, x, y))
+    (omega arith, one_more (λ j. Missed a.states a.s (get_or a.targets.now j 0) a.recent a.before) a.c l.k l.invariant.1 (c.if-states-v.false, x, y))
 
 pub returns : goal.returns
 returns c = λ e k h l. c.loop-k.invariant.1 k h (omega arith)

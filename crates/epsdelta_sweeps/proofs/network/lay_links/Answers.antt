@@ -87,4 +87,4 @@ returns c =
     let m = part_count p.0 a.s p.1 in
     let n = part_count p.0 a.t p.2 in
     let x = get_or a.starts.now (a.s + 1) 0 - get_or a.starts.now a.s 0 + (get_or a.starts.now (a.t + 1) 0 - get_or a.starts.now a.t 0) in
-    laid_test p.0 a.relation.now a.s a.t p.1 p.2 a.heads-1.now a.caps-1.now p.3 p.4 c.write_links-w.ensures (x + 2) x (x + 1) (omega arith) (omega arith) (omega arith)
+    laid_test p.0 a.relation.now a.s a.t p.1 p.2 a.heads.now a.caps.now p.3 p.4 (let e = c.write_links-w.ensures in (e.done_value, (e.places_value, (e.heads_after, e.caps_after)))) (x + 2) x (x + 1) (omega arith) (omega arith) (omega arith)

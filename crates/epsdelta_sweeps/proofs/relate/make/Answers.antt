@@ -8,8 +8,8 @@ plenty_of-plenty-requires c = (c.requires.0, needed_formed c.args.epsilon c.need
 pub run-requires : goal.run-requires
 run-requires c =
     let a = c.args in
-    let l = c.marks.new.1.1.1.1.0 in
-    ((c.requires.0, c.requires.1, c.plenty_of-plenty.ensures, marks_even a.states a.classes.now a.exits.now a.rho l c.marks.ensures), marks_bytes a.states a.classes.now a.exits.now a.rho l c.marks.ensures)
+    let l = c.marks.new.relation in
+    record { rows_fit = (c.requires.0, c.requires.1, c.plenty_of-plenty.ensures, marks_even a.states a.classes.now a.exits.now a.rho l c.marks.ensures); relation_value = marks_bytes a.states a.classes.now a.exits.now a.rho l c.marks.ensures }
 
 pub returns : goal.returns
 returns c =

@@ -7,12 +7,12 @@ use Rattle.epsdelta_sweeps.proofs.run.run_large.Goals as goal
 pub advance-p-requires : goal.advance-p-requires
 advance-p-requires c =
     let p = c.requires in
-    let f = p.0.0.few in
+    let f = p.rows_fit.0.few in
     let (w, z) = first_words c.args.states 4001 (omega arith) in
-    (p.0.0, p.0.1, omega arith, (λ k. omega arith), held_start p.1 p.0.2 p.0.3 w z)
+    (p.rows_fit.0, p.rows_fit.1, omega arith, (λ k. omega arith), held_start p.relation_value p.rows_fit.2 p.rows_fit.3 w z)
 
 pub with_rows-requires : goal.with_rows-requires
-with_rows-requires c = let p = c.requires in (p.0.0, p.0.1, c.advance-p.ensures.0.held, c.advance-p.ensures.1)
+with_rows-requires c = let p = c.requires in (p.rows_fit.0, p.rows_fit.1, c.advance-p.ensures.0.held, c.advance-p.ensures.1)
 
 pub returns-then-p : goal.returns-then-p
 returns-then-p c = let r = c.with_rows.ensures in runs_to (moves_then c.advance-p.ensures.0 (omega arith) r.0) r.1 (r.2, r.3, r.4)

@@ -7,12 +7,12 @@ use Rattle.epsdelta_sweeps.proofs.run.run_small.Goals as goal
 pub advance-p-requires : goal.advance-p-requires
 advance-p-requires c =
     let p = c.requires in
-    let f = p.0.0 in
+    let f = p.states_bound.0 in
     let (w, z) = first_words c.args.states 129 (omega arith) in
-    (p.0.1, p.0.2, omega arith, (λ k. omega arith), held_start p.1 p.0.3 p.0.4 w z)
+    (p.states_bound.1, p.states_bound.2, omega arith, (λ k. omega arith), held_start p.relation_value p.states_bound.3 p.states_bound.4 w z)
 
 pub with_rows-requires : goal.with_rows-requires
-with_rows-requires c = let p = c.requires in (p.0.1, p.0.2, c.advance-p.ensures.0.held, c.advance-p.ensures.1)
+with_rows-requires c = let p = c.requires in (p.states_bound.1, p.states_bound.2, c.advance-p.ensures.0.held, c.advance-p.ensures.1)
 
 pub returns-then-p : goal.returns-then-p
 returns-then-p c = let r = c.with_rows.ensures in runs_to (moves_then c.advance-p.ensures.0 (omega arith) r.0) r.1 (r.2, r.3, r.4)

@@ -11,10 +11,10 @@ pub loop-p-init : goal.loop-p-init
 loop-p-init c = (refl, refl, moves_start c.sweep-p.ensures.0.held, c.sweep-p.ensures.1)
 
 pub shape_of-relation-then-p : goal.shape_of-relation-then-p
-shape_of-relation-then-p c = c.loop-p.invariant.0 ∙ c.sweep-p.auto.1.1.1.1.1.1.1.0
+shape_of-relation-then-p c = c.loop-p.invariant.0 ∙ c.sweep-p.auto.relation
 
 pub shape_of-changed-then-p : goal.shape_of-changed-then-p
-shape_of-changed-then-p c = c.loop-p.invariant.1 ∙ c.sweep-p.auto.1.1.1.1.1.1.1.1.0
+shape_of-changed-then-p c = c.loop-p.invariant.1 ∙ c.sweep-p.auto.changed
 
 pub returns-then-p : goal.returns-then-p
 returns-then-p c = (moves_then c.sweep-p.ensures.0 (omega arith) c.loop-p.invariant.2, λ q. absurd (true≢false (sym c.if-p.true ∙ q)))
@@ -27,25 +27,25 @@ sweep-p-requires-in-loop-p c =
     let l = c.loop-p.invariant in
     let e = c.if-p.false in
     let (h, i, b) = l.3 e in
-    (c.requires.0, c.requires.1, omega arith, (λ k. omega arith), (sweep_ends c.requires.0 c.loop-p.p.struck h i c.loop-p-test.true c.fade.auto.1.0 c.fade.ensures (resting l.2 e (refl, refl, b)).held).held)
+    (c.requires.0, c.requires.1, omega arith, (λ k. omega arith), (sweep_ends c.requires.0 c.loop-p.p.struck h i c.loop-p-test.true c.fade.auto.changed c.fade.ensures (resting l.2 e (refl, refl, b)).held).held)
 
 pub loop-p-smaller : goal.loop-p-smaller
-loop-p-smaller c = let l = c.loop-p.invariant in (sweep_again c.requires.0 {C' = c.fade.new.1.0} l.2 c.if-p.false (l.3 c.if-p.false) c.loop-p-test.true c.fade.auto.1.0 c.fade.ensures (λ _. c.sweep-p-in-loop-p.ensures.0)).1
+loop-p-smaller c = let l = c.loop-p.invariant in (sweep_again c.requires.0 {C' = c.fade.new.changed} l.2 c.if-p.false (l.3 c.if-p.false) c.loop-p-test.true c.fade.auto.changed c.fade.ensures (λ _. c.sweep-p-in-loop-p.ensures.0)).1
 
 pub loop-p-preserved : goal.loop-p-preserved
 loop-p-preserved c =
     let l = c.loop-p.invariant in (
-      c.sweep-p-in-loop-p.auto.1.1.1.1.1.1.1.0 ∙ l.0,
-      c.sweep-p-in-loop-p.auto.1.1.1.1.1.1.1.1.0 ∙ c.fade.auto.1.0 ∙ l.1,
-      (sweep_again c.requires.0 {C' = c.fade.new.1.0} l.2 c.if-p.false (l.3 c.if-p.false) c.loop-p-test.true c.fade.auto.1.0 c.fade.ensures (λ _. c.sweep-p-in-loop-p.ensures.0)).0,
+      c.sweep-p-in-loop-p.auto.relation ∙ l.0,
+      c.sweep-p-in-loop-p.auto.changed ∙ c.fade.auto.changed ∙ l.1,
+      (sweep_again c.requires.0 {C' = c.fade.new.changed} l.2 c.if-p.false (l.3 c.if-p.false) c.loop-p-test.true c.fade.auto.changed c.fade.ensures (λ _. c.sweep-p-in-loop-p.ensures.0)).0,
       c.sweep-p-in-loop-p.ensures.1,
     )
 
 pub shape_of-relation : goal.shape_of-relation
-shape_of-relation c = c.loop-p.invariant.0 ∙ c.sweep-p.auto.1.1.1.1.1.1.1.0
+shape_of-relation c = c.loop-p.invariant.0 ∙ c.sweep-p.auto.relation
 
 pub shape_of-changed : goal.shape_of-changed
-shape_of-changed c = c.loop-p.invariant.1 ∙ c.sweep-p.auto.1.1.1.1.1.1.1.1.0
+shape_of-changed c = c.loop-p.invariant.1 ∙ c.sweep-p.auto.changed
 
 pub returns : goal.returns
 returns c =

@@ -31,7 +31,7 @@ returns-then-q c =
     let A = p.2.asked refl in
     let l = A.apart in
     let k = A.inside in
-    (c.tested-q.ensures.0 a.exits.now a.plenty p.2 (λ R e. let q = p.3 a.need R e in (λ b. q.0 b ∙ sym c.enough.ensures, λ b. q.1 b ∙ sym c.enough.ensures)) (λ z b R e. ample_in p.0 a.need a.plenty p.2.enough a.relation-1.now R e p.2.even a.p.s a.p.t a.answer (omega arith) k (c.ample.ensures z) ((p.3 a.plenty R e).0 b)), λ q. absurd (true≢false (sym c.if-q.true ∙ q)))
+    (c.tested-q.ensures.0 a.exits.now a.plenty p.2 (λ R e. let q = p.3 a.need R e in (λ b. q.0 b ∙ sym c.enough.ensures, λ b. q.1 b ∙ sym c.enough.ensures)) (λ z b R e. ample_in p.0 a.need a.plenty p.2.enough a.relation.now R e p.2.even a.p.s a.p.t a.answer (omega arith) k (c.ample.ensures z) ((p.3 a.plenty R e).0 b)), λ q. absurd (true≢false (sym c.if-q.true ∙ q)))
 
 pub advance-requires : goal.advance-requires
 advance-requires c =
@@ -43,7 +43,7 @@ advance-requires c =
     let t = c.tested-q.ensures.1 c.if-q.false in
     let x = t.0 in
     let y = t.1 in
-    let M = c.tested-q.ensures.0 a.exits.now a.plenty p.2 (λ R e. let q = p.3 a.need R e in (λ b. q.0 b ∙ sym c.enough.ensures, λ b. q.1 b ∙ sym c.enough.ensures)) (λ z b R e. ample_in p.0 a.need a.plenty p.2.enough a.relation-1.now R e p.2.even a.p.s a.p.t a.answer (omega arith) k (c.ample.ensures z) ((p.3 a.plenty R e).0 b)) in
+    let M = c.tested-q.ensures.0 a.exits.now a.plenty p.2 (λ R e. let q = p.3 a.need R e in (λ b. q.0 b ∙ sym c.enough.ensures, λ b. q.1 b ∙ sym c.enough.ensures)) (λ z b R e. ample_in p.0 a.need a.plenty p.2.enough a.relation.now R e p.2.even a.p.s a.p.t a.answer (omega arith) k (c.ample.ensures z) ((p.3 a.plenty R e).0 b)) in
     (p.0, p.1, omega arith, (λ h. omega arith), (resting M c.if-q.false (refl, refl, t.2)).held)
 
 pub returns : goal.returns
@@ -54,5 +54,5 @@ returns c =
     let l = A.apart in
     let k = A.inside in
     let t = c.tested-q.ensures.1 c.if-q.false in
-    let M = c.tested-q.ensures.0 a.exits.now a.plenty p.2 (λ R e. let q = p.3 a.need R e in (λ b. q.0 b ∙ sym c.enough.ensures, λ b. q.1 b ∙ sym c.enough.ensures)) (λ z b R e. ample_in p.0 a.need a.plenty p.2.enough a.relation-1.now R e p.2.even a.p.s a.p.t a.answer (omega arith) k (c.ample.ensures z) ((p.3 a.plenty R e).0 b)) in
+    let M = c.tested-q.ensures.0 a.exits.now a.plenty p.2 (λ R e. let q = p.3 a.need R e in (λ b. q.0 b ∙ sym c.enough.ensures, λ b. q.1 b ∙ sym c.enough.ensures)) (λ z b R e. ample_in p.0 a.need a.plenty p.2.enough a.relation.now R e p.2.even a.p.s a.p.t a.answer (omega arith) k (c.ample.ensures z) ((p.3 a.plenty R e).0 b)) in
     (moves_then (resting M c.if-q.false (refl, refl, t.2)) (omega arith) c.advance.ensures.0, c.advance.ensures.1)

@@ -11,10 +11,10 @@ pub sweep_row-p-requires : goal.sweep_row-p-requires
 sweep_row-p-requires c = (c.requires.0, c.requires.1, c.loop-s.invariant.2, c.loop-s.invariant.3 c.loop-s-test.true, c.loop-s.invariant.4.held)
 
 pub shape_of-relation-then-p : goal.shape_of-relation-then-p
-shape_of-relation-then-p c = c.sweep_row-p.auto.1.1.1.1.1.1.1.0 ∙ c.loop-s.invariant.0
+shape_of-relation-then-p c = c.sweep_row-p.auto.relation ∙ c.loop-s.invariant.0
 
 pub shape_of-changed-then-p : goal.shape_of-changed-then-p
-shape_of-changed-then-p c = c.sweep_row-p.auto.1.1.1.1.1.1.1.1.0 ∙ c.loop-s.invariant.1
+shape_of-changed-then-p c = c.sweep_row-p.auto.changed ∙ c.loop-s.invariant.1
 
 pub returns-then-p : goal.returns-then-p
 returns-then-p c = (moves_then c.loop-s.invariant.4 (omega arith) c.sweep_row-p.ensures.0, λ q. absurd (true≢false (sym c.if-p.true ∙ q)))
@@ -32,8 +32,8 @@ pub loop-s-preserved : goal.loop-s-preserved
 loop-s-preserved c =
     let l = c.loop-s.invariant in
     let h = c.loop-s-test.true in (
-      c.sweep_row-p.auto.1.1.1.1.1.1.1.0 ∙ l.0,
-      c.sweep_row-p.auto.1.1.1.1.1.1.1.1.0 ∙ l.1,
+      c.sweep_row-p.auto.relation ∙ l.0,
+      c.sweep_row-p.auto.changed ∙ l.1,
       omega arith,
       (λ k. omega arith),
       moves_then l.4 (omega arith) (resting c.sweep_row-p.ensures.0 c.if-p.false (c.sweep_row-p.ensures.1 c.if-p.false)),

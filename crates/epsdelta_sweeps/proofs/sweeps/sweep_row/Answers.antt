@@ -11,10 +11,10 @@ pub turn-p-requires : goal.turn-p-requires
 turn-p-requires c = (c.requires.0, c.requires.1, c.loop-t.invariant.2, c.loop-t-test.true, c.loop-t.invariant.4.held)
 
 pub shape_of-relation-then-p : goal.shape_of-relation-then-p
-shape_of-relation-then-p c = c.turn-p.auto.1.1.1.1.1.1.1.0 ∙ c.loop-t.invariant.0
+shape_of-relation-then-p c = c.turn-p.auto.relation ∙ c.loop-t.invariant.0
 
 pub shape_of-changed-then-p : goal.shape_of-changed-then-p
-shape_of-changed-then-p c = c.turn-p.auto.1.1.1.1.1.1.1.1.0 ∙ c.loop-t.invariant.1
+shape_of-changed-then-p c = c.turn-p.auto.changed ∙ c.loop-t.invariant.1
 
 pub returns-then-p : goal.returns-then-p
 returns-then-p c = (moves_then c.loop-t.invariant.4 (omega arith) c.turn-p.ensures.0, λ q. absurd (true≢false (sym c.if-p.true ∙ q)))
@@ -30,8 +30,8 @@ loop-t-preserved c =
     let l = c.loop-t.invariant in
     let h = c.loop-t-test.true in
     let k = l.2 in (
-      c.turn-p.auto.1.1.1.1.1.1.1.0 ∙ l.0,
-      c.turn-p.auto.1.1.1.1.1.1.1.1.0 ∙ l.1,
+      c.turn-p.auto.relation ∙ l.0,
+      c.turn-p.auto.changed ∙ l.1,
       omega arith,
       omega arith,
       moves_then l.4 (omega arith) (resting c.turn-p.ensures.0 c.if-p.false (c.turn-p.ensures.1 c.if-p.false)),

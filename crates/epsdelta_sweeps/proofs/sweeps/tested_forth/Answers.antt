@@ -29,6 +29,6 @@ returns c = (
   λ E plenty H f.
       let a = c.args in
       let M = forth_passes c.requires.0 a.struck H (λ R e. f R e ∙ c.if-not-passes.false) in
-      moves_then M (omega arith) (c.tested_back.ensures.0 E a.starts.now a.targets.now a.probs.now a.need plenty c.requires.0 M.held (c.judge-v.ensures (c.if-not-v.false))),
+      moves_then M (omega arith) (c.tested_back.ensures.0 E a.starts.now a.targets.now a.probs.now a.need plenty c.requires.0 M.held (c.judge-v.ensures (not-false _ c.if-not-v.false))),
   λ _. (c.tested_back.ensures.1, c.tested_back.ensures.2, c.tested_back.ensures.3),
 )

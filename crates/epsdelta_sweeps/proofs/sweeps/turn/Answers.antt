@@ -85,7 +85,7 @@ returns-then-not-v c =
 pub returns-then-v-2 : goal.returns-then-v-2
 returns-then-v-2 c =
     let p = c.requires in
-    let f = c.judge_both-v.ensures.0 (c.if-not-v.false) in
+    let f = c.judge_both-v.ensures.0 (not-false _ c.if-not-v.false) in
     (turn_quiet p.0 c.args.struck p.2 p.3 p.4 c.if-exits-s.false (sym c.bit.ensures ∙ c.if-not-bit.false) (λ R e. and_t _ _ (f R e ∙ c.if-v-2.true)), λ _. (refl, refl, refl))
 
 pub strike-requires : goal.strike-requires
@@ -97,5 +97,5 @@ overflow_add-result c = let f = c.requires.0.few in let h = c.requires.3 in omeg
 pub returns : goal.returns
 returns c =
     let p = c.requires in
-    let f = c.judge_both-v.ensures.0 (c.if-not-v.false) in
+    let f = c.judge_both-v.ensures.0 (not-false _ c.if-not-v.false) in
     (turn_fails p.0 c.args.struck p.2 p.3 p.4 c.if-exits-s.false (sym c.bit.ensures ∙ c.if-not-bit.false) (λ R e. f R e ∙ c.if-v-2.false) c.strike.ensures.0 c.strike.ensures.1, λ _. (refl, refl, refl))
