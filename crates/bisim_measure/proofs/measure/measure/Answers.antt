@@ -1,15 +1,9 @@
 -- A refusal leaves all as it was; else the models are measured.
 use mathlib.Core.Path.{◌∙◌}
-use Rattle.bisim_core.specs.Data.{Columns, columns}
-use Rattle.chain_theory.specs.Columns.{ChainColumns, chain_columns}
+use Rattle.bisim_core.specs.Data.{columns}
+use Rattle.chain_theory.specs.Columns.{chain_columns}
 use Rattle.bisim_measure.proofs.Measuring.{turned_back, measured}
 use Rattle.bisim_measure.proofs.measure.measure.Goals as goal
-
-abbrev left_lists : goal.Start → ChainColumns
-leftLists s = chain_columns s.args.left_chain_offsets.now s.args.left_chain_targets.now s.args.left_chain_probs.now s.args.left_chain_seen.now
-
-abbrev right_lists : goal.Start → ChainColumns
-rightLists s = chain_columns s.args.right_chain_offsets.now s.args.right_chain_targets.now s.args.right_chain_probs.now s.args.right_chain_seen.now
 
 pub shape_of-left_chain_offsets-then-made-ne0 : goal.shape_of-left_chain_offsets-then-made-ne0
 shape_of-left_chain_offsets-then-made-ne0 c = c.make_chains-made.auto.left_chain_offsets
@@ -38,7 +32,7 @@ shape_of-right_chain_seen-then-made-ne0 c = c.make_chains-made.auto.right_chain_
 pub returns-then-made-ne0 : goal.returns-then-made-ne0
 returns-then-made-ne0 c =
     let a = c.args in
-    turned_back a.left (leftModel s) a.left_state.0 a.left_observations.now (leftLists s) a.right (rightModel s) a.right_state.0 a.right_observations.now (rightLists s) a.gamma a.options a.lefts.now a.rights.now a.codes.now a.places.now a.masses.now a.records _ _ c.make_chains-made.ensures c.if-made-ne0.true c.refused.ensures
+    turned_back a.left (columns a.left_values.now a.left_offsets.now a.left_labels.now a.left_targets.now a.left_weights.now) a.left_state.0 a.left_observations.now (chain_columns a.left_chain_offsets.now a.left_chain_targets.now a.left_chain_probs.now a.left_chain_seen.now) a.right (columns a.right_values.now a.right_offsets.now a.right_labels.now a.right_targets.now a.right_weights.now) a.right_state.0 a.right_observations.now (chain_columns a.right_chain_offsets.now a.right_chain_targets.now a.right_chain_probs.now a.right_chain_seen.now) a.gamma a.options a.lefts.now a.rights.now a.codes.now a.places.now a.masses.now a.records _ _ c.make_chains-made.ensures c.if-made-ne0.true c.refused.ensures
 
 pub shape_of-left_chain_offsets : goal.shape_of-left_chain_offsets
 shape_of-left_chain_offsets c = c.run_chains.auto.left_offsets ∙ c.make_chains-made.auto.left_chain_offsets
@@ -82,7 +76,7 @@ shape_of-masses c = c.run_chains.auto.masses
 pub returns : goal.returns
 returns c =
     let a = c.args in
-    let k = c.make_chains-made.auto.left in
-    measured a.left (leftModel s) a.left_state.0 a.left_observations.now (leftLists s) a.right (rightModel s) a.right_state.0 a.right_observations.now (rightLists s) a.gamma a.options a.lefts.now a.rights.now a.codes.now a.places.now a.masses.now a.records _ c.make_chains-made.ensures c.if-made-ne0.false
-    k.1.1.1.1.1.1.1.1.0 k.1.1.1.1.1.1.1.1.1.0 k.1.1.1.1.1.1.1.1.1.1.0 k.1.1.1.1.1.1.1.1.1.1.1.0 k.1.1.1.1.1.1.1.1.1.1.1.1.1.1.1.1.1.1.1.1.0 k.1.1.1.1.1.1.1.1.1.1.1.1.1.1.1.1.1.1.1.1.1.0 k.1.1.1.1.1.1.1.1.1.1.1.1.1.1.1.1.1.1.1.1.1.1.0 k.1.1.1.1.1.1.1.1.1.1.1.1.1.1.1.1.1.1.1.1.1.1.1.0
+    let k = c.make_chains-made.auto in
+    measured a.left (columns a.left_values.now a.left_offsets.now a.left_labels.now a.left_targets.now a.left_weights.now) a.left_state.0 a.left_observations.now (chain_columns a.left_chain_offsets.now a.left_chain_targets.now a.left_chain_probs.now a.left_chain_seen.now) a.right (columns a.right_values.now a.right_offsets.now a.right_labels.now a.right_targets.now a.right_weights.now) a.right_state.0 a.right_observations.now (chain_columns a.right_chain_offsets.now a.right_chain_targets.now a.right_chain_probs.now a.right_chain_seen.now) a.gamma a.options a.lefts.now a.rights.now a.codes.now a.places.now a.masses.now a.records _ c.make_chains-made.ensures c.if-made-ne0.false
+    k.left_chain_offsets k.left_chain_targets k.left_chain_probs k.left_chain_seen k.right_chain_offsets k.right_chain_targets k.right_chain_probs k.right_chain_seen
     _ c.run_chains.ensures
