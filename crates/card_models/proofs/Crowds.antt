@@ -47,6 +47,7 @@ others_in n s y (a ∷ E) h i = pick (others_in n s y E h.1) (eqb a.source s) (e
     pick r true true e k = r k
     pick r true false e (inl q) = (subst (λ (x : ℕ). x < n) (sym q) h.0, λ z. eqb-false a.target s e (sym q ∙ z))
     pick r true false e (inr k) = r k
+others_in n s y [] h i = elim i [ ]
 
 module _ (n : ℕ) (E : List Edge) (h : n ≤ 32) (low : AllE (λ a. a.target < n) E) where
   others_few : (s : ℕ) → s < n → length (distinct (others s E)) ≤ 31
