@@ -34,13 +34,7 @@ fn expect_scale(buf: &[u8], r: Reader, answer: Normalised) -> Reader {
 }
 
 // The answer, and the observations as `normalise` leaves them.
-fn compare(
-    buf: &[u8],
-    r: Reader,
-    answer: Normalised,
-    left: &[f64],
-    right: &[f64],
-) -> Reader {
+fn compare(buf: &[u8], r: Reader, answer: Normalised, left: &[f64], right: &[f64]) -> Reader {
     let s = expect_scale(buf, r, answer);
     let t = lists::expect_reals(buf, s, left);
     lists::expect_reals(buf, t, right)

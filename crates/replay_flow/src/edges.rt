@@ -41,13 +41,7 @@ fn expect_links(buf: &[u8], r: Reader, net: FlowNetwork, n: usize) -> Reader {
     expect_rows(buf, r, &heads, &caps, &costs, n)
 }
 
-fn expect_lists(
-    buf: &[u8],
-    r: Reader,
-    net: FlowNetwork,
-    starts: usize,
-    n: usize,
-) -> Reader {
+fn expect_lists(buf: &[u8], r: Reader, net: FlowNetwork, starts: usize, n: usize) -> Reader {
     let own = net.starts;
     let list = net.list;
     let s = lists::expect_list(buf, r, lists::front(&own, starts));
