@@ -7,6 +7,7 @@ use Rattle.exports.proofs.networks.tanqesha_max_flow_rows.Goals as goal
 
 pub returns : goal.returns
 returns c = let a = c.args in record {
-      pushes_after = c.put_flow.ensures ∙ ap (λ (e : Outcome). of_flow e.answer a.flow.now a.phases.now a.pushes.now) c.flow_rows-answer.ensures;
-      caps_after = ap (λ (e : Outcome). e.caps) c.flow_rows-answer.ensures;
-      claimed = every_run a.heads.now a.caps.now a.costs.now a.starts.now a.list.now a.nodes a.source a.sink }
+  pushes_after = c.put_flow.ensures ∙ ap (λ (e : Outcome). of_flow e.answer a.flow.now a.phases.now a.pushes.now) c.flow_rows-answer.ensures;
+  caps_after = ap (λ (e : Outcome). e.caps) c.flow_rows-answer.ensures;
+  claimed = every_run a.heads.now a.caps.now a.costs.now a.starts.now a.list.now a.nodes a.source a.sink;
+}
