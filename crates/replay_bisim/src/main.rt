@@ -36,8 +36,12 @@ fn main(rt: HostRuntime) -> io::Result<()> {
     let buf = text::input(&rt)?;
     let mut counts = [0u64; 48];
     run_all(&buf, &mut counts);
-    tally::print_entry(&rt, "bisim_distance bisim_distance ", &counts,
-        models::BISIM_DISTANCE,)?;
+    tally::print_entry(
+        &rt,
+        "bisim_distance bisim_distance ",
+        &counts,
+        models::BISIM_DISTANCE,
+    )?;
     tally::print_entry(&rt, "other ", &counts, tally::OTHER)?;
     tally::print_total(&rt, &counts)?;
     Ok(())

@@ -21,12 +21,7 @@ pub struct Side {
     pub r: Reader,
 }
 
-pub fn read(
-    buf: &[u8],
-    r: Reader,
-    cells: &mut [u32; 400],
-    reals: &mut [f64; 200],
-) -> Side {
+pub fn read(buf: &[u8], r: Reader, cells: &mut [u32; 400], reals: &mut [f64; 200]) -> Side {
     let x = columns::read_shape(buf, r);
     let v = stores::list_at(buf, x.r, cells, 0);
     let o = stores::list_at(buf, v.r, cells, v.n);
