@@ -2,7 +2,7 @@
 use mathlib.Core.Path.{◌≡◌, refl}
 use Prim.Native.Nat.{ℕ}
 use mathlib.Core.List.{List, [], ◌∷◌}
-use Rattle.bisim_core.specs.Ids.{ends, intern, interning, get, resolve}
+use Rattle.bisim_core.specs.Ids.{ends, interning, get, resolve}
 use Rattle.bisim_core.specs.declared.ids.Interned.TheVariants as interned
 use Rattle.bisim_core.specs.declared.ids.Found.TheVariants as found
 use Rattle.bisim_core.specs.declared.ids.Resolved.TheVariants as resolved

@@ -1,27 +1,24 @@
 -- Why `intern`, `get` and `resolve` answer as defined. Each check is a test of the list in use, `take count labels`: it has `count` entries unless the labels are too few,
 -- and none is listed twice where each entry is found at its own place. Past the checks, an old value leaves the labels as they are, and a new one is set behind the `count` in use.
-use mathlib.Core.Path.{◌≡◌, refl, sym, subst, ap, ◌∙◌}
+use mathlib.Core.Path.{◌≡◌, refl, sym, ap, ◌∙◌}
 use mathlib.Core.Logic.{◌⊎◌, inl, inr, ◌≢◌}
 use mathlib.Core.Bool.{Bool, true, false, ◌&&◌, ◌||◌, not}
-use Prim.Native.Nat.{ℕ, zero, suc, ◌+◌, ◌≤◌, ◌<◌}
+use Prim.Native.Nat.{ℕ, suc, ◌+◌, ◌≤◌, ◌<◌}
 use mathlib.Core.List.{List, [], ◌∷◌, ◌++◌, append_assoc}
 use native.Mathlib.Omega.{arith}
 use native.Mathlib.Numerals.{add-one}
 use lib.Dec.{eqb, ltb, leb}
 use lib.ListN.{length, get_or, take, drop, set, length-append, take-append-drop}
-use lib.Seq.{length-take-le, take_all, get_or-take, set_split}
+use lib.Seq.{length-take-le, take_all, set_split}
 use borrow.Author.Tests.{eq-eqb, ne_eqb, lt-ltb, le-ltb, le-leb, lt-leb, ltb-true, ltb-false}
-use Rattle.numbers.specs.Refuse.{check}
-use Rattle.numbers.specs.Lists.{every, over}
+use Rattle.numbers.specs.Lists.{over}
 use Rattle.numbers.specs.Search.{seek}
 use Rattle.numbers.proofs.Refuses.{check_hit, check_skip, hit, skip, none}
-use Rattle.numbers.proofs.Alls.{every_of, every_not}
 use Rattle.numbers.proofs.Bools.{or_f}
 use Rattle.numbers.proofs.Seeks.{seek_new}
 use Rattle.bisim_core.specs.Ids.{listed, single, mislisted, intern, intern_refusal, get_refusal, resolve_refusal, intern_ends, get_ends, resolve_ends, Outcome, ends, entered, interning, id_of, get, resolve}
 use Rattle.bisim_core.proofs.Distinct.{intern_old, intern_new}
 use Rattle.bisim_core.specs.declared.ids.Interned.TheVariants as interned
-use Rattle.bisim_core.specs.declared.ids.Found.{Found}
 use Rattle.bisim_core.specs.declared.ids.Found.TheVariants as found
 use Rattle.bisim_core.specs.declared.ids.Resolved.TheVariants as resolved
 

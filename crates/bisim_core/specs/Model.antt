@@ -1,7 +1,7 @@
 -- A built model that is handed in, its counts beside its columns: when it is accepted, and what its readers answer (`Wlts` of wlts.rs).
 use Rattle.std.specs.Prelude.{ℕ, zero, suc, ◌+◌, ◌-◌, Bool, true, false, ◌&&◌, ◌||◌, not, List, [], ◌∷◌, ◌++◌, map, length, get_or, take, eqb, ltb, leb, Float}
-use Rattle.std.specs.Float.{binary64, nan}
-use Rattle.std.specs.Float.Ieee.{of_bits, le}
+use Rattle.std.specs.Float.{nan}
+use Rattle.std.specs.Float.Ieee.{le}
 use Rattle.numbers.specs.Refuse.{check}
 use Rattle.numbers.specs.Lists.{span, every, all}
 use Rattle.numbers.specs.Search.{seek}

@@ -9,7 +9,7 @@ use lib.ListN.{length}
 use Rattle.numbers.specs.Refuse.{check}
 use Rattle.numbers.proofs.Refuses.{first}
 use Rattle.card_layout.specs.Layout.{laid}
-use Rattle.card_layout.specs.Card.{card, refused, outcome, read, states, count, class_part, transition_part, after_side, last_part, large, side_fault, last_fault, fault, card_in}
+use Rattle.card_layout.specs.Card.{refused, outcome, read, states, count, class_part, transition_part, after_side, last_part, large, side_fault, last_fault, fault, card_in}
 use Rattle.card_layout.specs.Claim.{too_large, large_first}
 use Rattle.card_layout.proofs.Cards.{fault_parts}
 

@@ -12,7 +12,6 @@ use Rattle.card_layout.specs.Card.{Transition, Card, Reading, card, refused, rea
 use Rattle.card_reader.specs.declared.reader.Read.TheVariants.{Card as Accepted, Refused}
 use Rattle.card_reader.specs.declared.reader.Heads.{Heads}
 use Rattle.card_layout.specs.Lists.{Columns, source_of, label_of, target_of, weight_of, stored, filled, roomy, all_classes, all_transitions}
-use Rattle.card_layout.proofs.Filling.{enough}
 use Rattle.card_reader.specs.Answer.{answer, after, Answered, heads_of}
 use Rattle.card_layout.proofs.Cards.{layout_read}
 

@@ -2,7 +2,7 @@
 -- in c and d ε is at a rounding's edge, so that a test back fails where the test forth passed. e is small: the strike of states 2 and 3 rests on one of the same sweep.
 use mathlib.Core.Path.{◌≡◌, refl}
 use Prim.Native.Nat.{ℕ, ◌+◌, ◌*◌}
-use mathlib.Core.Bool.{Bool, true, false, cond}
+use mathlib.Core.Bool.{false, cond}
 use mathlib.Core.List.{List, [], ◌∷◌, ◌++◌}
 use lib.IntN.{pos, negsuc}
 use lib.Ieee.{Float, fin, of_bits}

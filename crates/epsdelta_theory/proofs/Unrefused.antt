@@ -1,7 +1,7 @@
 -- What is known of an input that is not refused: each check passes of both models.
 use mathlib.Core.Path.{◌≡◌, refl}
 use Prim.Native.Nat.{ℕ, ◌≤◌, ◌<◌, ◌+◌}
-use mathlib.Core.Bool.{Bool, true, false, ◌&&◌, ◌||◌, not, true≢false}
+use mathlib.Core.Bool.{Bool, true, false, ◌||◌, not, true≢false}
 use mathlib.Core.List.{List}
 use lib.Dec.{ltb}
 use lib.ListN.{length}

@@ -15,7 +15,7 @@ use Rattle.numbers.specs.Real.{nought}
 use Rattle.numbers.specs.Bits.{bit_at, packed}
 use Rattle.numbers.proofs.Packed.{unpack_at, unpack_length, packed_bit}
 use Rattle.numbers.proofs.Bools.{lt_or_ge}
-use Rattle.epsdelta_theory.specs.Jumps.{Jump, jumps_of}
+use Rattle.epsdelta_theory.specs.Jumps.{jumps_of}
 use Rattle.epsdelta_theory.specs.Relation.{holds, relation_of}
 use Rattle.epsdelta_theory.specs.FlowTest.{Link, link_if, source_links, sink_links, cross_links, all_cross_links, links_of, heads, caps}
 use Rattle.epsdelta_theory.proofs.RowReads.{jumps_length}

@@ -1,6 +1,6 @@
 -- The network of a flow test in three lists: what is left from the source to each target of s, from each target of t to the sink, and, to take back, between targets i and k that are held together.
 -- Labels l, r and s bound how far a node is from the sink: i is 2 l(i) away at least, k is 2 r(k) - 1, and the source 2 s + 1.
-use mathlib.Core.Path.{◌≡◌, refl, sym, ap, subst, subst⁻¹, ◌∙◌}
+use mathlib.Core.Path.{◌≡◌, refl, sym, ap, subst⁻¹, ◌∙◌}
 use Prim.Native.Nat.{ℕ, suc, ◌≤◌, ◌<◌, ◌+◌, ◌-◌, ◌*◌}
 use mathlib.Core.Bool.{Bool, true, false, cond, true≢false}
 use mathlib.Core.Logic.{◌≢◌, ◌⊎◌, inl, inr}

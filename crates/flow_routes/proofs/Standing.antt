@@ -18,7 +18,7 @@ use Rattle.flow_theory.proofs.Links.{WellFormed}
 use Rattle.flow_theory.proofs.Floats.{above_low, sub_self}
 use Rattle.flow_theory.proofs.Pushes.{plain_next, plain_below}
 use Rattle.epsdelta_theory.specs.Jumps.{Jump}
-use Rattle.epsdelta_theory.specs.FlowTest.{caps, network_between, run_between}
+use Rattle.epsdelta_theory.specs.FlowTest.{network_between, run_between}
 use Rattle.epsdelta_theory.proofs.Pairs.{same_entry, pair_cases}
 use Rattle.flow_routes.proofs.Rising.{Rising}
 use Rattle.flow_routes.proofs.Underway.{Underway, underway_caps}

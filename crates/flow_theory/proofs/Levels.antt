@@ -1,7 +1,7 @@
 -- The levels that the search from the source leaves (`Levels`): the source has 0, each other level is one more than that of a node with a residual link to it, and no residual link leads more than one level up.
 -- Invariant: the queue holds nodes of level m, then of m + 1; every node with a level is queued, at hand, or has all its links looked at. Each node is queued once, so a turn for each node is enough.
 use mathlib.Core.Path.{◌≡◌, refl, sym, ap, ◌∙◌}
-use Prim.Native.Nat.{ℕ, zero, suc, ◌≤◌, ◌<◌, ◌+◌, ◌-◌}
+use Prim.Native.Nat.{ℕ, zero, suc, ◌≤◌, ◌<◌, ◌+◌}
 use mathlib.Core.Bool.{Bool, true, false, ◌&&◌}
 use mathlib.Core.Logic.{◌≢◌, ◌⊎◌, inl, inr}
 use mathlib.Core.List.{List, [], ◌∷◌, ◌++◌}

@@ -1,7 +1,7 @@
 -- A phase makes at most one push for each added link, and after it the sink's level is higher.
 -- Each push leaves one admissible link less, and of a link and its reverse one at most is admissible. At the end every path of admissible links is blocked, and a link that became residual leads down, so levels set afterwards are no lower, and the sink's is higher.
 use mathlib.Core.Path.{◌≡◌, refl, sym, subst, subst⁻¹, ap, ◌∙◌}
-use Prim.Native.Nat.{ℕ, zero, suc, ◌≤◌, ◌<◌, ◌+◌, ◌-◌}
+use Prim.Native.Nat.{ℕ, zero, suc, ◌≤◌, ◌<◌, ◌+◌}
 use mathlib.Core.Bool.{Bool, true, false, false≢true}
 use mathlib.Core.Logic.{◌≢◌, ◌⊎◌, inl, inr}
 use mathlib.Core.List.{List, []}

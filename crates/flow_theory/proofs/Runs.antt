@@ -1,7 +1,7 @@
 -- A whole run on a well-formed network keeps `FlowClaim`.
 -- Invariant: the sink's level rose with each phase, so there were no more phases than its last level; where the levels do not reach the sink, no residual link leads out of the nodes with a level.
 use mathlib.Core.Path.{◌≡◌, refl, sym, ap, ◌∙◌}
-use Prim.Native.Nat.{ℕ, zero, suc, ◌≤◌, ◌<◌, ◌+◌, ◌-◌}
+use Prim.Native.Nat.{ℕ, zero, suc, ◌≤◌, ◌<◌, ◌+◌}
 use mathlib.Core.Bool.{Bool, true, false, not, false≢true, true≢false}
 use mathlib.Core.Logic.{◌≢◌, inl, inr}
 use mathlib.Core.List.{List, [], ◌∷◌}

@@ -1,7 +1,7 @@
 -- Laws of tests of every entry, of some entry, and of every number below a count.
 use mathlib.Core.Path.{◌≡◌, refl, sym, subst, ap, ◌∙◌}
 use mathlib.Core.Logic.{◌⊎◌, inl, inr, ◌≢◌}
-use mathlib.Core.Bool.{Bool, true, false, ◌&&◌, ◌||◌, or-true, true≢false}
+use mathlib.Core.Bool.{Bool, true, false, ◌&&◌, true≢false}
 use Prim.Native.Nat.{ℕ, zero, suc, ◌+◌, ◌≤◌, ◌<◌}
 use mathlib.Core.List.{List, [], ◌∷◌, ◌++◌}
 use native.Mathlib.Omega.{arith}
@@ -10,7 +10,7 @@ use native.Mathlib.Nat.{le_of_suc-le-suc, not-suc-le-zero}
 use lib.ListN.{length, get_or, take}
 use lib.Seq.{slice, slice-cons, slice_empty, length-take-le, get_or-take}
 use Rattle.numbers.specs.Lists.{every, all}
-use Rattle.numbers.proofs.Bools.{and_t, or_f, eq_or_ne}
+use Rattle.numbers.proofs.Bools.{and_t, eq_or_ne}
 
 module _ {ℓ} {A : Type ℓ} (t : A → Bool) where
   -- a loop over entries i to n - 1: entry i fails, or holds and the rest decides, or there is none

@@ -1,7 +1,6 @@
 -- `epsdelta_theory::rates_close` meets its contract: its tests stand as those of the definition, in the same order, so each end is the value of the last test made.
 use mathlib.Core.Path.{◌≡◌, refl, sym, ◌∙◌}
 use mathlib.Core.Bool.{Bool, true, false, ◌&&◌}
-use mathlib.Core.Logic.{inl, inr}
 use lib.Ieee.{Float, binary64, lt, le, mul}
 use Rattle.numbers.specs.Real.{nought, is_zero}
 use Rattle.numbers.proofs.Bools.{and_first, and_second, or_first}

@@ -1,5 +1,4 @@
 use mathlib.Core.Path.{◌≡◌, sym, ap, ◌∙◌}
-use mathlib.Core.Bool.{false}
 use mathlib.Core.List.{List, []}
 use Prim.Native.Nat.{ℕ, ◌+◌}
 use native.Mathlib.Omega.{arith}
@@ -40,25 +39,24 @@ count_others-requires c =
 pub returns-then-count_others-gt31 : goal.returns-then-count_others-gt31
 returns-then-count_others-gt31 c =
     let counted : (D L : List ℕ) (W : List Float) → crowded_at (rows (columns D c.args.offsets.now L c.args.edge_targets.now W) 0 c.args.states) c.loop-s.s ≡ ltb 31 c.count_others.result = λ D L W. let a = c.args in
-        let s = c.loop-s.s in
-        let M = columns D a.offsets.now L a.edge_targets.now W in
-        crowded_at_lem M a.states s c.loop-s-test.true
-        ∙ ap (ltb 31) (sym (c.count_others.ensures.0 D a.offsets.now L W ∙ ap (λ l. length (distinct (others s l))) (row_is M s _ _ c.wide-from.ensures c.wide-to.ensures))) in
+    let s = c.loop-s.s in
+    let M = columns D a.offsets.now L a.edge_targets.now W in
+    crowded_at_lem M a.states s c.loop-s-test.true
+    ∙ ap (ltb 31) (sym (c.count_others.ensures.0 D a.offsets.now L W ∙ ap (λ l. length (distinct (others s l))) (row_is M s _ _ c.wide-from.ensures c.wide-to.ensures))) in
     λ D L W. sym (crowded_by _ _ c.loop-s.s c.loop-s-test.true (counted D L W ∙ lt-ltb _ _ c.if-count_others-gt31.true))
 
 pub loop-s-preserved : goal.loop-s-preserved
 loop-s-preserved c =
     let counted : (D L : List ℕ) (W : List Float) → crowded_at (rows (columns D c.args.offsets.now L c.args.edge_targets.now W) 0 c.args.states) c.loop-s.s ≡ ltb 31 c.count_others.result = λ D L W. let a = c.args in
-        let s = c.loop-s.s in
-        let M = columns D a.offsets.now L a.edge_targets.now W in
-        crowded_at_lem M a.states s c.loop-s-test.true
-        ∙ ap (ltb 31) (sym (c.count_others.ensures.0 D a.offsets.now L W ∙ ap (λ l. length (distinct (others s l))) (row_is M s _ _ c.wide-from.ensures c.wide-to.ensures))) in
-    (
-  omega arith,
-  c.count_others.auto.marks ∙ c.loop-s.invariant.1,
-  c.count_others.ensures.1,
-  below_more _ _ c.loop-s.invariant.3 (λ D L W. counted D L W ∙ le-ltb _ _ c.if-count_others-gt31.false),
-)
+    let s = c.loop-s.s in
+    let M = columns D a.offsets.now L a.edge_targets.now W in
+    crowded_at_lem M a.states s c.loop-s-test.true
+    ∙ ap (ltb 31) (sym (c.count_others.ensures.0 D a.offsets.now L W ∙ ap (λ l. length (distinct (others s l))) (row_is M s _ _ c.wide-from.ensures c.wide-to.ensures))) in (
+      omega arith,
+      c.count_others.auto.marks ∙ c.loop-s.invariant.1,
+      c.count_others.ensures.1,
+      below_more _ _ c.loop-s.invariant.3 (λ D L W. counted D L W ∙ le-ltb _ _ c.if-count_others-gt31.false),
+    )
 
 pub returns : goal.returns
 returns c =

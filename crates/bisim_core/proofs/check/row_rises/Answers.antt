@@ -3,7 +3,6 @@ use mathlib.Core.List.{List, []}
 use Prim.Native.Nat.{ℕ}
 use native.Mathlib.Omega.{arith}
 use lib.Ieee.{Float}
-use borrow.Author.Tests.{not-true, not-false}
 use Rattle.bisim_core.specs.Data.{Columns, columns}
 use Rattle.bisim_core.proofs.RowChecks.{rise_on, rise_stop, rise_end}
 use Rattle.bisim_core.proofs.check.row_rises.Goals as goal

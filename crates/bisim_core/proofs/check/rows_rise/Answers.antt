@@ -1,10 +1,8 @@
 use mathlib.Core.Path.{◌≡◌, sym, ap, ◌∙◌}
-use mathlib.Core.Bool.{true}
 use mathlib.Core.List.{List, []}
 use Prim.Native.Nat.{ℕ, ◌+◌}
 use native.Mathlib.Omega.{arith}
 use lib.Ieee.{Float}
-use borrow.Author.Tests.{not-true, not-false}
 use borrow.Author.Count.{below_more}
 use Rattle.numbers.proofs.Alls.{every_of, every_not}
 use Rattle.bisim_core.specs.Data.{columns}
@@ -32,15 +30,15 @@ row_rises-requires c =
 pub returns-then-not-row_rises : goal.returns-then-not-row_rises
 returns-then-not-row_rises c =
     let answer : (D : List ℕ) (W : List Float) → c.row_rises.result ≡ rises (row (columns D c.args.offsets.now c.args.edge_labels.now c.args.edge_targets.now W) c.loop-s.s) = λ D W. let a = c.args in
-        let s = c.loop-s.s in
-        c.row_rises.ensures s W ∙ ap rises (row_is (columns D a.offsets.now a.edge_labels.now a.edge_targets.now W) s _ _ c.wide-from.ensures c.wide-to.ensures) in
+    let s = c.loop-s.s in
+    c.row_rises.ensures s W ∙ ap rises (row_is (columns D a.offsets.now a.edge_labels.now a.edge_targets.now W) s _ _ c.wide-from.ensures c.wide-to.ensures) in
     λ D W. sym (every_not _ _ _ c.loop-s-test.true (sym (answer D W) ∙ c.if-not-row_rises.true))
 
 pub loop-s-preserved : goal.loop-s-preserved
 loop-s-preserved c =
     let answer : (D : List ℕ) (W : List Float) → c.row_rises.result ≡ rises (row (columns D c.args.offsets.now c.args.edge_labels.now c.args.edge_targets.now W) c.loop-s.s) = λ D W. let a = c.args in
-        let s = c.loop-s.s in
-        c.row_rises.ensures s W ∙ ap rises (row_is (columns D a.offsets.now a.edge_labels.now a.edge_targets.now W) s _ _ c.wide-from.ensures c.wide-to.ensures) in
+    let s = c.loop-s.s in
+    c.row_rises.ensures s W ∙ ap rises (row_is (columns D a.offsets.now a.edge_labels.now a.edge_targets.now W) s _ _ c.wide-from.ensures c.wide-to.ensures) in
     (omega arith, below_more _ _ c.loop-s.invariant.1 (λ D W. sym (answer D W) ∙ c.if-not-row_rises.false))
 
 pub returns : goal.returns

@@ -5,8 +5,7 @@ use native.Mathlib.Omega.{arith}
 use borrow.Author.Tests.{not-false}
 use Rattle.numbers.specs.Lists.{every}
 use Rattle.numbers.proofs.Refuses.{hit, skip}
-use Rattle.bisim_core.specs.Data.{Columns, columns}
-use Rattle.bisim_core.specs.declared.wlts.Shape.{Shape}
+use Rattle.bisim_core.specs.Data.{columns}
 use Rattle.bisim_core.specs.Model.{starts_outside, thin, steady, rises, row}
 use Rattle.bisim_core.proofs.Fits.{Roomy, roomy, Steady, steady_is, sound_rows}
 use Rattle.bisim_core.proofs.check.unfit.Goals as goal

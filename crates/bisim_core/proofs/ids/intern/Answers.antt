@@ -24,7 +24,7 @@ returns-then-not-old c =
 pub returns-then-mislisted : goal.returns-then-mislisted
 returns-then-mislisted c =
     let small : over_many c.args.labels.now c.args.count c.args.value ≡ false = let a = c.args in
-        few_enough a.labels.now a.count a.value c.if-count-gt256.false (elim c.else-count-eq256.branch [ else-count-eq256-via-then-count-eq256+else-not-old w ↦ inr (sym c.known-old.ensures ∙ w.if-not-old.false) | else-count-eq256-via-else-count-eq256 w ↦ inl w.if-count-eq256.false ]) in
+    few_enough a.labels.now a.count a.value c.if-count-gt256.false (elim c.else-count-eq256.branch [ else-count-eq256-via-then-count-eq256+else-not-old w ↦ inr (sym c.known-old.ensures ∙ w.if-not-old.false) | else-count-eq256-via-else-count-eq256 w ↦ inl w.if-count-eq256.false ]) in
     let a = c.args in
     refused_4 a.labels.now a.count a.value small (sym c.mislisted.ensures ∙ c.if-mislisted.true)
 
@@ -40,7 +40,7 @@ overflow_cast-result c =
 pub returns-then-old : goal.returns-then-old
 returns-then-old c =
     let small : over_many c.args.labels.now c.args.count c.args.value ≡ false = let a = c.args in
-        few_enough a.labels.now a.count a.value c.if-count-gt256.false (elim c.else-count-eq256.branch [ else-count-eq256-via-then-count-eq256+else-not-old w ↦ inr (sym c.known-old.ensures ∙ w.if-not-old.false) | else-count-eq256-via-else-count-eq256 w ↦ inl w.if-count-eq256.false ]) in
+    few_enough a.labels.now a.count a.value c.if-count-gt256.false (elim c.else-count-eq256.branch [ else-count-eq256-via-then-count-eq256+else-not-old w ↦ inr (sym c.known-old.ensures ∙ w.if-not-old.false) | else-count-eq256-via-else-count-eq256 w ↦ inl w.if-count-eq256.false ]) in
     let fit : mislisted c.args.labels.now c.args.count ≡ false = sym c.mislisted.ensures ∙ c.if-mislisted.false in
     let a = c.args in
     ap (λ (i : ℕ). ends (Id (record { 0 = i }) a.count) a.labels.now) c.seek-at.ensures
@@ -49,7 +49,7 @@ returns-then-old c =
 pub returns-then-labels-count : goal.returns-then-labels-count
 returns-then-labels-count c =
     let small : over_many c.args.labels.now c.args.count c.args.value ≡ false = let a = c.args in
-        few_enough a.labels.now a.count a.value c.if-count-gt256.false (elim c.else-count-eq256.branch [ else-count-eq256-via-then-count-eq256+else-not-old w ↦ inr (sym c.known-old.ensures ∙ w.if-not-old.false) | else-count-eq256-via-else-count-eq256 w ↦ inl w.if-count-eq256.false ]) in
+    few_enough a.labels.now a.count a.value c.if-count-gt256.false (elim c.else-count-eq256.branch [ else-count-eq256-via-then-count-eq256+else-not-old w ↦ inr (sym c.known-old.ensures ∙ w.if-not-old.false) | else-count-eq256-via-else-count-eq256 w ↦ inl w.if-count-eq256.false ]) in
     let fit : mislisted c.args.labels.now c.args.count ≡ false = sym c.mislisted.ensures ∙ c.if-mislisted.false in
     let a = c.args in
     refused_7 a.labels.now a.count a.value small fit (sym c.known-old.ensures ∙ c.if-old.false) c.if-labels-count.true
@@ -57,7 +57,7 @@ returns-then-labels-count c =
 pub returns : goal.returns
 returns c =
     let small : over_many c.args.labels.now c.args.count c.args.value ≡ false = let a = c.args in
-        few_enough a.labels.now a.count a.value c.if-count-gt256.false (elim c.else-count-eq256.branch [ else-count-eq256-via-then-count-eq256+else-not-old w ↦ inr (sym c.known-old.ensures ∙ w.if-not-old.false) | else-count-eq256-via-else-count-eq256 w ↦ inl w.if-count-eq256.false ]) in
+    few_enough a.labels.now a.count a.value c.if-count-gt256.false (elim c.else-count-eq256.branch [ else-count-eq256-via-then-count-eq256+else-not-old w ↦ inr (sym c.known-old.ensures ∙ w.if-not-old.false) | else-count-eq256-via-else-count-eq256 w ↦ inl w.if-count-eq256.false ]) in
     let fit : mislisted c.args.labels.now c.args.count ≡ false = sym c.mislisted.ensures ∙ c.if-mislisted.false in
     let a = c.args in
     added a.labels.now a.count a.value small fit (sym c.known-old.ensures ∙ c.if-old.false) c.if-labels-count.false

@@ -3,8 +3,7 @@ use mathlib.Core.Path.{◌≡◌, sym, ap, ◌∙◌}
 use mathlib.Core.Bool.{false, not}
 use native.Mathlib.Omega.{arith}
 use Rattle.numbers.specs.Lists.{all}
-use Rattle.bisim_core.specs.Data.{Columns, columns}
-use Rattle.bisim_core.specs.declared.wlts.Shape.{Shape}
+use Rattle.bisim_core.specs.Data.{columns}
 use Rattle.bisim_core.specs.Model.{large, unfit, rows, joined_weighs}
 use Rattle.bisim_core.proofs.Fits.{small, Fit, fit, weigh_rows, target_in, refused_3, refused_4, refused_5, refused_6, refused_none}
 use Rattle.bisim_core.proofs.wlts.model_refusal.Goals as goal

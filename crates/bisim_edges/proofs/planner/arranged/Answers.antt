@@ -2,7 +2,7 @@
 use mathlib.Core.Path.{◌≡◌, sym, subst, ◌∙◌}
 use mathlib.Core.List.{[]}
 use Prim.Native.Nat.{ℕ}
-use Rattle.bisim_core.specs.Data.{Transitions, transitions}
+use Rattle.bisim_core.specs.Data.{transitions}
 use Rattle.build_theory.specs.Checks.{reach, crowded}
 use Rattle.build_theory.proofs.Steps.{Sorted, Crowded}
 use Rattle.bisim_edges.proofs.Arranges.{Call, many_states, many_labels, faulty, sortable, crowd_is, crowds, crammed, all_pass}

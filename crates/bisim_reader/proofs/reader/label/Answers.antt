@@ -7,8 +7,7 @@ use lib.Dec.{eqb, leb}
 use lib.ListN.{get_or}
 use borrow.Author.Tests.{leb-false}
 use Rattle.numbers.specs.Refuse.{check}
-use Rattle.bisim_core.specs.Data.{Columns, columns}
-use Rattle.bisim_core.specs.declared.wlts.Shape.{Shape}
+use Rattle.bisim_core.specs.Data.{columns}
 use Rattle.bisim_core.specs.Ids.{resolve_ends}
 use Rattle.bisim_core.specs.Model.{refusal_with}
 use Rattle.bisim_core.specs.Model as model

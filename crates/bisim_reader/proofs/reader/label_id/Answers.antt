@@ -5,8 +5,7 @@ use native.Mathlib.Omega.{arith}
 use lib.ListN.{take}
 use lib.Seq.{length-take-le}
 use Rattle.numbers.specs.Search.{seek}
-use Rattle.bisim_core.specs.Data.{Columns, columns}
-use Rattle.bisim_core.specs.declared.wlts.Shape.{Shape}
+use Rattle.bisim_core.specs.Data.{columns}
 use Rattle.bisim_core.specs.Ids.{listed, id_of, get_ends}
 use Rattle.bisim_core.specs.Model.{label_id}
 use Rattle.bisim_core.proofs.Fits.{Small, Fit}

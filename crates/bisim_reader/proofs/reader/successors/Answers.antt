@@ -7,8 +7,7 @@ use lib.Dec.{eqb, leb}
 use lib.ListN.{get_or}
 use borrow.Author.Tests.{leb-false}
 use Rattle.numbers.specs.Refuse.{check}
-use Rattle.bisim_core.specs.Data.{Columns, columns}
-use Rattle.bisim_core.specs.declared.wlts.Shape.{Shape}
+use Rattle.bisim_core.specs.Data.{columns}
 use Rattle.bisim_core.specs.Model.{begins, refusal_with, row_ends, successors_of}
 use Rattle.bisim_core.proofs.Fits.{Small, Fit}
 use Rattle.bisim_reader.proofs.Answers.{refusal_with_lem, none_refused, row_refused, row_found}

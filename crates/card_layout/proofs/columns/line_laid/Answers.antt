@@ -1,4 +1,4 @@
-use borrow.Author.Tests.{le-ltb, not-true, not-false}
+use borrow.Author.Tests.{le-ltb}
 use mathlib.Core.Bool.{true}
 use mathlib.Core.List.{List}
 use Rattle.card_layout.specs.Layout.{column, value, starts}

@@ -2,8 +2,6 @@ use Prim.Native.Nat.{◌+◌, ◌*◌, ◌≤◌}
 use native.Mathlib.Omega.{arith}
 use mathlib.Core.Path.{refl, sym, ◌∙◌}
 use lib.ListN.{length}
-use borrow.Author.Tests.{not-true, not-false}
-use Rattle.card_layout.specs.Layout.{laid}
 use Rattle.card_layout.proofs.Steps.{rows_all, rows_on, rows_off, rows_room, rows_end}
 use Rattle.card_layout.proofs.columns.lines_laid.Goals as goal
 
@@ -20,20 +18,20 @@ returns-then-not-line_laid c =
 
 pub overflow_mul-p : goal.overflow_mul-p
 overflow_mul-p c =
-    let room : c.loop-i.p + (6 * c.args.k + 1) ≤ length c.args.s.now = 
-        rows_room c.args.s.now 0 c.args.k 0 c.loop-i.p (omega arith) (sym c.if-not-line_laid.false ∙ c.line_laid.ensures) in
+    let room : c.loop-i.p + (6 * c.args.k + 1) ≤ length c.args.s.now =
+    rows_room c.args.s.now 0 c.args.k 0 c.loop-i.p (omega arith) (sym c.if-not-line_laid.false ∙ c.line_laid.ensures) in
     let h = room in omega arith
 
 pub overflow_add-p : goal.overflow_add-p
 overflow_add-p c =
-    let room : c.loop-i.p + (6 * c.args.k + 1) ≤ length c.args.s.now = 
-        rows_room c.args.s.now 0 c.args.k 0 c.loop-i.p (omega arith) (sym c.if-not-line_laid.false ∙ c.line_laid.ensures) in
+    let room : c.loop-i.p + (6 * c.args.k + 1) ≤ length c.args.s.now =
+    rows_room c.args.s.now 0 c.args.k 0 c.loop-i.p (omega arith) (sym c.if-not-line_laid.false ∙ c.line_laid.ensures) in
     let h = room in omega arith
 
 pub overflow_add-p-in-loop-i : goal.overflow_add-p-in-loop-i
 overflow_add-p-in-loop-i c =
-    let room : c.loop-i.p + (6 * c.args.k + 1) ≤ length c.args.s.now = 
-        rows_room c.args.s.now 0 c.args.k 0 c.loop-i.p (omega arith) (sym c.if-not-line_laid.false ∙ c.line_laid.ensures) in
+    let room : c.loop-i.p + (6 * c.args.k + 1) ≤ length c.args.s.now =
+    rows_room c.args.s.now 0 c.args.k 0 c.loop-i.p (omega arith) (sym c.if-not-line_laid.false ∙ c.line_laid.ensures) in
     let h = room in omega arith
 
 pub overflow_add-i : goal.overflow_add-i

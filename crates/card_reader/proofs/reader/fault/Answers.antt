@@ -1,6 +1,5 @@
 -- `reader::fault` meets its contract.
 use mathlib.Core.Path.{refl, sym, ◌∙◌}
-use borrow.Author.Tests.{not-true, not-false}
 use Rattle.card_reader.proofs.Fills.{left_off, right_off, last_off, last_more, no_fault}
 use Rattle.card_reader.proofs.reader.fault.Goals as goal
 

@@ -1,6 +1,5 @@
 -- `reader::read_card` meets its contract.
 use mathlib.Core.Path.{sym, ◌∙◌}
-use borrow.Author.Tests.{not-true, not-false}
 use Rattle.card_layout.specs.Card.{card_in}
 use Rattle.card_layout.specs.Lists.{columns}
 use Rattle.card_reader.proofs.Fills.{refused_answered, short_answered, card_answered, counts_together}

@@ -4,7 +4,6 @@ use native.Mathlib.Omega.{arith}
 use mathlib.Core.Path.{◌≡◌, refl, sym, ◌∙◌}
 use mathlib.Core.Bool.{true}
 use lib.ListN.{drop}
-use borrow.Author.Tests.{not-true, not-false}
 use Rattle.card_layout.specs.Layout.{laid}
 use Rattle.card_reader.proofs.Checks.{head_off, states_over, transitions_over, classes_off, transitions_off, side_passed}
 use Rattle.card_reader.proofs.reader.side_fault.Goals as goal

@@ -1,5 +1,5 @@
 -- A model that fails decides the answer; else both are accepted, and the greatest exit rates are those of the models.
-use Rattle.bisim_core.specs.Data.{Columns, columns}
+use Rattle.bisim_core.specs.Data.{columns}
 use Rattle.bisim_core.proofs.Accepted.{Accepted}
 use Rattle.parts.proofs.Models.{models_accepted, readable}
 use Rattle.chains.proofs.Answers.{greatest_of, rate_not, rate_is}

@@ -1,7 +1,7 @@
 -- A model that is refused or a short list leaves the lists; else what `lay` leaves is the chain.
 use mathlib.Core.Path.{refl, sym, ◌∙◌}
-use Rattle.bisim_core.specs.Data.{Columns, columns}
-use Rattle.chain_theory.specs.Columns.{ChainColumns, chain_columns}
+use Rattle.bisim_core.specs.Data.{columns}
+use Rattle.chain_theory.specs.Columns.{chain_columns}
 use Rattle.chains.proofs.Answers.{ready, enough, made, made_length, made_at, laid_is, lay_refused, lay_cramped, lay_made}
 use Rattle.chains.proofs.chain.lay_chain.Goals as goal
 

@@ -1,6 +1,6 @@
 -- A refusal leaves the lists; else the model is accepted and no list is short, and what `lay` leaves is the chain.
-use Rattle.bisim_core.specs.Data.{Columns, columns}
-use Rattle.chain_theory.specs.Columns.{ChainColumns, chain_columns}
+use Rattle.bisim_core.specs.Data.{columns}
+use Rattle.chain_theory.specs.Columns.{chain_columns}
 use Rattle.chains.proofs.Answers.{enough, made, made_length, made_at, laid_is, answer_refused, ready_to, answer_made}
 use Rattle.chains.proofs.chain.uniformise.Goals as goal
 

@@ -1,8 +1,8 @@
 -- By the cases of the checks, in their order: a place behind a check knows that it passed.
 use mathlib.Core.Path.{◌≡◌, sym, ap, ◌∙◌}
 use mathlib.Core.Bool.{Bool, not}
-use Rattle.bisim_core.specs.Data.{Columns, columns}
-use Rattle.chain_theory.specs.Columns.{ChainColumns, chain_columns}
+use Rattle.bisim_core.specs.Data.{columns}
+use Rattle.chain_theory.specs.Columns.{chain_columns}
 use Rattle.chains.proofs.Answers.{refused_model, refused_7, refused_8, refused_11, refused_12, refused_none}
 use Rattle.chains.proofs.checks.uniformise_refusal.Goals as goal
 

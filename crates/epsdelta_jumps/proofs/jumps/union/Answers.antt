@@ -1,7 +1,7 @@
 -- A place behind a check knows that it passed: a model that fails decides the answer, then the lengths of the lists; else both models are accepted, and what `both_rows` makes is their union.
 use mathlib.Core.Path.{refl, sym, ◌∙◌}
 use mathlib.Core.Bool.{true, false}
-use Rattle.bisim_core.specs.Data.{Columns, columns}
+use Rattle.bisim_core.specs.Data.{columns}
 use Rattle.bisim_core.proofs.Accepted.{Accepted}
 use Rattle.epsdelta_jumps.proofs.Unions.{refused, unrefused, both, ready, united, no_rows, short_no_rows}
 use Rattle.epsdelta_jumps.proofs.jumps.union.Goals as goal

@@ -1,6 +1,5 @@
 -- The place sought has lower targets before it only; if t stands there its rate is added to, else it is put in there (Inserts).
 use mathlib.Core.Path.{◌≡◌, refl, sym}
-use mathlib.Core.Logic.{⊎_elim}
 use Prim.Native.Nat.{◌<◌}
 use native.Mathlib.Omega.{arith}
 use lib.ListN.{get_or, take}
