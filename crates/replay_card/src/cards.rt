@@ -84,13 +84,7 @@ fn read(buf: &[u8], r: Reader, card: &mut [u8], most: usize) -> Given {
     }
 }
 
-fn check(
-    buf: &[u8],
-    g: Given,
-    counts: &mut [u64; 48],
-    card: &[u8],
-    out: &mut [u8],
-) -> Reader {
+fn check(buf: &[u8], g: Given, counts: &mut [u64; 48], card: &[u8], out: &mut [u8]) -> Reader {
     let t = answer(card, out, g.byte);
     let s = answers::expect_one(buf, g.r, t.answer);
     let e = expect_store(buf, s, out, t.written, g.byte);

@@ -16,13 +16,7 @@ const RELATION: u64 = 0x72656c6174696f6e;
 
 const RELATED: u64 = 0x72656c61746564;
 
-fn run_kind(
-    buf: &[u8],
-    r: Reader,
-    counts: &mut [u64; 48],
-    store: &mut [u8],
-    kind: u64,
-) -> Reader {
+fn run_kind(buf: &[u8], r: Reader, counts: &mut [u64; 48], store: &mut [u8], kind: u64) -> Reader {
     if kind == RELATION {
         return relations::run(buf, r, counts, store);
     }
@@ -50,8 +44,12 @@ fn run_all(buf: &[u8], counts: &mut [u64; 48], store: &mut [u8]) {
 
 fn print_all(rt: &impl Print, counts: &[u64; 48]) -> io::Result<()> {
     tally::print_entry(rt, "relation epsdelta ", counts, entries::EPSDELTA)?;
-    tally::print_entry(rt, "relation epsdelta_bisimilar ", counts,
-        entries::EPSDELTA_BISIMILAR,)?;
+    tally::print_entry(
+        rt,
+        "relation epsdelta_bisimilar ",
+        counts,
+        entries::EPSDELTA_BISIMILAR,
+    )?;
     tally::print_entry(rt, "relation min_epsilon ", counts, entries::MIN_EPSILON)?;
     tally::print_entry(rt, "related ", counts, entries::RELATED)?;
     tally::print_entry(rt, "other ", counts, tally::OTHER)?;

@@ -439,12 +439,7 @@ pub fn run(buf: &[u8], r: Reader, counts: &mut [u64; 48], bytes: &mut [u8]) -> R
 }
 
 // Whether the bytes, as they are handed in, hold s with t.
-pub fn run_related(
-    buf: &[u8],
-    r: Reader,
-    counts: &mut [u64; 48],
-    bytes: &mut [u8],
-) -> Reader {
+pub fn run_related(buf: &[u8], r: Reader, counts: &mut [u64; 48], bytes: &mut [u8]) -> Reader {
     let mut listed = [0u8; 512];
     let left = text::number_field(buf, r);
     let right = text::number_field(buf, left.r);
