@@ -1,6 +1,6 @@
 -- What is known where the arguments of `bisim_distance` pass all checks.
 use mathlib.Core.Path.{◌≡◌, refl}
-use mathlib.Core.Bool.{Bool, true, false, not, ◌||◌}
+use mathlib.Core.Bool.{true, false, not, ◌||◌}
 use Prim.Native.Nat.{ℕ, ◌≤◌, ◌<◌}
 use mathlib.Core.List.{List}
 use lib.ListN.{length}
@@ -9,7 +9,6 @@ use lib.Ieee.{Float}
 use borrow.Author.Tests.{ltb-false, leb-false, not-false}
 use Rattle.numbers.specs.Real.{least_observation, greatest_weight}
 use Rattle.numbers.specs.Lists.{all}
-use Rattle.numbers.specs.Refuse.{check}
 use Rattle.numbers.proofs.Bools.{or_f}
 use Rattle.numbers.proofs.Refuses.{check_none, check_skip}
 use Rattle.bisim_core.specs.Data.{Columns}

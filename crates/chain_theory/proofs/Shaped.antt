@@ -1,14 +1,13 @@
 -- What is known of a chain that passes check 4: what every reader of its columns may build on.
 use mathlib.Core.Path.{◌≡◌}
 use mathlib.Core.Bool.{false, not}
-use Prim.Native.Nat.{ℕ, ◌+◌, ◌-◌, ◌≤◌, ◌<◌}
+use Prim.Native.Nat.{ℕ, ◌+◌, ◌≤◌, ◌<◌}
 use mathlib.Core.List.{List}
 use native.Mathlib.Omega.{arith}
 use lib.Dec.{eqb, ltb}
 use lib.Ieee.{Float}
 use lib.ListN.{length, get_or}
 use borrow.Author.Tests.{ltb-true, ltb-false, leb-true, eqb-true, not-false}
-use Rattle.numbers.specs.Lists.{every}
 use Rattle.numbers.proofs.Bools.{and_t, or_f}
 use Rattle.numbers.proofs.Alls.{every_at, all_front}
 use Rattle.chain_theory.specs.Columns.{ChainColumns, begins}

@@ -1,6 +1,6 @@
 -- Couplings of two rows as the code makes them: the rows side by side in lists, and the pairs looked up in any way.
 use mathlib.Core.Path.{◌≡◌, refl, sym, subst, ap, ap₂, ◌∙◌}
-use Prim.Native.Nat.{ℕ, zero, suc, ◌≤◌, ◌<◌, ◌+◌, ◌*◌, ◌/◌, ◌%◌}
+use Prim.Native.Nat.{ℕ, ◌≤◌, ◌<◌, ◌+◌, ◌*◌, ◌/◌, ◌%◌}
 use mathlib.Core.Bool.{Bool, true, false, not, ◌&&◌}
 use mathlib.Core.List.{List, [], ◌∷◌, map}
 use native.Mathlib.Omega.{arith}
@@ -8,7 +8,7 @@ use native.Mathlib.Nat.{div-lt_iff_lt-mul, mod-lt, mul-le-mul, div-add-mod'}
 use lib.Dec.{eqb, leb}
 use lib.ListN.{length, get_or, set, length-map, get_or-map, get_or-append}
 use lib.Seq.{ext_get_or}
-use lib.Ieee.{Float, nan, binary64, add, mul, div}
+use lib.Ieee.{Float, nan, binary64, mul, div}
 use borrow.Author.Tests.{eqb-true, leb-true, not-true, not-false}
 use Rattle.numbers.specs.Lists.{over, span}
 use Rattle.numbers.specs.Real.{nought, sum}
@@ -23,7 +23,7 @@ use Rattle.epsdelta_theory.proofs.RowReads.{no_jump, jumps_length, jumps_targets
 use Rattle.transport_theory.specs.Transport.{Cell, Transport, transport}
 use Rattle.transport_theory.proofs.Networks.{columns_some}
 use Rattle.distance_theory.specs.Pairs.{Pair, pair, place, cross, target_pair}
-use Rattle.distance_theory.specs.Couplings.{Share, share, weighed, expected, independent, Best, fitted, values_at, planned, point_mass, best_of}
+use Rattle.distance_theory.specs.Couplings.{Share, share, expected, independent, Best, fitted, point_mass, best_of}
 use Rattle.distance_theory.proofs.Crossings.{map_at, cross_length, cross_at}
 use Rattle.distance_theory.proofs.Store.{Celled, transport_celled, transport_length}
 use Rattle.distance_theory.proofs.Turns.{share_at}

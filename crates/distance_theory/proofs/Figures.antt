@@ -11,21 +11,20 @@ use Rattle.bisim_core.specs.Data.{Columns, columns}
 use Rattle.bisim_core.specs.declared.wlts.Shape.{Shape}
 use Rattle.bisim_core.specs.declared.wlts.Initial.TheVariants.{At}
 use Rattle.flow_theory.specs.Network.{Net}
-use Rattle.flow_theory.specs.Run.{Phase, FlowRun, max_flow}
+use Rattle.flow_theory.specs.Run.{max_flow}
 use Rattle.flow_theory.specs.Claim.{in_cut}
 use Rattle.epsdelta_theory.specs.Epsdelta.{rates_close}
 use Rattle.epsdelta_theory.specs.Refusal.{epsdelta_refusal}
 use Rattle.epsdelta_theory.specs.Bisimilar.{bisimilar}
-use Rattle.epsdelta_theory.specs.MinEpsilon.{at, Search, min_epsilon}
+use Rattle.epsdelta_theory.specs.MinEpsilon.{at, min_epsilon}
 use Rattle.chain_theory.specs.Columns.{ChainColumns, chain_columns, chain_of}
 use Rattle.chain_theory.specs.declared.ChainShape.{ChainShape}
 use Rattle.distance_theory.specs.Couplings.{metric}
-use Rattle.distance_theory.specs.Rounds.{Solution, solve}
-use Rattle.distance_theory.specs.Contributions.{Visits, occupancy}
+use Rattle.distance_theory.specs.Rounds.{solve}
+use Rattle.distance_theory.specs.Contributions.{occupancy}
 use Rattle.distance_theory.specs.Outcome.{Lent, lent, Outcome, distance}
 use Rattle.distance_theory.specs.declared.MetricOptions.{MetricOptions}
 use Rattle.distance_theory.specs.declared.PairContribution.{PairContribution}
-use Rattle.distance_theory.specs.declared.Distance.{Distance}
 use Rattle.distance_theory.specs.declared.Measured.{Measured}
 use Rattle.distance_theory.specs.declared.Measured.TheVariants as says
 

@@ -2,20 +2,20 @@
 use mathlib.Core.Path.{◌≡◌, refl, sym, subst, subst⁻¹, ap, ap₂, ◌∙◌}
 use mathlib.Core.Logic.{◌⊎◌, inl, inr, ◌≢◌}
 use Prim.Native.Nat.{ℕ, zero, suc, ◌≤◌, ◌<◌, ◌+◌, ◌*◌, ◌-◌, ◌/◌, ◌%◌}
-use mathlib.Core.Bool.{Bool, true, false, ◌&&◌, true≢false}
+use mathlib.Core.Bool.{Bool, true, false, ◌&&◌}
 use mathlib.Core.List.{List, [], ◌∷◌, ◌++◌, append-nil}
 use native.Mathlib.Omega.{arith}
 use native.Mathlib.Nat.{le_of_suc-le-suc, not-suc-le-zero}
 use lib.Dec.{eqb, ltb}
 use lib.ListN.{length, get_or}
-use borrow.Author.Tests.{ltb-true, ltb-false, lt-ltb, le-ltb, eqb-true, eq-eqb, ne_eqb}
+use borrow.Author.Tests.{ltb-true, lt-ltb, le-ltb, eqb-true, eq-eqb, ne_eqb}
 use Rattle.numbers.specs.Lists.{In}
 use Rattle.numbers.specs.Sort.{put, insert, sort}
 use Rattle.numbers.proofs.Bools.{and_t, lt_or_ge, eq_or_ne}
 use Rattle.numbers.proofs.Members.{Apart, in_at, at_in}
 use Rattle.numbers.proofs.Sorts.{All, Sorted, sort_sorted, sort_length, sort_mid, all_sort, all_at, sorted_at}
 use Rattle.distance_theory.specs.Pairs.{Pair, pair, pair_at, place, most}
-use Rattle.distance_theory.proofs.Inside.{Of, AllOf}
+use Rattle.distance_theory.proofs.Inside.{AllOf}
 use Rattle.distance_theory.proofs.Explore.{place_in, place_at, place_of, place_none}
 
 -- ---- codes

@@ -3,14 +3,14 @@ use mathlib.Core.Path.{◌≡◌, refl, sym, subst, subst⁻¹, ap, ◌∙◌}
 use Prim.Native.Nat.{ℕ, zero, suc, ◌≤◌, ◌<◌, ◌+◌, ◌-◌, min}
 use mathlib.Core.Bool.{Bool, true, false, ◌||◌}
 use mathlib.Core.Logic.{◌⊎◌, inl, inr}
-use mathlib.Core.List.{List, [], ◌∷◌, ◌++◌, map}
+use mathlib.Core.List.{List, [], ◌∷◌, map}
 use native.Mathlib.Omega.{arith}
 use lib.Dec.{eqb, ltb, leb}
 use lib.Ieee.{Float}
-use lib.ListN.{length, get_or, take, drop, length-take, length-drop, length-map}
+use lib.ListN.{length, get_or, take, length-take, length-drop, length-map}
 use lib.Seq.{slice, get_or-take, get_or-drop}
 use borrow.Author.Tests.{ltb-true, ltb-false, leb-true, not-false}
-use Rattle.numbers.specs.Lists.{In, span, all}
+use Rattle.numbers.specs.Lists.{In, span}
 use Rattle.numbers.proofs.Bools.{and_t, or_f}
 use Rattle.numbers.proofs.Alls.{all_at}
 use Rattle.numbers.proofs.Members.{in_at, at_in, in_snoc}

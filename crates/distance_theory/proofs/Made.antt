@@ -1,11 +1,10 @@
 -- A chain made of a model whose edges lead to its states has its targets among these.
 use mathlib.Core.Path.{◌≡◌, refl, subst, subst⁻¹, ap}
-use Prim.Native.Nat.{ℕ, zero, suc, ◌<◌, ◌+◌}
+use Prim.Native.Nat.{ℕ, suc, ◌<◌, ◌+◌}
 use mathlib.Core.Bool.{Bool, true, false}
 use mathlib.Core.Logic.{◌⊎◌, inl, inr}
 use mathlib.Core.List.{List, [], ◌∷◌, map}
 use native.Mathlib.Omega.{arith}
-use lib.Dec.{eqb}
 use lib.Ieee.{Float, lt}
 use lib.ListN.{length, get_or}
 use borrow.Author.Tests.{ne_eqb}
@@ -14,7 +13,7 @@ use Rattle.numbers.specs.Lists.{In}
 use Rattle.bisim_core.specs.Data.{Edge}
 use Rattle.epsdelta_theory.specs.Jumps.{Jump, targets, add_rate, add_edge, add_edges}
 use Rattle.epsdelta_theory.proofs.Targets.{EdgeTo, edges_only}
-use Rattle.chain_theory.specs.Chain.{Chain, exit_rate, stay, staying, divided_edge, chain_row, uniformise}
+use Rattle.chain_theory.specs.Chain.{exit_rate, stay, staying, divided_edge, chain_row, uniformise}
 use Rattle.chain_theory.proofs.Chains.{rows_at}
 use Rattle.distance_theory.proofs.Crossings.{map_in}
 use Rattle.distance_theory.proofs.Inside.{Below, Sound}

@@ -1,18 +1,17 @@
 -- Runs of `distance` that a wrong step would change, with the Rust's answers, bit for bit: the margin of improvement, ties, point masses, the order of rescaling.
 use mathlib.Core.Path.{◌≡◌, refl}
 use Prim.Native.Nat.{ℕ}
-use mathlib.Core.Bool.{true, false}
+use mathlib.Core.Bool.{false}
 use mathlib.Core.List.{List, [], ◌∷◌}
 use lib.IntN.{pos, negsuc}
 use lib.ListN.{length, take, replicate}
 use lib.Ieee.{Float, fin, inf, of_bits}
 use Rattle.numbers.specs.Real.{nought}
-use Rattle.chain_theory.specs.Columns.{ChainColumns, chain_columns}
+use Rattle.chain_theory.specs.Columns.{chain_columns}
 use Rattle.chain_theory.specs.declared.ChainShape.{ChainShape}
 use Rattle.distance_theory.specs.Outcome.{Lent, lent, Outcome, distance}
 use Rattle.distance_theory.specs.declared.MetricOptions.{MetricOptions}
 use Rattle.distance_theory.specs.declared.PairContribution.{PairContribution}
-use Rattle.distance_theory.specs.declared.Distance.{Distance}
 use Rattle.distance_theory.specs.declared.Measured.{Measured}
 use Rattle.distance_theory.specs.declared.Measured.TheVariants as says
 

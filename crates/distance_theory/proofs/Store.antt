@@ -8,7 +8,7 @@ use native.Mathlib.Omega.{arith}
 use native.Mathlib.Nat.{le_of_suc-le-suc, not-suc-le-zero, div-lt_iff_lt-mul, mod-lt, mul-le-mul}
 use lib.ListN.{length, get_or, set, take, length-append, length-map, length-set, get_or-map}
 use lib.Seq.{get_or-set_same, get_or-set_other, get_or-append_seam, append_snoc}
-use lib.Ieee.{Float, nan, binary64, lt, sub}
+use lib.Ieee.{Float, nan, lt}
 use Rattle.numbers.specs.Real.{eps, nought}
 use Rattle.numbers.specs.Choice.{larger, apart}
 use Rattle.numbers.specs.Lists.{In}
@@ -16,12 +16,12 @@ use Rattle.numbers.proofs.Bools.{eq_or_ne}
 use Rattle.numbers.proofs.Members.{in_at}
 use Rattle.epsdelta_theory.specs.Jumps.{Jump, targets, rates}
 use Rattle.chain_theory.specs.Chain.{Chain}
-use Rattle.transport_theory.specs.Transport.{Cell, Transport, Shipment, transport, shipped, plan, keep, moved}
+use Rattle.transport_theory.specs.Transport.{Cell, transport, shipped, plan, keep, moved}
 use Rattle.transport_theory.proofs.Networks.{columns_some}
 use Rattle.transport_theory.proofs.Plans.{plan_length}
-use Rattle.distance_theory.specs.Pairs.{Pair, pair, pair_at, place, most, cross, target_pair, successors, pairs}
-use Rattle.distance_theory.specs.Couplings.{Share, share, expected, independent, Metric, metric, row_l, row_r, Best, fitted, values_at, planned, point_mass, best_of, best_coupling, room}
-use Rattle.distance_theory.specs.Rounds.{backup, Improvement, adopt, better, improve, improve_all, improved_from, valued, Solution, iterate, begin, first_coupling, tolerance, solve}
+use Rattle.distance_theory.specs.Pairs.{Pair, pair, pair_at, place, most, cross, target_pair, pairs}
+use Rattle.distance_theory.specs.Couplings.{Share, independent, Metric, metric, row_l, row_r, fitted, values_at, planned, point_mass, best_of, best_coupling, room}
+use Rattle.distance_theory.specs.Rounds.{backup, Improvement, adopt, better, improve, improve_all, valued, Solution, begin, first_coupling, tolerance, solve}
 use Rattle.distance_theory.specs.declared.MetricOptions.{MetricOptions}
 use Rattle.distance_theory.proofs.Crossings.{map_at, map_all, cross_length, cross_in, cross_all}
 use Rattle.distance_theory.proofs.Explore.{pairs_found}

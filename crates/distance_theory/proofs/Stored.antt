@@ -1,6 +1,6 @@
 -- Laws of the coupling store: shares in two lists, summed part by part.
 use mathlib.Core.Path.{◌≡◌, refl, sym, ap, ap₂, ◌∙◌}
-use Prim.Native.Nat.{ℕ, suc, ◌≤◌, ◌<◌, ◌+◌, min}
+use Prim.Native.Nat.{ℕ, ◌≤◌, ◌<◌, ◌+◌}
 use mathlib.Core.List.{List, [], ◌∷◌, map}
 use native.Mathlib.Omega.{arith}
 use native.Mathlib.Numerals.{add-one}
@@ -9,7 +9,7 @@ use lib.Seq.{slice, drop-cons, get_or-take, take_at}
 use lib.Ieee.{Float, nan, binary64, add, mul}
 use Rattle.numbers.specs.Lists.{over}
 use Rattle.numbers.specs.Real.{nought, sum, sum_from}
-use Rattle.distance_theory.specs.Couplings.{Share, share, weighed, expected}
+use Rattle.distance_theory.specs.Couplings.{Share, weighed, expected}
 use Rattle.distance_theory.proofs.Held.{shares_of}
 use Rattle.distance_theory.proofs.Bests.{ats, parts}
 

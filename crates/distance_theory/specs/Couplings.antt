@@ -1,12 +1,12 @@
 -- Couplings of the rows of a pair: the independent one, and the cheapest against some values (`best_coupling` of kantorovich.rs).
-use Rattle.std.specs.Prelude.{ℕ, ◌+◌, ◌*◌, Bool, true, false, not, ◌&&◌, ◌||◌, List, [], ◌∷◌, map, length, get_or, eqb, Float}
+use Rattle.std.specs.Prelude.{ℕ, ◌+◌, ◌*◌, Bool, true, false, not, ◌||◌, List, [], ◌∷◌, map, length, get_or, eqb, Float}
 use Rattle.std.specs.Float.{nan, binary64}
 use Rattle.std.specs.Float.Ieee.{sub, mul, div}
 use Rattle.numbers.specs.Real.{one, sum}
 use Rattle.numbers.specs.Choice.{apart}
 use Rattle.epsdelta_theory.specs.Jumps.{Jump, targets, rates}
 use Rattle.chain_theory.specs.Chain.{Chain}
-use Rattle.transport_theory.specs.Transport.{Cell, Transport, transport}
+use Rattle.transport_theory.specs.Transport.{Cell, transport}
 use Rattle.transport_theory.specs.Refusal.{unequal}
 use Rattle.distance_theory.specs.Pairs.{Pair, pair, place, cross, target_pair, row_of, pairs}
 

@@ -7,12 +7,12 @@ use Rattle.numbers.specs.Lists.{over}
 use Rattle.bisim_core.specs.Data.{Edge, Columns}
 use Rattle.bisim_core.specs.declared.wlts.Shape.{Shape}
 use Rattle.bisim_core.specs.Model.{model}
-use Rattle.chain_theory.specs.Chain.{Chain, common_rate, uniformise, Scaled, normalise}
+use Rattle.chain_theory.specs.Chain.{Chain, common_rate, uniformise, normalise}
 use Rattle.chain_theory.specs.Columns.{ChainColumns, chain_columns, chain_of}
 use Rattle.chain_theory.specs.declared.ChainShape.{ChainShape}
-use Rattle.distance_theory.specs.Couplings.{Metric, metric}
-use Rattle.distance_theory.specs.Rounds.{Solution, solve}
-use Rattle.distance_theory.specs.Contributions.{Visits, occupancy, listed}
+use Rattle.distance_theory.specs.Couplings.{metric}
+use Rattle.distance_theory.specs.Rounds.{solve}
+use Rattle.distance_theory.specs.Contributions.{occupancy, listed}
 use Rattle.distance_theory.specs.Refusal.{distance_refusal, run_refusal, bisim_refusal}
 use Rattle.distance_theory.specs.declared.MetricOptions.{MetricOptions}
 use Rattle.distance_theory.specs.declared.PairContribution.{PairContribution}

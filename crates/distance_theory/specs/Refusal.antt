@@ -17,7 +17,6 @@ use Rattle.chain_theory.specs.declared.ChainShape.{ChainShape}
 use Rattle.transport_theory.specs.Refusal.{unequal}
 use Rattle.distance_theory.specs.Pairs.{most}
 use Rattle.distance_theory.specs.Couplings.{Metric, room, fitted, even}
-use Rattle.distance_theory.specs.Contributions.{Visits}
 use Rattle.distance_theory.specs.declared.MetricOptions.{MetricOptions}
 
 -- 7: a list of pairs of under 4,096 entries, or under 64 contribution records

@@ -9,11 +9,10 @@ use Rattle.numbers.specs.Real.{nought, one, eps}
 use Rattle.chain_theory.specs.Columns.{ChainColumns}
 use Rattle.distance_theory.specs.Pairs.{most}
 use Rattle.distance_theory.specs.declared.MetricOptions.{MetricOptions}
-use Rattle.distance_theory.specs.declared.Distance.{Distance}
 use Rattle.distance_theory.specs.Rounds.{many}
-use Rattle.distance_words.proofs.Costs.{Priced, pricing}
+use Rattle.distance_words.proofs.Costs.{pricing}
 use Rattle.distance_words.specs.Told.{refused_with}
-use Rattle.distance_words.proofs.Valuing.{Occupied, visited}
+use Rattle.distance_words.proofs.Valuing.{visited}
 use Rattle.distance_words.proofs.Listing.{listed_of}
 use Rattle.distance_words.proofs.Solve.{Solving, solve_of}
 use Rattle.distance_words.specs.declared.told.Accounted.{Accounted}

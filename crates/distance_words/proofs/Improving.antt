@@ -10,7 +10,7 @@ use Rattle.numbers.specs.Choice.{larger, apart}
 use Rattle.numbers.specs.Lists.{over}
 use Rattle.epsdelta_theory.specs.Jumps.{jumps_of}
 use Rattle.chain_theory.specs.Columns.{ChainColumns}
-use Rattle.distance_theory.specs.Couplings.{Share, expected, Best, point_mass}
+use Rattle.distance_theory.specs.Couplings.{expected, Best, point_mass}
 use Rattle.distance_theory.proofs.Index.{look_up}
 use Rattle.distance_theory.proofs.Held.{shares_in}
 use Rattle.distance_theory.proofs.Bests.{Look, ats, parts, best_by, rows_fit}

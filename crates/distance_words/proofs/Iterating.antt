@@ -5,7 +5,7 @@ use mathlib.Core.List.{List}
 use lib.Ieee.{Float, le}
 use Rattle.chain_theory.specs.Columns.{ChainColumns}
 use Rattle.distance_theory.specs.Rounds.{many}
-use Rattle.distance_words.proofs.Valuing.{Valued, evaluated}
+use Rattle.distance_words.proofs.Valuing.{evaluated}
 use Rattle.distance_words.proofs.Improving.{Bettered, improve}
 
 -- what a run reads and never writes: the number of pairs, their states and codes, the chains, costs and discount, where each coupling starts, and how near the values are wanted

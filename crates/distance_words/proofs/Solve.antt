@@ -10,7 +10,7 @@ use Rattle.distance_theory.specs.Rounds.{tolerance}
 use Rattle.distance_theory.specs.declared.MetricOptions.{MetricOptions}
 use Rattle.distance_words.proofs.Store.{Filled, fill}
 use Rattle.distance_words.proofs.Even.{all_even}
-use Rattle.distance_words.proofs.Iterating.{Task, task, Iterated, iterate_from}
+use Rattle.distance_words.proofs.Iterating.{task, Iterated, iterate_from}
 use Rattle.distance_words.specs.declared.told.Solved.{Solved}
 
 -- the number of the refusal, 0 if there is none, the most that a value was off, the rounds made, and the lists then

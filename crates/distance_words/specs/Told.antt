@@ -3,7 +3,6 @@ use Rattle.std.specs.Prelude.{ℕ, zero, suc, List, [], replicate, Float}
 use Rattle.numbers.specs.Real.{nought}
 use Rattle.numbers.specs.Lists.{over}
 use Rattle.distance_theory.specs.declared.PairContribution.{PairContribution}
-use Rattle.distance_theory.specs.declared.Distance.{Distance}
 use Rattle.distance_theory.specs.Outcome.{Run}
 use Rattle.distance_words.specs.declared.told.Told.{Told}
 

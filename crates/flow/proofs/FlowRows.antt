@@ -1,18 +1,18 @@
 -- A network filled from rows whose network is accepted passes the check; so the run on it is that of the definition, and of the flow test where the rows are its links.
 use mathlib.Core.Path.{◌≡◌, refl, sym, ap, subst, ◌∙◌}
 use mathlib.Core.Logic.{◌⊎◌, inl, inr}
-use mathlib.Core.Bool.{Bool, true, false, ◌&&◌, ◌||◌}
+use mathlib.Core.Bool.{Bool, true, false, ◌||◌}
 use Prim.Native.Nat.{ℕ, suc, ◌+◌, ◌/◌, ◌%◌, ◌≤◌, ◌<◌}
-use mathlib.Core.List.{List, [], ◌++◌}
+use mathlib.Core.List.{List, []}
 use native.Mathlib.Omega.{arith}
-use lib.Dec.{T, leb, ltb, eqb}
-use lib.ListN.{length, get_or, take, drop, length-append, length-drop, take-append-drop}
-use lib.Seq.{length-take-le, get_or-take}
+use lib.Dec.{T, ltb}
+use lib.ListN.{length, get_or, take, drop, length-append}
+use lib.Seq.{length-take-le}
 use lib.Ieee.{Float, inf, nan, lt, le, eq, neg, of_bits}
 use lib.Ieee.Bits.{is_true}
 use borrow.Author.Tests.{le-leb, lt-ltb, eq-eqb}
 use Rattle.numbers.specs.Real.{nought, greatest_weight}
-use Rattle.numbers.specs.Lists.{over, all}
+use Rattle.numbers.specs.Lists.{over}
 use Rattle.numbers.proofs.Alls.{all_of, every_of}
 use Rattle.flow_theory.specs.Network.{head, left, rev}
 use Rattle.flow_theory.specs.Rows.{network, starts_of, list_of}
@@ -21,10 +21,9 @@ use Rattle.flow_theory.proofs.Accepted.{Accepted}
 use Rattle.flow_theory.proofs.Outs.{network_nodes}
 use Rattle.flow_theory.proofs.ListRows.{Indexable}
 use Rattle.flow_theory.proofs.Enlisted.{starts_length}
-use Rattle.flow_check.specs.Refusal.{cap_fits, cost_fits, pair_fits, links_fit, sizes_fit, lists_fit, leaves_finite, finite_from, ends_fit, accepts}
+use Rattle.flow_check.specs.Refusal.{cap_fits, cost_fits, pair_fits, links_fit, sizes_fit, lists_fit, leaves_finite, ends_fit}
 use Rattle.flow_check.proofs.Accepting.{infinite_is}
 use Rattle.flow_check.proofs.Laying.{list_length}
-use Rattle.flow_core.specs.declared.rows.Answer.{Answer}
 use Rattle.flow_core.specs.Outcome.{settled}
 use Rattle.flow_core.specs.Test.{flow_between}
 use Rattle.flow_core.proofs.Tests.{written_accepted, answer_is}
@@ -32,7 +31,7 @@ use Rattle.flow_links.proofs.Fitting as links
 use Rattle.epsdelta_theory.specs.Relation.{relation_of}
 use Rattle.flow.specs.declared.network.Link.{Link}
 use Rattle.flow.specs.declared.network.FlowNetwork.{FlowNetwork}
-use Rattle.flow.specs.Network.{heads_of, caps_of, costs_of, flow_if, flow_through}
+use Rattle.flow.specs.Network.{heads_of, caps_of, costs_of, flow_if}
 use Rattle.flow.specs.Filled.{laid, rows_fit, filled, flow_rows_if, flow_rows}
 use Rattle.flow.proofs.Accepted.{accepts_on, ends_fit_lem, spares, same_over}
 use Rattle.flow.proofs.Laid.{row_laid, heads_laid, caps_laid, cost_laid, cost_added, cost_reverse}

@@ -1,8 +1,8 @@
 -- What the checks of `transport` decide, and what the answer is then.
 use mathlib.Core.Path.{◌≡◌, refl, sym, ap, subst, ◌∙◌}
 use mathlib.Core.Logic.{◌≢◌, ◌⊎◌, inl, inr}
-use Prim.Native.Nat.{ℕ, zero, suc, ◌+◌, ◌*◌, ◌/◌, ◌≤◌, ◌<◌}
-use mathlib.Core.Bool.{Bool, true, false, not, ◌&&◌, ◌||◌, true≢false}
+use Prim.Native.Nat.{ℕ, zero, suc, ◌*◌, ◌/◌, ◌≤◌, ◌<◌}
+use mathlib.Core.Bool.{Bool, true, false, not, ◌&&◌, true≢false}
 use mathlib.Core.List.{List}
 use native.Mathlib.Omega.{arith}
 use native.Mathlib.Nat.{div-lt_iff_lt-mul, mul_comm}
@@ -10,15 +10,14 @@ use lib.Dec.{ltb, leb}
 use lib.ListN.{length, take}
 use lib.Seq.{take_all}
 use lib.Ieee.{Float}
-use borrow.Author.Tests.{lt-ltb, le-ltb, ltb-true, ltb-false, leb-true, le-leb, lt-leb, not-true, not-false}
+use borrow.Author.Tests.{lt-ltb, le-ltb, ltb-true, ltb-false, leb-true, le-leb, lt-leb, not-false}
 use Rattle.numbers.specs.Lists.{all}
 use Rattle.numbers.specs.Real.{sum}
 use Rattle.numbers.specs.Refuse.{check}
 use Rattle.numbers.proofs.Bools.{and_t, or_f, lt_or_ge}
 use Rattle.numbers.proofs.Refuses.{check_hit, check_skip, check_none}
 use Rattle.transport_theory.specs.Refusal.{short, fits, masses_fit, costs_fit, unequal, transport_refusal}
-use Rattle.transport_theory.specs.Transport.{Transport, transport}
-use Rattle.transport_theory.proofs.PlanRows.{Planned}
+use Rattle.transport_theory.specs.Transport.{transport}
 use Rattle.transport_theory.proofs.TransportRows.{Roomy, Transported}
 use Rattle.transport.specs.Outcome.{ends, settled, size_refusal}
 use Rattle.transport.specs.declared.entry.Transported.TheVariants as says

@@ -1,7 +1,7 @@
 -- Links that fit are a network that can be sailed, and the rounds on it are the definition's.
-use mathlib.Core.Path.{◌≡◌, refl, sym, ap, subst, ◌∙◌}
+use mathlib.Core.Path.{◌≡◌, sym, ap, subst, ◌∙◌}
 use Prim.Native.Nat.{ℕ, ◌+◌, ◌*◌, ◌≤◌, ◌<◌}
-use mathlib.Core.Bool.{Bool, true, false, ◌&&◌, cond}
+use mathlib.Core.Bool.{Bool, true, false, cond}
 use mathlib.Core.Logic.{◌≢◌}
 use mathlib.Core.List.{List}
 use native.Mathlib.Omega.{arith}
@@ -9,7 +9,7 @@ use lib.Dec.{leb, eqb, ltb, lit<}
 use lib.ListN.{length}
 use lib.Ieee.{Float, binary64, mul}
 use borrow.Author.Tests.{leb-true, le-leb, lt-leb, eqb-true, eq-eqb, ne_eqb}
-use Rattle.numbers.specs.Lists.{over, all}
+use Rattle.numbers.specs.Lists.{over}
 use Rattle.numbers.specs.Real.{nought, one, eps, sum}
 use Rattle.numbers.specs.Choice.{smaller, larger}
 use Rattle.numbers.proofs.Bools.{and_t}
@@ -25,7 +25,7 @@ use Rattle.flow_check.proofs.Relists.{Relisted, listable_indexable, enlisted}
 use Rattle.transport_theory.specs.Transport.{Shipment, rounds, crumbs, round_cap}
 use Rattle.transport_theory.proofs.RoundRows.{row_roads, shipment, Sailable, Shipped}
 use Rattle.transport_theory.proofs.TransportRows.{Linked, shipped_rows}
-use Rattle.transport_theory.proofs.Sending.{sizes_fit, listable, sendable, sent, send_if, send}
+use Rattle.transport_theory.proofs.Sending.{sizes_fit, listable, sent, send}
 
 unset_large : 10000 < unset
 unfolding unset

@@ -1,5 +1,5 @@
 -- What the check of room decides.
-use mathlib.Core.Path.{◌≡◌, refl, sym, ap, ◌∙◌}
+use mathlib.Core.Path.{◌≡◌, ◌∙◌}
 use Prim.Native.Nat.{ℕ, ◌+◌, ◌*◌, ◌≤◌, ◌<◌}
 use mathlib.Core.Bool.{Bool, true, false, ◌&&◌}
 use mathlib.Core.List.{List}
@@ -13,7 +13,7 @@ use Rattle.numbers.proofs.Bools.{and_t}
 use Rattle.transport_theory.specs.Links.{links, heads, caps, prices}
 use Rattle.transport_theory.proofs.LinkRows.{Writable}
 use Rattle.transport_theory.proofs.Networks.{cells_few, links_length}
-use Rattle.transport_theory.proofs.Writing.{has_room, wrote, write_if, write}
+use Rattle.transport_theory.proofs.Writing.{has_room, wrote, write}
 
 pub few_links : (m n : ℕ) → m ≤ 32 → n ≤ 32 → m + n + m * n ≤ 1088
 few_links m n f g = let l = cells_few m n f g in omega arith

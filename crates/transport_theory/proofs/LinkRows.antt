@@ -1,6 +1,6 @@
 -- Words of private contracts: the links of `transport` as they are written into rows of heads, capacities and costs, two places each.
 use mathlib.Core.Path.{◌≡◌}
-use Prim.Native.Nat.{ℕ, ◌+◌, ◌*◌, ◌≤◌, ◌<◌}
+use Prim.Native.Nat.{ℕ, ◌+◌, ◌*◌, ◌≤◌}
 use mathlib.Core.List.{List}
 use lib.ListN.{length, get_or, set}
 use lib.Ieee.{Float, nan, neg}

@@ -5,7 +5,7 @@ use mathlib.Core.Bool.{false}
 use mathlib.Core.List.{List, [], ◌∷◌, ◌++◌}
 use native.Mathlib.Omega.{arith}
 use native.Mathlib.Nat.{le_of_suc-le-suc, not-suc-le-zero, div-lt_iff_lt-mul, mod-lt}
-use lib.ListN.{length, get_or, set, take, drop, get_or-append}
+use lib.ListN.{length, get_or, set, get_or-append}
 use lib.Seq.{get_or-append-add, get_or-take, length-take-le}
 use lib.Ieee.{Float, nan, inf, neg}
 use Rattle.numbers.specs.Real.{nought}

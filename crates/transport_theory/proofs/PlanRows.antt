@@ -2,12 +2,11 @@
 use mathlib.Core.Path.{◌≡◌}
 use Prim.Native.Nat.{ℕ, ◌+◌, ◌*◌, ◌≤◌, ◌<◌}
 use mathlib.Core.List.{List, map}
-use lib.ListN.{length, take}
+use lib.ListN.{length}
 use lib.Ieee.{Float}
-use Rattle.numbers.specs.Real.{sum}
 use Rattle.numbers.specs.Lists.{over}
 use Rattle.flow_theory.specs.Network.{rev}
-use Rattle.transport_theory.specs.Transport.{Cell, plan, bills}
+use Rattle.transport_theory.specs.Transport.{Cell}
 
 -- capacities and costs of count cells of n columns, and room for them
 pub record Plannable (c : List Float) (first m n : ℕ) (costs : List Float) (rows columns : List ℕ) (masses : List Float) : Type 0 where

@@ -1,19 +1,18 @@
 -- The loop that writes the plan: the cells that are still to come are the rest of the plan.
-use mathlib.Core.Path.{◌≡◌, refl, sym, ap, subst, ◌∙◌}
+use mathlib.Core.Path.{◌≡◌, refl, sym, ap, ◌∙◌}
 use Prim.Native.Nat.{ℕ, zero, suc, ◌+◌, ◌-◌, ◌*◌, ◌/◌, ◌%◌, ◌≤◌, ◌<◌}
 use mathlib.Core.Bool.{Bool, true, false}
 use mathlib.Core.List.{List, [], ◌∷◌, map}
 use native.Mathlib.Omega.{arith}
 use native.Mathlib.Numerals.{add-one}
-use native.Mathlib.Nat.{le_of_suc-le-suc, not-suc-le-zero, div-lt_iff_lt-mul, mod-lt}
+use native.Mathlib.Nat.{div-lt_iff_lt-mul, mod-lt}
 use lib.Bits.{bit_xor}
-use lib.ListN.{length, get_or, set, take, drop, length-set, length-map, get_or-map}
+use lib.ListN.{length, get_or, set, take, drop, length-map, get_or-map}
 use lib.Seq.{slice, slice_empty, slice-cons}
 use lib.Ieee.{Float, nan, binary64, lt, add, mul}
 use Rattle.numbers.specs.Real.{nought, eps, sum_from, sum}
-use Rattle.numbers.specs.Lists
 use Rattle.numbers.proofs.Over.{over, over_next, over_done, over_length}
-use Rattle.flow_theory.specs.Network.{rev, left}
+use Rattle.flow_theory.specs.Network.{left}
 use Rattle.flow_theory.proofs.Links.{rev_xor}
 use Rattle.transport_theory.specs.Transport.{Cell, keep, moved, plan, bills}
 use Rattle.transport_theory.proofs.Networks.{columns_some, cells_few}

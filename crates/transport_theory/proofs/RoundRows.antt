@@ -13,7 +13,7 @@ use Rattle.flow_theory.proofs.LevelRows.{InRows}
 use Rattle.transport_theory.specs.Links.{Roads}
 use Rattle.numbers.specs.Lists.{In}
 use Rattle.transport_theory.specs.Shortest.{route}
-use Rattle.transport_theory.specs.Transport.{Shipment, Turn, more, done, move, turn}
+use Rattle.transport_theory.specs.Transport.{Shipment, more, done, move, turn}
 use Rattle.transport_theory.proofs.WalkRows.{Walkable}
 
 -- the network of n nodes whose links have these heads and costs

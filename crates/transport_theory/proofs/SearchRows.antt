@@ -6,7 +6,7 @@ use mathlib.Core.List.{List}
 use lib.ListN.{length, get_or}
 use lib.Seq.{slice}
 use lib.Ieee.{Float}
-use Rattle.flow_theory.specs.Network.{nodes, links}
+use Rattle.flow_theory.specs.Network.{nodes}
 use Rattle.flow_theory.proofs.Links.{WellFormed}
 use Rattle.flow_theory.proofs.LevelRows.{InRows}
 use Rattle.transport_theory.specs.Links.{Roads}

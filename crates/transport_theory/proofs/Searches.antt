@@ -1,20 +1,20 @@
 -- The loops of the search over rows: one link is one `relax` of the definition, one node one `leave`, one pass one `whole_pass`.
-use mathlib.Core.Path.{◌≡◌, refl, sym, ap, ap₂, subst, ◌∙◌}
+use mathlib.Core.Path.{◌≡◌, refl, sym, ap, ap₂, ◌∙◌}
 use mathlib.Core.Bool.{Bool, true, false, ◌&&◌, true≢false}
 use mathlib.Core.Logic.{◌⊎◌, inl, inr}
-use Prim.Native.Nat.{ℕ, zero, suc, ◌+◌, ◌-◌, ◌≤◌, ◌<◌}
-use mathlib.Core.List.{List, [], ◌∷◌}
+use Prim.Native.Nat.{ℕ, suc, ◌+◌, ◌-◌, ◌≤◌, ◌<◌}
+use mathlib.Core.List.{List}
 use native.Mathlib.Omega.{arith}
 use native.Mathlib.Numerals.{add-one}
 use lib.ListN.{length, get_or, set, length-set}
 use lib.Seq.{slice, slice_empty, slice-cons}
-use lib.Ieee.{Float, of_bits, binary64, nan, lt, add, sub, eq}
+use lib.Ieee.{Float, binary64, nan, lt, add, sub}
 use Rattle.numbers.specs.Real.{margin, eps}
-use Rattle.flow_theory.specs.Network.{Net, nodes, links, head, out, residual, left}
+use Rattle.flow_theory.specs.Network.{nodes, links, head, out, residual, left}
 use Rattle.flow_theory.proofs.Outs.{link_in}
 use Rattle.transport_theory.specs.Links.{Roads}
 use Rattle.transport_theory.specs.Shortest.{infinite, Tree, far, shorten, along, relax, relax_all, leave, pass, whole_pass, search}
-use Rattle.transport_theory.proofs.SearchRows.{tree, Relaxable, Relaxed, InRoads, Passable, Passed, Found, Searched}
+use Rattle.transport_theory.proofs.SearchRows.{tree, Relaxable, Relaxed, InRoads, Passable, Passed, Searched}
 
 -- ---- the links of a node
 

@@ -1,30 +1,28 @@
 -- A round over rows is a `turn` of the definition, and the loop of rounds is `rounds`.
 use mathlib.Core.Path.{◌≡◌, refl, sym, ap, subst, subst⁻¹, ◌∙◌}
-use mathlib.Core.Logic.{◌⊎◌, inl, inr}
 use mathlib.Core.Bool.{Bool, true, false, not, ◌&&◌}
-use Prim.Native.Nat.{ℕ, zero, suc, ◌+◌, ◌-◌, ◌≤◌, ◌<◌}
-use mathlib.Core.List.{List, []}
+use Prim.Native.Nat.{ℕ, suc, ◌+◌, ◌-◌, ◌≤◌, ◌<◌}
+use mathlib.Core.List.{List}
 use native.Mathlib.Omega.{arith}
 use native.Mathlib.Numerals.{add-one}
-use lib.Dec.{eqb, lit<}
+use lib.Dec.{lit<}
 use lib.ListN.{length, get_or, set, take, replicate, length-set, length-replicate}
 use lib.Ieee.{Float, nan, inf, binary64, lt, le, sub}
 use Rattle.numbers.specs.Real.{nought, eps}
-use Rattle.numbers.specs.Lists.{In}
 use Rattle.numbers.proofs.Parts.{take_replicate, take_replicate_length}
-use Rattle.flow_theory.specs.Network.{Net, nodes, links, rev, tail}
+use Rattle.flow_theory.specs.Network.{Net, nodes, links, rev}
 use Rattle.flow_theory.specs.Levels.{unset}
 use Rattle.flow_theory.specs.Augment.{least, push_path}
 use Rattle.flow_theory.specs.Rows.{network}
-use Rattle.flow_theory.proofs.Links.{rev_in, WellFormed}
+use Rattle.flow_theory.proofs.Links.{rev_in}
 use Rattle.flow_theory.proofs.Outs.{network_nodes}
 use Rattle.flow_theory.proofs.PathRows.{Placed}
 use Rattle.transport_theory.specs.Links.{Roads}
-use Rattle.transport_theory.specs.Shortest.{infinite, Tree, far, sprout, shortest, search, route, ends}
+use Rattle.transport_theory.specs.Shortest.{infinite, Tree, far, sprout, shortest, search}
 use Rattle.transport_theory.specs.Transport.{Shipment, Turn, more, done, give_up, ship, move, turn, rounds}
 use Rattle.transport_theory.proofs.Paths.{Grown, Reached, shortest_grown, walk_step, route_in}
 use Rattle.transport_theory.proofs.SearchRows.{tree, InRoads, Passable, Found, Searched}
-use Rattle.transport_theory.proofs.WalkRows.{ReachedBy, Back, Walkable, Walked}
+use Rattle.transport_theory.proofs.WalkRows.{Walkable, Walked}
 use Rattle.transport_theory.proofs.Walks.{path_placed}
 use Rattle.transport_theory.proofs.RoundRows.{row_roads, shipment, Sailable, RoundReady, Movable, Moved, Turned, Shipped}
 

@@ -2,13 +2,13 @@
 use mathlib.Core.Path.{◌≡◌, refl, sym, ap, subst, ◌∙◌}
 use mathlib.Core.Logic.{◌≢◌}
 use mathlib.Core.Bool.{Bool, true, false}
-use Prim.Native.Nat.{ℕ, zero, suc, ◌+◌, ◌-◌, ◌≤◌, ◌<◌}
+use Prim.Native.Nat.{ℕ, suc, ◌+◌, ◌-◌, ◌≤◌, ◌<◌}
 use mathlib.Core.List.{List, [], ◌∷◌, ◌++◌, append-nil}
 use native.Mathlib.Omega.{arith}
 use native.Mathlib.Numerals.{add-one}
 use lib.Bits.{bit_xor}
 use lib.ListN.{length, get_or, set, take, length-set}
-use lib.Seq.{slice, slice_empty, slice-cons, take-suc-set, append_snoc, get_or-take, length-take-le}
+use lib.Seq.{slice, slice_empty, slice-cons, take-suc-set, get_or-take, length-take-le}
 use lib.Ieee.{Float, nan, lt}
 use borrow.Author.Tests.{eq-eqb, ne_eqb}
 use Rattle.numbers.specs.Choice.{choose, smaller}
@@ -18,7 +18,6 @@ use Rattle.flow_theory.specs.Network.{Net, nodes, links, rev, head, tail, left}
 use Rattle.flow_theory.specs.Rows.{network}
 use Rattle.flow_theory.specs.Augment.{least}
 use Rattle.flow_theory.proofs.Links.{rev_xor}
-use Rattle.flow_theory.proofs.Outs.{network_nodes}
 use Rattle.flow_theory.proofs.PathRows.{Placed}
 use Rattle.transport_theory.specs.Shortest.{route, ends}
 use Rattle.transport_theory.proofs.Paths.{route_step, route_home, ends_step, ends_home}

@@ -3,7 +3,7 @@ use Rattle.std.specs.Prelude.{ℕ, suc, ◌+◌, ◌*◌, ◌/◌, ◌%◌, fals
 use Rattle.std.specs.Float.{inf}
 use Rattle.std.specs.Float.Ieee.{neg}
 use Rattle.numbers.specs.Real.{nought}
-use Rattle.flow_theory.specs.Network.{Net, node_lists}
+use Rattle.flow_theory.specs.Network.{Net}
 use Rattle.flow_theory.specs.Rows.{network}
 
 -- an added link: the nodes where it starts and ends, its capacity and its cost

@@ -10,7 +10,6 @@ use Rattle.numbers.specs.Lists.{all}
 use Rattle.numbers.proofs.Bools.{lt_or_ge}
 use Rattle.numbers.proofs.Alls.{all_on, all_stop, all_end}
 use Rattle.chain_theory.specs.Check.{within}
-use borrow.Author.Tests.{not-true, not-false}
 use Rattle.chain_theory.proofs.all_within.Goals as goal
 
 take_least : (l : List Float) (n e : ℕ) → e ≡ min n (length l) → (e ≤ length l) × (take n l ≡ take e l)

@@ -1,5 +1,5 @@
 -- A chain that fails decides the answer and leaves the observations; else both have an observation for each state, and these are scaled together.
-use Rattle.chain_theory.specs.Columns.{ChainColumns, chain_columns}
+use Rattle.chain_theory.specs.Columns.{chain_columns}
 use Rattle.normalise.proofs.Scaling.{answer_refused, both_long, answer_scaled}
 use Rattle.normalise.proofs.normalise.Goals as goal
 

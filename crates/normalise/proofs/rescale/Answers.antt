@@ -1,7 +1,6 @@
 use mathlib.Core.Path.{refl, ◌∙◌}
 use native.Mathlib.Omega.{arith}
 use lib.ListN.{length-set}
-use Rattle.chain_theory.specs.Chain.{scaled}
 use Rattle.normalise.proofs.Scaling.{scale_next, scale_done}
 use Rattle.normalise.proofs.rescale.Goals as goal
 

@@ -1,6 +1,6 @@
 -- The plan refuses, or the columns that it did not fill are written from the triples that it left.
 use Rattle.bisim_core.specs.Data.{transitions, columns}
-use Rattle.bisim_build.proofs.Builds.{Call, plan_refused, fillable, plan_passed}
+use Rattle.bisim_build.proofs.Builds.{plan_refused, fillable, plan_passed}
 use Rattle.bisim_build.proofs.builder.build_in.Goals as goal
 
 pub fill-requires : goal.fill-requires

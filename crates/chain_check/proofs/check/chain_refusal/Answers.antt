@@ -1,6 +1,5 @@
 -- By the cases of the checks, in their order: a place behind a check knows that it passed.
 use mathlib.Core.Path.{sym, ◌∙◌}
-use borrow.Author.Tests.{not-true, not-false}
 use Rattle.chain_theory.specs.Columns.{chain_columns}
 use Rattle.chain_theory.proofs.Shaped.{shaped}
 use Rattle.chain_check.proofs.Checks.{is_4, is_7, is_12, is_large, is_improper, is_none}

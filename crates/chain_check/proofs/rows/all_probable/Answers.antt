@@ -3,7 +3,6 @@ use native.Mathlib.Omega.{arith}
 use lib.Ieee.{nan}
 use lib.ListN.{length}
 use lib.Seq.{take-length}
-use borrow.Author.Tests.{not-true, not-false}
 use Rattle.numbers.specs.Lists.{all}
 use Rattle.numbers.proofs.Alls.{all_on, all_stop, all_end}
 use Rattle.chain_theory.specs.Check.{probable}

@@ -4,7 +4,6 @@ use Prim.Native.Nat.{ℕ, ◌-◌, ◌≤◌}
 use native.Mathlib.Omega.{arith}
 use lib.Ieee.{Float}
 use lib.ListN.{length}
-use borrow.Author.Tests.{not-true, not-false}
 use Rattle.numbers.specs.Lists.{span, all}
 use Rattle.chain_theory.specs.Columns.{chain_columns, entries}
 use Rattle.chain_theory.specs.Check.{proper}

@@ -1,6 +1,6 @@
 -- By the cases of the tests.
 use mathlib.Core.Path.{sym, ◌∙◌}
-use borrow.Author.Tests.{le-leb, lt-leb, not-true, not-false}
+use borrow.Author.Tests.{le-leb, lt-leb}
 use Rattle.numbers.proofs.Bools.{and_second}
 use Rattle.chain_check.proofs.Checks.{fails, none_there, some_there, proper_is}
 use Rattle.chain_check.proofs.rows.proper.Goals as goal

@@ -1,4 +1,4 @@
-use Rattle.std.proofs.Common.{rules, ◌≡◌, ◌≤◌, ◌<◌, refl, length, arith}
+use Rattle.std.proofs.Common.{rules, ◌≡◌, ◌≤◌, refl, length, arith}
 use Rattle.flow.proofs.Running.{entered_lengths, entered_on, put_none, put_on, run_done}
 use Rattle.flow.proofs.network.max_flow_in.Goals as goal
 

@@ -4,7 +4,7 @@ use borrow.Author.Tests.{le-leb, lt-leb}
 use mathlib.Core.Path.{◌≡◌, sym, ap, ◌∙◌}
 use Prim.Native.Nat.{◌≤◌}
 use native.Mathlib.Omega.{arith}
-use lib.ListN.{length, length-map}
+use lib.ListN.{length}
 use Rattle.flow_check.proofs.Accepting.{indexable}
 use Rattle.flow.specs.Network.{heads_of, caps_of, costs_of, leaves}
 use Rattle.flow.specs.declared.network.FlowNetwork.{FlowNetwork}

@@ -1,7 +1,6 @@
 -- `rows::list_rows` meets its contract, test by test (Filling).
 use borrow.Author.Rules.{rules}
 use mathlib.Core.Path.{refl, sym, ◌∙◌}
-use native.Mathlib.Omega.{arith}
 use lib.Seq.{length-take-le}
 use Rattle.flow.proofs.Filling.{listed_fits, no_costs, no_caps, no_heads}
 use Rattle.flow.proofs.rows.list_rows.Goals as goal

@@ -1,6 +1,5 @@
-use Prim.Native.Nat.{◌-◌, ◌<◌}
+use Prim.Native.Nat.{◌<◌}
 use native.Mathlib.Omega.{arith}
-use lib.Bits.{bit_xor}
 use lib.ListN.{length, get_or}
 use Rattle.flow_theory.proofs.Walking.{walk_begins, u_low, u_next, path_room, row_in, blocked_ends, back_in, from_next, from_mark, back, back_less, reached_ends}
 use Rattle.flow_theory.proofs.Seeking.{seekable, sought_on, sought_on_less, sought_none, sought_none_less}

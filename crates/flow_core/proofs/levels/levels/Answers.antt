@@ -1,7 +1,6 @@
 use mathlib.Core.Path.{◌≡◌, ◌∙◌}
-use Prim.Native.Nat.{◌<◌}
 use native.Mathlib.Omega.{arith}
-use lib.ListN.{length, get_or, length-set}
+use lib.ListN.{length, length-set}
 use Rattle.flow_theory.proofs.Searching.{source_in, starts_outer, node_low, scannable, outer_again, outer_ends}
 use Rattle.flow_core.proofs.levels.levels.Goals as goal
 

@@ -1,9 +1,7 @@
 use mathlib.Core.Path.{refl}
 use mathlib.Core.Logic.{inl, inr}
-use Prim.Native.Nat.{◌<◌}
 use native.Mathlib.Omega.{arith}
 use borrow.Author.Tests.{eq-eqb, ne_eqb}
-use lib.ListN.{length, get_or}
 use Rattle.flow_theory.proofs.Scanning.{turn_then, turn_else, ended, level_fits, queue_fits}
 use Rattle.flow_core.proofs.levels.scan.Goals as goal
 use Rattle.flow_core.proofs.levels.scan.Goals.{then-caps-e+then-level-v, else-caps-e, else-caps-e-via-then-caps-e+else-level-v, else-caps-e-via-else-caps-e}

@@ -1,7 +1,6 @@
 use mathlib.Core.Path.{◌≡◌, subst, subst⁻¹, ◌∙◌}
 use Prim.Native.Nat.{ℕ}
 use native.Mathlib.Omega.{arith}
-use lib.ListN.{length}
 use lib.Ieee.{Float}
 use mathlib.Core.List.{List}
 use Rattle.flow_theory.specs.Augment.{Pushed}

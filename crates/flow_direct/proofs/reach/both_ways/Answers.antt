@@ -1,7 +1,6 @@
 -- `reach::both_ways` meets its contract: rows that do not fit, a flow that is plenty, and what is known of both flows else (Beginning).
 use mathlib.Core.Path.{sym, ◌∙◌}
 use mathlib.Core.Bool.{false≢true}
-use borrow.Author.Tests.{not-true, not-false}
 use Rattle.epsdelta_theory.specs.Relation.{relation_of}
 use Rattle.flow_direct.proofs.Beginning.{none_both}
 use Rattle.flow_direct.proofs.reach.both_ways.Goals as goal

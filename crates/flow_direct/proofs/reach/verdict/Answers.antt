@@ -1,6 +1,5 @@
 -- `reach::verdict` meets its contract: rows that do not fit, and what is known without a network (Beginning).
 use mathlib.Core.Path.{sym, ◌∙◌}
-use borrow.Author.Tests.{not-true, not-false}
 use Rattle.flow_links.proofs.Fitting.{fit}
 use Rattle.flow_direct.proofs.Beginning.{known_reaches, none_reaches}
 use Rattle.flow_direct.proofs.reach.verdict.Goals as goal

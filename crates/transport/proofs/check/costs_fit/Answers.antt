@@ -1,6 +1,5 @@
 -- `check::costs_fit` meets its contract: the front of the costs, or all of them where they are fewer than the cells.
 use mathlib.Core.Path.{sym, ◌∙◌}
-use native.Mathlib.Omega.{arith}
 use lib.ListN.{length}
 use lib.Seq.{length-take-le}
 use Prim.Native.Nat.{◌*◌}

@@ -1,6 +1,5 @@
 -- `check::refusal` meets its contract, check by check (Refusing).
 use mathlib.Core.Path.{sym, ap₂, ◌∙◌}
-use borrow.Author.Tests.{not-true, not-false}
 use Rattle.transport_theory.specs.Refusal.{masses_fit, unequal}
 use Rattle.transport.proofs.Refusing.{refused_7, refused_15, refused_16, refused_none, both, either_l, either_r}
 use Rattle.transport.proofs.check.refusal.Goals as goal

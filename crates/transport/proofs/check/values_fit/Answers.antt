@@ -4,7 +4,6 @@ use native.Mathlib.Nat.{le_refl}
 use lib.ListN.{length}
 use lib.Seq.{take-length}
 use lib.Ieee.{nan}
-use borrow.Author.Tests.{not-true, not-false}
 use Rattle.numbers.specs.Lists.{all}
 use Rattle.numbers.proofs.Alls.{all_stop, all_on, all_end}
 use Rattle.transport_theory.specs.Refusal.{fits}

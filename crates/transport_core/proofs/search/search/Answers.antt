@@ -1,5 +1,4 @@
 use native.Mathlib.Omega.{arith}
-use borrow.Author.Tests.{not-true, not-false}
 use Rattle.transport_theory.proofs.Searches.{search_starts, nodes_few, passable, search_on, search_settles, search_ends}
 use Rattle.transport_core.proofs.search.search.Goals as goal
 
