@@ -1,13 +1,13 @@
 -- What the transport of two rows answers: its sizes fit, so that there is a plan, whose cells are the shares of the coupling.
 use mathlib.Core.Path.{◌≡◌, refl, sym, ap, ap₂, ◌∙◌}
-use Prim.Native.Nat.{ℕ, zero, suc, ◌+◌, ◌*◌, ◌-◌, ◌≤◌, ◌<◌}
+use Prim.Native.Nat.{ℕ, ◌+◌, ◌*◌, ◌-◌, ◌≤◌, ◌<◌}
 use mathlib.Core.Bool.{Bool, true, false, not, ◌&&◌}
 use mathlib.Core.List.{List, [], map}
 use native.Mathlib.Omega.{arith}
 use native.Mathlib.Nat.{mul-le-mul}
 use lib.ListN.{length, get_or, take, drop, length-append, length-map}
 use lib.Seq.{slice, take_at}
-use lib.Dec.{eqb, leb}
+use lib.Dec.{leb}
 use lib.Ieee.{Float, binary64, mul, div}
 use borrow.Author.Tests.{le-leb, le-ltb, eq-eqb, ne_eqb}
 use Rattle.numbers.specs.Real.{nought, sum}
@@ -20,7 +20,7 @@ use Rattle.transport.specs.declared.entry.Transported.{Transported}
 use Rattle.transport.specs.declared.entry.Transported.TheVariants as says
 use Rattle.epsdelta_theory.specs.Jumps.{Jump, jumps_of}
 use Rattle.epsdelta_theory.proofs.RowReads.{jumps_length}
-use Rattle.distance_theory.specs.Couplings.{Share, expected, Best, fitted, point_mass}
+use Rattle.distance_theory.specs.Couplings.{Share, expected, fitted, point_mass}
 use Rattle.chain_theory.specs.Columns.{chain_columns}
 use Rattle.chain_check.proofs.Checks.{part_is}
 use Rattle.distance_theory.proofs.PairRows.{RowRead, lay_read, best_read}

@@ -60,37 +60,37 @@ fn run_all(buf: &[u8], counts: &mut [u64; 48]) {
 }
 
 fn print_labels(rt: &impl Print, counts: &[u64; 48]) -> io::Result<()> {
-    tally::print_entry(rt, "real is_valid ", counts, entries::IS_VALID)?;
-    tally::print_entry(rt, "real is_zero ", counts, entries::IS_ZERO)?;
-    tally::print_entry(rt, "real sum ", counts, entries::SUM)?;
-    tally::print_entry(rt, "intern ", counts, entries::INTERN)?;
-    tally::print_entry(rt, "label get ", counts, entries::GET)?;
-    tally::print_entry(rt, "label resolve ", counts, entries::RESOLVE)?;
-    tally::print_entry(rt, "build ", counts, entries::BUILD)?;
+    tally::print_entry(rt, b"real is_valid ", counts, entries::IS_VALID)?;
+    tally::print_entry(rt, b"real is_zero ", counts, entries::IS_ZERO)?;
+    tally::print_entry(rt, b"real sum ", counts, entries::SUM)?;
+    tally::print_entry(rt, b"intern ", counts, entries::INTERN)?;
+    tally::print_entry(rt, b"label get ", counts, entries::GET)?;
+    tally::print_entry(rt, b"label resolve ", counts, entries::RESOLVE)?;
+    tally::print_entry(rt, b"build ", counts, entries::BUILD)?;
     Ok(())
 }
 
 fn print_models(rt: &impl Print, counts: &[u64; 48]) -> io::Result<()> {
-    tally::print_entry(rt, "model model_refusal ", counts, entries::MODEL_REFUSAL)?;
-    tally::print_entry(rt, "model num_states ", counts, entries::NUM_STATES)?;
+    tally::print_entry(rt, b"model model_refusal ", counts, entries::MODEL_REFUSAL)?;
+    tally::print_entry(rt, b"model num_states ", counts, entries::NUM_STATES)?;
     tally::print_entry(
         rt,
-        "model num_transitions ",
+        b"model num_transitions ",
         counts,
         entries::NUM_TRANSITIONS,
     )?;
-    tally::print_entry(rt, "model num_labels ", counts, entries::NUM_LABELS)?;
-    tally::print_entry(rt, "model initial ", counts, entries::INITIAL)?;
-    tally::print_entry(rt, "model successors ", counts, entries::SUCCESSORS)?;
-    tally::print_entry(rt, "model label ", counts, entries::LABEL)?;
-    tally::print_entry(rt, "model label_id ", counts, entries::LABEL_ID)?;
+    tally::print_entry(rt, b"model num_labels ", counts, entries::NUM_LABELS)?;
+    tally::print_entry(rt, b"model initial ", counts, entries::INITIAL)?;
+    tally::print_entry(rt, b"model successors ", counts, entries::SUCCESSORS)?;
+    tally::print_entry(rt, b"model label ", counts, entries::LABEL)?;
+    tally::print_entry(rt, b"model label_id ", counts, entries::LABEL_ID)?;
     Ok(())
 }
 
 fn print_all(rt: &impl Print, counts: &[u64; 48]) -> io::Result<()> {
     print_labels(rt, counts)?;
     print_models(rt, counts)?;
-    tally::print_entry(rt, "other ", counts, tally::OTHER)?;
+    tally::print_entry(rt, b"other ", counts, tally::OTHER)?;
     tally::print_total(rt, counts)?;
     Ok(())
 }

@@ -38,11 +38,11 @@ fn main(rt: HostRuntime) -> io::Result<()> {
     run_all(&buf, &mut counts);
     tally::print_entry(
         &rt,
-        "bisim_distance bisim_distance ",
+        b"bisim_distance bisim_distance ",
         &counts,
         models::BISIM_DISTANCE,
     )?;
-    tally::print_entry(&rt, "other ", &counts, tally::OTHER)?;
+    tally::print_entry(&rt, b"other ", &counts, tally::OTHER)?;
     tally::print_total(&rt, &counts)?;
     Ok(())
 }

@@ -43,8 +43,8 @@ fn main(rt: HostRuntime) -> io::Result<()> {
     let mut card = [0u8; 10500];
     let mut out = [0u8; 26662];
     run_all(&buf, &mut counts, &mut card, &mut out);
-    tally::print_entry(&rt, "card report ", &counts, cards::REPORT)?;
-    tally::print_entry(&rt, "other ", &counts, tally::OTHER)?;
+    tally::print_entry(&rt, b"card report ", &counts, cards::REPORT)?;
+    tally::print_entry(&rt, b"other ", &counts, tally::OTHER)?;
     tally::print_total(&rt, &counts)?;
     Ok(())
 }

@@ -52,10 +52,10 @@ fn main(rt: HostRuntime) -> io::Result<()> {
     let buf = text::input(&rt)?;
     let mut counts = [0u64; 48];
     run_all(&buf, &mut counts);
-    tally::print_entry(&rt, "rate common_rate ", &counts, entries::COMMON_RATE)?;
-    tally::print_entry(&rt, "uniformise uniformise ", &counts, entries::UNIFORMISE)?;
-    tally::print_entry(&rt, "normalise normalise ", &counts, entries::NORMALISE)?;
-    tally::print_entry(&rt, "other ", &counts, tally::OTHER)?;
+    tally::print_entry(&rt, b"rate common_rate ", &counts, entries::COMMON_RATE)?;
+    tally::print_entry(&rt, b"uniformise uniformise ", &counts, entries::UNIFORMISE)?;
+    tally::print_entry(&rt, b"normalise normalise ", &counts, entries::NORMALISE)?;
+    tally::print_entry(&rt, b"other ", &counts, tally::OTHER)?;
     tally::print_total(&rt, &counts)?;
     Ok(())
 }

@@ -51,10 +51,10 @@ fn run_all(buf: &[u8], counts: &mut [u64; 48]) {
 }
 
 fn print_all(rt: &impl Print, counts: &[u64; 48]) -> io::Result<()> {
-    tally::print_entry(rt, "flow max_flow ", counts, entries::MAX_FLOW)?;
-    tally::print_entry(rt, "edge add_edge ", counts, entries::ADD_EDGE)?;
-    tally::print_entry(rt, "nodes new ", counts, entries::NEW)?;
-    tally::print_entry(rt, "other ", counts, tally::OTHER)?;
+    tally::print_entry(rt, b"flow max_flow ", counts, entries::MAX_FLOW)?;
+    tally::print_entry(rt, b"edge add_edge ", counts, entries::ADD_EDGE)?;
+    tally::print_entry(rt, b"nodes new ", counts, entries::NEW)?;
+    tally::print_entry(rt, b"other ", counts, tally::OTHER)?;
     tally::print_total(rt, counts)?;
     Ok(())
 }

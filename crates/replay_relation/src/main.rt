@@ -43,16 +43,16 @@ fn run_all(buf: &[u8], counts: &mut [u64; 48], store: &mut [u8]) {
 }
 
 fn print_all(rt: &impl Print, counts: &[u64; 48]) -> io::Result<()> {
-    tally::print_entry(rt, "relation epsdelta ", counts, entries::EPSDELTA)?;
+    tally::print_entry(rt, b"relation epsdelta ", counts, entries::EPSDELTA)?;
     tally::print_entry(
         rt,
-        "relation epsdelta_bisimilar ",
+        b"relation epsdelta_bisimilar ",
         counts,
         entries::EPSDELTA_BISIMILAR,
     )?;
-    tally::print_entry(rt, "relation min_epsilon ", counts, entries::MIN_EPSILON)?;
-    tally::print_entry(rt, "related ", counts, entries::RELATED)?;
-    tally::print_entry(rt, "other ", counts, tally::OTHER)?;
+    tally::print_entry(rt, b"relation min_epsilon ", counts, entries::MIN_EPSILON)?;
+    tally::print_entry(rt, b"related ", counts, entries::RELATED)?;
+    tally::print_entry(rt, b"other ", counts, tally::OTHER)?;
     tally::print_total(rt, counts)?;
     Ok(())
 }

@@ -5,6 +5,7 @@ ghost use Rattle.replay_text.specs.Tally.{Ready, agrees as agreed, place as plac
 use crate::text;
 use crate::text::Reader;
 use std::io;
+use std::io::Write;
 
 // Cases of no known kind, and cases with more text than their kind has, are counted here.
 pub const OTHER: usize = 44;
@@ -60,12 +61,13 @@ fn at(counts: &[u64], i: usize) -> u64
 }
 
 // Prints how many agree and differ, and answers how many differ.
-pub fn print_entry(rt: &impl Print, what: &str, counts: &[u64; 48], entry: usize) -> io::Result<u64>
+pub fn print_entry(rt: &impl Print, what: &[u8], counts: &[u64; 48], entry: usize) -> io::Result<u64>
     ensures { IfOk result (λ n. n ≡ get_or counts.now (place_of entry false) 0) }
 {
     let differ = at(counts, place(entry, false));
     let agree = at(counts, place(entry, true));
-    println!(rt; "{what}{agree} agree {differ} differ")?;
+    io::writer(rt).write_all(what)?;
+    println!(rt; "{agree} agree {differ} differ")?;
     Ok(differ)
 }
 

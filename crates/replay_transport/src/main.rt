@@ -35,8 +35,8 @@ fn main(rt: HostRuntime) -> io::Result<()> {
     let buf = text::input(&rt)?;
     let mut counts = [0u64; 48];
     run_all(&buf, &mut counts);
-    tally::print_entry(&rt, "transport transport ", &counts, plans::TRANSPORT)?;
-    tally::print_entry(&rt, "other ", &counts, tally::OTHER)?;
+    tally::print_entry(&rt, b"transport transport ", &counts, plans::TRANSPORT)?;
+    tally::print_entry(&rt, b"other ", &counts, tally::OTHER)?;
     tally::print_total(&rt, &counts)?;
     Ok(())
 }

@@ -4,7 +4,7 @@ use native.Mathlib.Omega.{arith}
 use lib.Ieee.{Float, nan, binary64, mul, div}
 use lib.ListN.{length-map, length-set}
 use Rattle.numbers.specs.Lists
-use Rattle.numbers.proofs.Over.{over, over_next, over_done}
+use Rattle.numbers.proofs.Over.{over_next, over_done}
 use Rattle.distance_theory.proofs.Crossings.{map_at}
 use Rattle.distance_couplings.proofs.best.fit.Goals as goal
 

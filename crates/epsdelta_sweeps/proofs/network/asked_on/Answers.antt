@@ -1,6 +1,6 @@
 -- `network::asked_on` meets its contract: the links that `lay` writes are those of the test that the place asks for, and the run on the network that they fill answers it.
 use borrow.Author.Rules.{rules}
-use mathlib.Core.Path.{◌≡◌, sym, ap, subst, ◌∙◌}
+use mathlib.Core.Path.{◌≡◌, sym, ap, subst}
 use mathlib.Core.Bool.{Bool, true, false}
 use mathlib.Core.List.{List}
 use lib.Ieee.{Float}

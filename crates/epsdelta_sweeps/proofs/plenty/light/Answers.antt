@@ -1,7 +1,6 @@
 use mathlib.Core.Path.{sym, ◌∙◌}
 use mathlib.Core.Bool.{false≢true}
 use native.Mathlib.Omega.{arith}
-use borrow.Author.Tests.{not-false}
 use Rattle.flow_duality.proofs.Plenty.{Light}
 use Rattle.epsdelta_sweeps.proofs.Noting.{one_more}
 use Rattle.epsdelta_sweeps.proofs.plenty.light.Goals as goal

@@ -1,7 +1,6 @@
 use mathlib.Core.Path.{◌≡◌, refl, subst⁻¹}
 use native.Mathlib.Omega.{arith}
 use lib.Ieee.{nan, binary64, of_bits, of_fields, div}
-use borrow.Author.Tests.{not-false}
 use Rattle.numbers.specs.Real.{nought}
 use Rattle.flow_duality.proofs.Plenty.{LightRow, Plenty, plenty_of, plenty_none}
 use Rattle.epsdelta_sweeps.proofs.Noting.{one_more}

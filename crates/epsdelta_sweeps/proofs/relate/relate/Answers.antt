@@ -6,7 +6,6 @@ use Prim.Native.Nat.{ℕ}
 use native.Mathlib.Omega.{arith}
 use lib.ListN.{length, drop}
 use lib.Seq.{length-take-le}
-use borrow.Author.Tests.{not-true, not-false}
 use Rattle.numbers.specs.Lists.{every}
 use Rattle.numbers.specs.Bits.{packed}
 use Rattle.numbers.proofs.Bools.{and_second}

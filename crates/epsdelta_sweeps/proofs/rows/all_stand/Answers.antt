@@ -1,7 +1,5 @@
 use mathlib.Core.Path.{◌≡◌, sym, ap, ◌∙◌}
-use mathlib.Core.Bool.{true}
 use native.Mathlib.Omega.{arith}
-use borrow.Author.Tests.{not-true, not-false}
 use Rattle.numbers.specs.Lists.{every}
 use Rattle.numbers.proofs.Alls.{every_none, every_next, every_not}
 use Rattle.flow_links.proofs.RowsRead.{row_stands}

@@ -1,5 +1,5 @@
 use mathlib.Core.Path.{refl, sym, ◌∙◌}
-use mathlib.Core.Bool.{false, true≢false}
+use mathlib.Core.Bool.{true≢false}
 use native.Mathlib.Omega.{arith}
 use Rattle.epsdelta_sweeps.proofs.Resuming.{moves_start, moves_then, resting}
 use Rattle.epsdelta_sweeps.proofs.sweeps.sweep.Goals as goal

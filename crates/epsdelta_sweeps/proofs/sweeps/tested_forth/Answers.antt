@@ -2,7 +2,7 @@
 use mathlib.Core.Path.{refl, ◌∙◌}
 use mathlib.Core.Bool.{true≢false}
 use native.Mathlib.Omega.{arith}
-use borrow.Author.Tests.{not-true, not-false}
+use borrow.Author.Tests.{not-false}
 use Rattle.epsdelta_sweeps.proofs.Resuming.{forth_passes, forth_fails, moves_then}
 use Rattle.epsdelta_sweeps.proofs.sweeps.tested_forth.Goals as goal
 

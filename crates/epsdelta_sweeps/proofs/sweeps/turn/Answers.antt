@@ -1,9 +1,9 @@
 -- `sweeps::turn` meets its contract, test by test (Resuming).
 use mathlib.Core.Path.{refl, sym, ◌∙◌}
-use mathlib.Core.Bool.{true, true≢false}
+use mathlib.Core.Bool.{true≢false}
 use Prim.Native.Nat.{◌<◌}
 use native.Mathlib.Omega.{arith}
-use borrow.Author.Tests.{not-true, not-false}
+use borrow.Author.Tests.{not-false}
 use Rattle.numbers.proofs.Bools.{and_t}
 use Rattle.epsdelta_theory.proofs.Pairs.{entry_in}
 use Rattle.epsdelta_theory.proofs.Unchanged.{still_passes}
