@@ -119,6 +119,10 @@ none_in false cs rs = refl
 pub none_written : (cs rs : List PairContribution) → (written cs 0 rs).records ≡ rs
 none_written cs rs = none_in (ltb (length rs) 64) cs rs
 
+-- what is told goes into the row, the rest is the answer
+pub hands : (t : Told) (rs : List PairContribution) {cs rs' : List PairContribution} {k n : ℕ} {a : Measured} → cs ≡ t.records → n ≡ t.distance.contributions → stored k rs' ≡ written cs n rs → a ≡ answer_of t → handed a rs' ≡ hand_out t rs
+hands t rs e f g h = ap₂ handed h (ap (λ (s : Stored). s.records) g ∙ ap₂ (λ (l : List PairContribution) (i : ℕ). (written l i rs).records) e f)
+
 take_few : {A : Type 0} (n : ℕ) (l : List A) → n ≤ 64 → length (take n l) ≤ 64
 take_few n l h = let z = length-take n l in omega arith
 
