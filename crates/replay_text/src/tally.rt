@@ -61,7 +61,12 @@ fn at(counts: &[u64], i: usize) -> u64
 }
 
 // Prints how many agree and differ, and answers how many differ.
-pub fn print_entry(rt: &impl Print, what: &[u8], counts: &[u64; 48], entry: usize) -> io::Result<u64>
+pub fn print_entry(
+    rt: &impl Print,
+    what: &[u8],
+    counts: &[u64; 48],
+    entry: usize,
+) -> io::Result<u64>
     ensures { IfOk result (λ n. n ≡ get_or counts.now (place_of entry false) 0) }
 {
     let differ = at(counts, place(entry, false));
