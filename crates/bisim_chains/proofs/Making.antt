@@ -3,7 +3,7 @@ use mathlib.Core.Path.{◌≡◌, refl, sym, ap, ◌∙◌}
 use mathlib.Core.Bool.{Bool, true, not, ◌&&◌}
 use mathlib.Core.Logic.{◌≢◌}
 use Prim.Native.Nat.{ℕ, zero, suc, ◌≤◌}
-use mathlib.Core.List.{List, ◌++◌, map}
+use mathlib.Core.List.{List, ◌++◌}
 use native.Mathlib.Omega.{arith}
 use lib.Dec.{leb}
 use lib.Ieee.{Float}
@@ -17,7 +17,7 @@ use Rattle.bisim_core.specs.declared.wlts.Shape.{Shape}
 use Rattle.bisim_core.specs.Model.{model}
 use Rattle.epsdelta_theory.proofs.Rows.{model_length}
 use Rattle.parts.proofs.Models.{models_number}
-use Rattle.chain_theory.specs.Chain.{Chain, common_rate, chain_rows, uniformise, Scaled, normalise}
+use Rattle.chain_theory.specs.Chain.{common_rate, chain_rows, uniformise, Scaled, normalise}
 use Rattle.chain_theory.specs.Columns.{ChainColumns, chain_columns, shape_of, columns_of}
 use Rattle.chain_theory.proofs.Chains.{rows_length}
 use Rattle.chains.specs.Outcome.{rate_ends, rated, laid, Laying, laying, layable, lay_if, lay_chain}

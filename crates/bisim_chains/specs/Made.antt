@@ -4,7 +4,7 @@ use Rattle.numbers.specs.Real.{nought}
 use Rattle.bisim_core.specs.Data.{Edge, Columns}
 use Rattle.bisim_core.specs.declared.wlts.Shape.{Shape}
 use Rattle.bisim_core.specs.Model.{model}
-use Rattle.chain_theory.specs.Chain.{Chain, common_rate, uniformise, Scaled, normalise}
+use Rattle.chain_theory.specs.Chain.{Chain, common_rate, uniformise, normalise}
 use Rattle.chain_theory.specs.Columns.{ChainColumns, shape_of, columns_of}
 use Rattle.chain_theory.specs.declared.ChainShape.{ChainShape}
 use Rattle.chains.specs.Outcome.{shape, laid}

@@ -1,6 +1,6 @@
 -- The loops of the listing: the contribution of each pair, and the records of the chosen ones; and what the answer is then.
 use mathlib.Core.Path.{◌≡◌, refl, sym, subst, subst⁻¹, ap, ap₂, ◌∙◌}
-use Prim.Native.Nat.{ℕ, zero, suc, ◌+◌, ◌-◌, ◌≤◌, ◌<◌}
+use Prim.Native.Nat.{ℕ, zero, suc, ◌+◌, ◌≤◌, ◌<◌}
 use mathlib.Core.Bool.{Bool, true, false, ◌&&◌}
 use mathlib.Core.List.{List, [], ◌∷◌, ◌++◌, map, append-nil}
 use native.Mathlib.Omega.{arith}
@@ -18,7 +18,6 @@ use Rattle.numbers.proofs.Refuses.{check_hit, check_skip}
 use Rattle.numbers.proofs.Spans.{span_length}
 use Rattle.numbers.proofs.Over.{over, over_length, over_next, over_done}
 use Rattle.epsdelta_theory.proofs.Rows.{at_map_span}
-use Rattle.chain_theory.specs.Chain.{Chain}
 use Rattle.distance_theory.specs.Pairs.{Pair, pair, pair_at, most}
 use Rattle.distance_theory.specs.Couplings.{Metric}
 use Rattle.distance_theory.specs.Contributions.{contribution, contributions, rank_into, listed}

@@ -1,7 +1,7 @@
 -- The turns of the loop over the pairs, and that the costs of a run are the definition's.
-use mathlib.Core.Path.{◌≡◌, refl, sym, ap, ap₂, ◌∙◌}
+use mathlib.Core.Path.{◌≡◌, sym, ap, ap₂, ◌∙◌}
 use Prim.Native.Nat.{ℕ, ◌+◌, ◌≤◌, ◌<◌}
-use mathlib.Core.Bool.{Bool, true, false, not, ◌&&◌}
+use mathlib.Core.Bool.{Bool, true, false, not}
 use mathlib.Core.List.{List, map}
 use native.Mathlib.Omega.{arith}
 use lib.Dec.{leb}
@@ -21,7 +21,7 @@ use Rattle.chain_theory.specs.Chain.{Chain}
 use Rattle.distance_theory.specs.Pairs.{Pair, pair, pair_at}
 use Rattle.distance_theory.specs.Couplings.{cost_of}
 use Rattle.distance_theory.proofs.Crossings.{map_at}
-use Rattle.distance_words.proofs.Costs.{cost_at, costs, Priced, priced, counted, priced_if}
+use Rattle.distance_words.proofs.Costs.{cost_at, costs, priced, counted, priced_if}
 
 module _ (l r : List ℕ) (u w : List Float) (γ : Float) (n : ℕ) where
   pub costs_length : length (costs l r u w γ n) ≡ n

@@ -1,19 +1,18 @@
 -- A run whose pairs and chains stand in lists: the store that is filled holds its first couplings, unless it is too short (refusal 18).
 use mathlib.Core.Path.{◌≡◌, refl, sym, subst, ap, ap₂, ◌∙◌}
 use mathlib.Core.Logic.{◌⊎◌, inl, inr, ◌≢◌}
-use Prim.Native.Nat.{ℕ, zero, suc, ◌+◌, ◌*◌, ◌-◌, ◌≤◌, ◌<◌, min}
+use Prim.Native.Nat.{ℕ, zero, suc, ◌+◌, ◌*◌, ◌≤◌, ◌<◌}
 use mathlib.Core.Bool.{Bool, true, false, ◌&&◌}
-use mathlib.Core.List.{List, [], ◌∷◌, ◌++◌, map}
+use mathlib.Core.List.{List, [], ◌++◌, map}
 use native.Mathlib.Omega.{arith}
-use native.Mathlib.Numerals.{add-one}
-use lib.Dec.{ltb, leb, eqb}
-use lib.ListN.{length, get_or, set, take, drop, length-set, length-map, length-append, length-take, length-drop}
+use lib.Dec.{ltb, leb}
+use lib.ListN.{length, get_or, set, take, drop, length-set, length-map, length-append, length-drop}
 use lib.Seq.{slice, length-slice, length-take-le, take-append-le, take-take, drop_at, take_at, take-append-add, take_all, get_or-set_same, get_or-set_other}
-use lib.Ieee.{Float, nan}
-use borrow.Author.Tests.{ltb-true, leb-true, le-leb, lt-leb, eq-eqb}
+use lib.Ieee.{Float}
+use borrow.Author.Tests.{leb-true, le-leb, lt-leb, eq-eqb}
 use Rattle.numbers.specs.Lists.{over}
 use Rattle.numbers.proofs.Bools.{and_t, and_first, and_second, eq_or_ne, lt_or_ge}
-use Rattle.epsdelta_theory.specs.Jumps.{Jump, jumps_of}
+use Rattle.epsdelta_theory.specs.Jumps.{jumps_of}
 use Rattle.epsdelta_theory.proofs.RowReads.{jumps_length}
 use Rattle.chain_theory.specs.Columns.{ChainColumns, begins}
 use Rattle.distance_theory.specs.Pairs.{Pair, pair, pair_at, place}
@@ -25,9 +24,9 @@ use Rattle.distance_theory.proofs.Crossings.{map_at}
 use Rattle.distance_theory.proofs.Held.{shares_of, shares_in}
 use Rattle.distance_theory.proofs.Store.{space, independent_length, room_take, room_within}
 use Rattle.distance_theory.proofs.Stored.{shares_of_lem}
-use Rattle.distance_theory.proofs.Bests.{Look, ats, parts, independent_by, independent_by_lem, rows_fit, cells_fit, fitting, Laid, laid, lay_if, lay_on}
+use Rattle.distance_theory.proofs.Bests.{Look, ats, parts, independent_by, independent_by_lem, rows_fit, fitting, Laid, lay_if}
 use Rattle.distance_theory.proofs.PairRows.{row_targets, row_rates, reads_row, laid_when, lay_read, lay_pair}
-use Rattle.distance_words.proofs.Store.{Filled, filled, fill_from, laying_of}
+use Rattle.distance_words.proofs.Store.{Filled, fill_from, laying_of}
 use Rattle.distance_store.proofs.Filling.{fill_more, fill_none, fill_zero}
 
 -- ---- lists and columns that hold the pairs and rows of a run

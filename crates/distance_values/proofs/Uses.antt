@@ -14,7 +14,7 @@ use Rattle.numbers.proofs.Members.{in_at}
 use Rattle.distance_theory.specs.Pairs.{most}
 use Rattle.distance_theory.specs.Couplings.{Share, share, Metric}
 use Rattle.distance_theory.specs.Rounds.{Values, update, sweep, swept, sweeps, many, evaluate}
-use Rattle.distance_theory.specs.Contributions.{visits, depart, occupancy}
+use Rattle.distance_theory.specs.Contributions.{occupancy}
 use Rattle.distance_theory.proofs.Turns.{coupling_at}
 use Rattle.distance_theory.proofs.Store.{Placed, Stored}
 use Rattle.distance_theory.proofs.Held.{coupling, policy_in, policy_at, shares_length, shares_at}

@@ -1,10 +1,8 @@
 use mathlib.Core.Path.{◌≡◌, sym, ◌∙◌}
-use mathlib.Core.Bool.{true}
 use native.Mathlib.Omega.{arith}
-use borrow.Author.Tests.{le-leb, lt-leb, not-true, not-false}
+use borrow.Author.Tests.{le-leb, lt-leb}
 use Rattle.numbers.proofs.Alls.{every_none}
 use Rattle.numbers.proofs.Bools.{and_first, and_second}
-use Rattle.distance_words.proofs.Readable.{lies}
 use Rattle.distance_values.proofs.Reading.{stops, goes}
 use Rattle.distance_values.proofs.store.held.Goals as goal
 

@@ -1,6 +1,5 @@
 use mathlib.Core.Path.{sym, ap, ◌∙◌}
 use lib.ListN.{length}
-use borrow.Author.Tests.{not-true, not-false}
 use Rattle.distance_values.proofs.Visiting.{going_starts, next_long, round_ready, going_on, going_settles, going_ends}
 use Rattle.distance_values.proofs.visits.rounds.Goals as goal
 
