@@ -1,8 +1,8 @@
 -- From the chains that are made and run to what is told of two models.
 use mathlib.Core.Path.{◌≡◌, refl, sym, ap, subst, ◌∙◌}
-use mathlib.Core.Bool.{Bool, true, false, not, ◌&&◌, ◌||◌}
+use mathlib.Core.Bool.{Bool, true}
 use mathlib.Core.Logic.{◌≢◌}
-use Prim.Native.Nat.{ℕ, zero, suc, min, ◌≤◌, ◌<◌}
+use Prim.Native.Nat.{ℕ, zero, suc, min}
 use mathlib.Core.List.{List, [], ◌∷◌}
 use native.Mathlib.Omega.{arith}
 use lib.Dec.{leb}
@@ -18,9 +18,8 @@ use Rattle.bisim_core.specs.declared.wlts.Shape.{Shape}
 use Rattle.bisim_core.specs.Model.{model}
 use Rattle.bisim_core.proofs.Accepted.{Accepted, accepted}
 use Rattle.epsdelta_theory.proofs.Rows.{model_length}
-use Rattle.chain_theory.specs.Chain.{Chain, common_rate, chain_rows, uniformise, Scaled, normalise}
+use Rattle.chain_theory.specs.Chain.{Chain, common_rate, uniformise, normalise}
 use Rattle.chain_theory.specs.Columns.{ChainColumns, chain_columns, chain_of, shape_of, columns_of}
-use Rattle.chain_theory.specs.declared.ChainShape.{ChainShape}
 use Rattle.chain_theory.proofs.Chains.{rows_length}
 use Rattle.chains.specs.Outcome.{laid}
 use Rattle.distance_theory.specs.Pairs.{most}

@@ -1,15 +1,15 @@
 -- A chain laid over the front of lists: the lists read back are the chain, and a chain with few and low entries in each row can be run.
 use mathlib.Core.Path.{◌≡◌, refl, sym, ap, ◌∙◌}
-use mathlib.Core.Bool.{Bool, true, false, not, ◌&&◌, ◌||◌}
-use Prim.Native.Nat.{ℕ, zero, suc, ◌+◌, ◌-◌, ◌≤◌, ◌<◌}
+use mathlib.Core.Bool.{true, false, not}
+use Prim.Native.Nat.{ℕ, suc, ◌+◌, ◌≤◌, ◌<◌}
 use mathlib.Core.List.{List, [], ◌∷◌, ◌++◌, map, map-append}
 use native.Mathlib.Omega.{arith}
-use lib.Dec.{eqb, ltb, leb}
+use lib.Dec.{ltb, leb}
 use lib.Ieee.{Float}
 use lib.ListN.{length, get_or, take, drop, length-map, get_or-append, get_or-map}
 use lib.Seq.{take_at, take_all, ext_get_or}
 use borrow.Author.Tests.{lt-ltb, le-ltb, le-leb, eq-eqb}
-use Rattle.numbers.specs.Lists.{span, every, all, In, over}
+use Rattle.numbers.specs.Lists.{span, all, over}
 use Rattle.numbers.specs.Real.{nought}
 use Rattle.numbers.proofs.Alls.{all_of, all_append, every_of}
 use Rattle.numbers.proofs.Bools.{and_second}
@@ -24,7 +24,7 @@ use Rattle.epsdelta_theory.proofs.Rows.{at_map_span}
 use Rattle.epsdelta_theory.proofs.Layings.{laid_holds}
 use Rattle.parts.proofs.Laid.{targets_length, rates_length}
 use Rattle.chain_theory.specs.Chain.{Chain}
-use Rattle.chain_theory.specs.Columns.{ChainColumns, begins, entries, chain_of, starts_from, joined, shape_of, columns_of}
+use Rattle.chain_theory.specs.Columns.{ChainColumns, entries, chain_of, starts_from, joined, shape_of, columns_of}
 use Rattle.chain_theory.specs.Check.{thin, steady, misshapen}
 use Rattle.chains.specs.Outcome.{laid}
 use Rattle.chains.proofs.RowsLaid.{starts_length, starts_at}

@@ -16,7 +16,7 @@ use Rattle.bisim_core.specs.declared.wlts.Shape.{Shape}
 use Rattle.epsdelta_theory.specs.Relation.{related, relation_bytes}
 use Rattle.epsdelta_theory.specs.Epsdelta.{given, task, epsdelta}
 use Rattle.epsdelta_theory.specs.Claim.{final}
-use Rattle.epsdelta_theory.specs.Refusal.{absent, tolerances_outside, relation_refusal, bisimilar_refusal}
+use Rattle.epsdelta_theory.specs.Refusal.{absent, tolerances_outside, bisimilar_refusal}
 use Rattle.epsdelta_theory.specs.Bisimilar.{start, bisimilar}
 use Rattle.epsdelta_theory.proofs.Runs.{run_length}
 use Rattle.epsdelta_theory.proofs.Theorem.{total}

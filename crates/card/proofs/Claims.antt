@@ -15,7 +15,7 @@ use Rattle.card_layout.specs.Claim.{large_first}
 use Rattle.card_layout.proofs.Cards.{layout_read}
 use Rattle.card_layout.proofs.Claims as cards
 use Rattle.card_layout.proofs.Claims.{worked, worked_card}
-use Rattle.card_report.specs.Report.{report, refusal_line}
+use Rattle.card_report.specs.Report.{report}
 use Rattle.card_relation.specs.Relating.{parts, text_of}
 use Rattle.card_models.specs.Models.{stray, card_refusal, card_given, card_text}
 use Rattle.card_models.proofs.Wholes.{tolerances_below}

@@ -2,7 +2,7 @@
 use mathlib.Core.Path.{◌≡◌, refl, sym, subst, ap, ◌∙◌}
 use mathlib.Core.Bool.{Bool, true, false, ◌&&◌, ◌||◌, not}
 use mathlib.Core.List.{List, [], ◌∷◌, ◌++◌, map}
-use Prim.Native.Nat.{ℕ, zero, suc, min, ◌+◌, ◌≤◌, ◌<◌}
+use Prim.Native.Nat.{ℕ, min, ◌+◌, ◌≤◌, ◌<◌}
 use native.Mathlib.Omega.{arith}
 use lib.Dec.{ltb}
 use lib.Ieee.{Float}
@@ -11,10 +11,10 @@ use lib.Seq.{take_all, take-length}
 use borrow.Author.Tests.{ltb-true, le-ltb, not-false}
 use Rattle.numbers.specs.Real.{nought}
 use Rattle.numbers.specs.Refuse.{check}
-use Rattle.numbers.specs.Lists.{span, all}
+use Rattle.numbers.specs.Lists.{all}
 use Rattle.numbers.proofs.Alls.{all_front}
 use Rattle.numbers.proofs.Bools.{or_f}
-use Rattle.numbers.proofs.Refuses.{check_hit, check_skip, check_none, check_same, none}
+use Rattle.numbers.proofs.Refuses.{check_skip, check_none, check_same, none}
 use Rattle.bisim_core.specs.Data.{Edge, Transitions, Columns}
 use Rattle.bisim_core.specs.Model as models
 use Rattle.bisim_core.specs.Model.{large, unfit, weighs, weights_outside, model, model_refusal}
@@ -22,7 +22,7 @@ use Rattle.bisim_core.specs.declared.wlts.Shape.{Shape}
 use Rattle.bisim_core.specs.declared.wlts.Initial.{Initial}
 use Rattle.bisim_core.specs.declared.wlts.Initial.TheVariants.{At}
 use Rattle.bisim_core.proofs.Distinct.{distinct_length}
-use Rattle.build_theory.specs.Edges.{nonzero, edges}
+use Rattle.build_theory.specs.Edges.{nonzero}
 use Rattle.build_theory.specs.Checks.{labels_of, oversized, outside, unweighed, jump_at, reach, jumps, crowded, missing, refusal}
 use Rattle.build_theory.proofs.Ranks.{AllE, all_span, all_nonzero}
 use Rattle.bisim_build.specs.Build.{short, Outcome, ends, made, settled, build}
@@ -38,13 +38,12 @@ use Rattle.epsdelta_theory.specs.Claim.{final, Sound}
 use Rattle.epsdelta_theory.proofs.Theorem.{epsdelta_sound}
 use Rattle.card_layout.specs.Card.{Transition, Side, Card, AllTransitions, SideWithin, Within}
 use Rattle.card_layout.specs.Lists.{source_of, label_of, target_of, weight_of}
-use Rattle.card_report.specs.Report.{report, refusal_line, most_report}
+use Rattle.card_report.specs.Report.{report, most_report}
 use Rattle.card_report.proofs.Texts.{report_fits}
 use Rattle.card_relation.specs.Relating.{parts, text_of, relation_text}
 use Rattle.card_relation.proofs.Relates.{text_fits}
 use Rattle.card_models.specs.Models.{given_of, edges_of, model_of, inside, stray, card_refusal, card_given, card_text}
-use Rattle.card_models.specs.Together.{both, lower}
-use Rattle.card_models.specs.declared.models.Both.{Both}
+use Rattle.card_models.specs.Together.{both}
 use Rattle.card_models.proofs.Handing.{blank, built_of, models_text, built_text}
 use Rattle.card_models.proofs.Wholes.{whole_weighs}
 use Rattle.card_models.proofs.Crowds.{uncrowded}

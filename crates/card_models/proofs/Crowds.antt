@@ -14,7 +14,7 @@ use Rattle.numbers.proofs.Members.{Apart}
 use Rattle.numbers.proofs.Spans.{span_length}
 use Rattle.bisim_core.specs.Data.{Edge}
 use Rattle.bisim_core.specs.Ids.{distinct}
-use Rattle.bisim_core.specs.Edges.{chosen, others, crowded_at, crowded_in}
+use Rattle.bisim_core.specs.Edges.{chosen, others, crowded_in}
 use Rattle.bisim_core.proofs.Models.{crowded_not}
 use Rattle.build_theory.proofs.Ranks.{AllE}
 use Rattle.build_theory.proofs.Counts.{interned_in, apart_interned, fits}

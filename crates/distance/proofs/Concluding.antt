@@ -1,7 +1,7 @@
 -- What is told and written is the definition's outcome.
-use mathlib.Core.Path.{◌≡◌, refl, sym, ap, ap₂, ◌∙◌}
-use Prim.Native.Nat.{ℕ, zero, suc, ◌≤◌, ◌<◌, min}
-use mathlib.Core.Bool.{Bool, true, false, not, ◌&&◌, ◌||◌}
+use mathlib.Core.Path.{◌≡◌, refl, sym, ap, ◌∙◌}
+use Prim.Native.Nat.{ℕ, zero, suc, ◌≤◌, min}
+use mathlib.Core.Bool.{Bool, true, false, not, ◌||◌}
 use mathlib.Core.List.{List, [], ◌∷◌}
 use native.Mathlib.Omega.{arith}
 use lib.Dec.{eqb, ltb, leb}
@@ -10,7 +10,7 @@ use lib.Ieee.{Float}
 use borrow.Author.Tests.{ltb-false, le-leb, not-false}
 use Rattle.numbers.specs.Real.{nought, one}
 use Rattle.numbers.specs.Refuse.{check}
-use Rattle.numbers.specs.Lists.{all, over}
+use Rattle.numbers.specs.Lists.{all}
 use Rattle.numbers.proofs.Bools.{or_f}
 use Rattle.numbers.proofs.Alls.{all_at}
 use Rattle.numbers.proofs.Refuses.{check_none}
@@ -29,7 +29,7 @@ use Rattle.distance_theory.specs.declared.Measured.{Measured}
 use Rattle.distance_theory.specs.declared.Measured.TheVariants as says
 use Rattle.distance_theory.proofs.Inside.{row_proper, proper_few}
 use Rattle.distance_words.specs.Told.{row, Ran, ran_as}
-use Rattle.distance_contributions.specs.Row.{Stored, stored, stored_if, written}
+use Rattle.distance_contributions.specs.Row.{Stored, stored_if, written}
 use Rattle.distance_contributions.proofs.Records.{listed_written}
 use Rattle.distance_words.specs.declared.told.Told.{Told}
 use Rattle.distance_words.specs.Told.{refused_with, told_if, told_of}

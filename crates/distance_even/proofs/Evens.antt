@@ -4,7 +4,7 @@ use Prim.Native.Nat.{ℕ, zero, suc, ◌+◌, ◌-◌, ◌≤◌, ◌<◌}
 use mathlib.Core.Bool.{Bool, true, false, not, ◌&&◌, ◌||◌, true≢false}
 use mathlib.Core.List.{List, [], map}
 use native.Mathlib.Omega.{arith}
-use lib.Dec.{eqb, leb}
+use lib.Dec.{eqb}
 use lib.ListN.{length, get_or, take, drop, length-map}
 use lib.Ieee.{Float, nan, binary64, add, mul, lt}
 use borrow.Author.Tests.{eq-eqb, ne_eqb, le-leb, lt-leb, not-true, not-false}
@@ -14,12 +14,12 @@ use Rattle.numbers.specs.Lists.{every, all}
 use Rattle.numbers.proofs.Sums.{sum_next, sum_end}
 use Rattle.numbers.proofs.Bools.{and_first, and_second}
 use Rattle.numbers.proofs.Alls.{all_at, all_of, every_at, every_of, every_not, every_next}
-use Rattle.epsdelta_theory.specs.Jumps.{Jump, jumps_of, rates}
-use Rattle.epsdelta_theory.proofs.RowReads.{jumps_length, jumps_rates}
+use Rattle.epsdelta_theory.specs.Jumps.{Jump, rates}
+use Rattle.epsdelta_theory.proofs.RowReads.{jumps_rates}
 use Rattle.chain_theory.specs.Columns.{ChainColumns, chain_columns}
 use Rattle.transport_theory.specs.Refusal.{unequal}
-use Rattle.distance_theory.specs.Pairs.{Pair, pair, pair_at}
-use Rattle.distance_theory.specs.Couplings.{Metric, row_l, row_r, fitted, point_mass, even}
+use Rattle.distance_theory.specs.Pairs.{pair, pair_at}
+use Rattle.distance_theory.specs.Couplings.{Metric, row_l, row_r, fitted, even}
 use Rattle.distance_theory.proofs.Crossings.{map_at}
 use Rattle.distance_theory.proofs.PairRows.{RowRead, row_targets, row_rates, reads_row}
 use Rattle.distance_couplings.proofs.Moves.{part_read}

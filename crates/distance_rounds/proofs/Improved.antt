@@ -1,12 +1,11 @@
 -- Couplings of a run that stand in the store: their improvement there is the definition's (`improved_from`).
 use mathlib.Core.Path.{◌≡◌, refl, sym, subst, ap, ap₂, ◌∙◌}
 use mathlib.Core.Logic.{◌⊎◌, inl, inr, ◌≢◌}
-use Prim.Native.Nat.{ℕ, zero, suc, ◌+◌, ◌*◌, ◌-◌, ◌≤◌, ◌<◌}
+use Prim.Native.Nat.{ℕ, zero, suc, ◌+◌, ◌≤◌, ◌<◌}
 use mathlib.Core.Bool.{Bool, true, false, ◌&&◌, ◌||◌}
 use mathlib.Core.List.{List, [], ◌∷◌, ◌++◌, append_assoc}
 use native.Mathlib.Omega.{arith}
 use native.Mathlib.Numerals.{add-one}
-use lib.Dec.{leb}
 use lib.ListN.{length, get_or, set, take, drop, length-set, length-map, length-append, length-drop, take-append-drop}
 use lib.Seq.{slice, length-take-le, drop-drop, get_or-set_same, get_or-set_other}
 use lib.Ieee.{Float, nan, binary64, add, sub, mul, lt}
@@ -27,9 +26,9 @@ use Rattle.distance_theory.proofs.Held.{shares_of, shares_in}
 use Rattle.distance_theory.proofs.Store.{space, best_length}
 use Rattle.distance_theory.proofs.Stored.{shares_of_lem}
 use Rattle.distance_theory.proofs.Bests.{Look, ats, parts, best_by, best_by_lem}
-use Rattle.distance_theory.proofs.PairRows.{row_targets, row_rates, reads_row}
+use Rattle.distance_theory.proofs.PairRows.{row_targets, row_rates}
 use Rattle.distance_store.proofs.Kept.{Ready, look_is, rows_fit_lem, slice_before, slice_put, Keeps, ends_before, ends_within}
-use Rattle.distance_words.proofs.Improving.{best_when, best_at, Adopted, adopted, gains, room_for, adopt_if, adopt, Bettered, bettered, better_from, best_of_pair}
+use Rattle.distance_words.proofs.Improving.{best_when, best_at, Adopted, gains, room_for, adopt_if, adopt, Bettered, bettered, better_from, best_of_pair}
 
 -- ---- the cheapest coupling
 

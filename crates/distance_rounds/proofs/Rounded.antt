@@ -1,27 +1,24 @@
 -- A run whose couplings stand in the store: the rounds there are the definition's (`iterate`).
 use mathlib.Core.Path.{◌≡◌, refl, sym, subst, ap, ap₂, ◌∙◌}
-use Prim.Native.Nat.{ℕ, zero, suc, ◌+◌, ◌≤◌, ◌<◌}
+use Prim.Native.Nat.{ℕ, zero, suc, ◌≤◌, ◌<◌}
 use mathlib.Core.Bool.{Bool, true, false, not, ◌||◌}
 use mathlib.Core.List.{List, [], ◌++◌, append-nil}
 use native.Mathlib.Omega.{arith}
-use lib.ListN.{length, get_or, take, drop, drop_of_length-le}
+use lib.ListN.{length, get_or, take, drop_of_length-le}
 use lib.Seq.{take_all, ext_get_or, get_or-take}
 use lib.Ieee.{Float, nan, binary64, mul, le}
 use borrow.Author.Tests.{le-leb}
 use Rattle.numbers.specs.Real.{nought, tenth}
-use Rattle.numbers.specs.Lists.{over}
-use Rattle.chain_theory.specs.Columns.{ChainColumns}
-use Rattle.distance_theory.specs.Couplings.{Share, Metric, room}
+use Rattle.distance_theory.specs.Couplings.{Metric, room}
 use Rattle.distance_theory.specs.Rounds.{many, evaluate, Improvement, Solution, aim, valued, improved_from, after, Round, judged, round, iterate}
 use Rattle.distance_theory.specs.Rounds
-use Rattle.distance_theory.proofs.Turns.{coupling_at}
 use Rattle.distance_theory.proofs.Lengths.{evaluate_length}
 use Rattle.distance_theory.proofs.Held.{policy_in, policy_length, policy_at}
-use Rattle.distance_theory.proofs.Store.{space, Whole, Stored, round_stored}
-use Rattle.distance_words.proofs.Valuing.{Valued, evaluated}
+use Rattle.distance_theory.proofs.Store.{Whole, Stored, round_stored}
+use Rattle.distance_words.proofs.Valuing.{evaluated}
 use Rattle.distance_values.proofs.Uses.{InStore, evaluated_is}
 use Rattle.distance_store.proofs.Kept.{Ready, Keeps, ends_within}
-use Rattle.distance_words.proofs.Improving.{Bettered, bettered, better_from, best_of_pair, better_if, counted}
+use Rattle.distance_words.proofs.Improving.{Bettered, better_from, best_of_pair, better_if, counted}
 use Rattle.distance_words.proofs.Iterating.{Task, Iterated, iterated, values_of, bettered_of, ended, iterate_from}
 use Rattle.distance_rounds.proofs.Improved.{Same, improved_same}
 

@@ -12,13 +12,12 @@ use Rattle.numbers.specs.Real.{nought}
 use Rattle.numbers.specs.Lists.{over}
 use Rattle.numbers.proofs.Members.{in_at}
 use Rattle.epsdelta_theory.proofs.RowReads.{starts_up}
-use Rattle.chain_theory.specs.Chain.{Chain}
 use Rattle.chain_theory.specs.Columns.{ChainColumns, chain_columns, begins, chain_of}
 use Rattle.chain_theory.specs.declared.ChainShape.{ChainShape}
 use Rattle.chain_theory.proofs.Shaped.{Shaped}
 use Rattle.distance_theory.specs.Pairs.{Pair, pair, pair_at, most, row_of, pairs}
 use Rattle.distance_theory.specs.Couplings.{Metric, cost_of, metric}
-use Rattle.distance_theory.specs.Rounds.{begin, iterate, tolerance, solve}
+use Rattle.distance_theory.specs.Rounds.{begin, tolerance, solve}
 use Rattle.distance_theory.specs.declared.MetricOptions.{MetricOptions}
 use Rattle.distance_theory.proofs.Crossings.{map_at}
 use Rattle.distance_theory.proofs.Explore.{pairs_apart}
@@ -29,8 +28,8 @@ use Rattle.distance_theory.proofs.Lengths.{solve_is}
 use Rattle.distance_theory.proofs.Store.{Whole, first_stored}
 use Rattle.distance_theory.proofs.PairRows.{reads_row}
 use Rattle.distance_words.proofs.Store.{Filled}
-use Rattle.distance_store.proofs.Kept.{Ready, Keeps, Held}
-use Rattle.distance_words.proofs.Iterating.{Task, Iterated, iterated, iterate_from}
+use Rattle.distance_store.proofs.Kept.{Ready, Held}
+use Rattle.distance_words.proofs.Iterating.{Task, iterated, iterate_from}
 use Rattle.distance_rounds.proofs.Rounded.{Serves, Solves, iterate_same}
 
 -- the columns that are read

@@ -1,13 +1,12 @@
 -- What the improvement of one pair leaves, and the turns of the loop over all pairs.
 use mathlib.Core.Path.{◌≡◌, refl, sym, subst, ap, ap₂, ◌∙◌}
-use Prim.Native.Nat.{ℕ, zero, suc, ◌+◌, ◌*◌, ◌-◌, ◌≤◌, ◌<◌}
+use Prim.Native.Nat.{ℕ, suc, ◌+◌, ◌*◌, ◌-◌, ◌≤◌, ◌<◌}
 use mathlib.Core.Bool.{Bool, true, false, not, ◌&&◌, ◌||◌}
-use mathlib.Core.List.{List, [], ◌++◌, map}
+use mathlib.Core.List.{List, ◌++◌}
 use native.Mathlib.Omega.{arith}
 use native.Mathlib.Numerals.{add-one}
-use native.Mathlib.Nat.{mul-le-mul}
 use lib.Dec.{leb}
-use lib.ListN.{length, get_or, set, take, drop, length-set, length-map}
+use lib.ListN.{length, get_or, set, take, length-map}
 use lib.Seq.{slice, take_at}
 use lib.Ieee.{Float, nan, binary64, add, sub, mul, lt}
 use borrow.Author.Tests.{leb-true, le-leb, lt-leb, not-true, not-false}
@@ -19,7 +18,7 @@ use Rattle.epsdelta_theory.specs.Jumps.{Jump, jumps_of, rates}
 use Rattle.epsdelta_theory.proofs.RowReads.{jumps_length}
 use Rattle.parts.proofs.Lent.{part, back, part_all, back_is}
 use Rattle.chain_theory.specs.Columns.{ChainColumns}
-use Rattle.transport_theory.specs.Transport.{Transport, transport}
+use Rattle.transport_theory.specs.Transport.{transport}
 use Rattle.distance_theory.specs.Pairs.{target_pair}
 use Rattle.distance_theory.specs.Couplings.{Share, share, expected, Best, fitted, point_mass}
 use Rattle.distance_theory.proofs.Index.{look_up}
@@ -27,7 +26,7 @@ use Rattle.distance_theory.proofs.Crossings.{cross_length}
 use Rattle.distance_theory.proofs.Held.{shares_of, shares_in}
 use Rattle.distance_theory.proofs.Store.{rates_length, fitted_length, transport_length}
 use Rattle.distance_theory.proofs.Bests.{Look, ats, parts, independent_by, values_by, planned_by, best_by, rows_fit, cells_fit, fitting, Bested, bested, best_if, beside, cells_few}
-use Rattle.distance_theory.proofs.PairRows.{row_targets, row_rates, reads_row, bested_when, best_read, best_pair}
+use Rattle.distance_theory.proofs.PairRows.{row_targets, row_rates, reads_row, bested_when, best_pair}
 use Rattle.distance_words.proofs.Improving.{best_when, best_at, Adopted, adopted, gains, room_for, adopt_if, adopt, Bettered, bettered, better_from, best_of_pair, counted, better_if}
 
 -- ---- a coupling for a pair

@@ -1,14 +1,12 @@
 -- What `explore` leaves is run as the definition says, however many pairs there are.
-use mathlib.Core.Path.{◌≡◌, refl, sym, ap, ap₂, subst, ◌∙◌}
+use mathlib.Core.Path.{◌≡◌, refl, sym, ap, ap₂, ◌∙◌}
 use mathlib.Core.Logic.{◌⊎◌, inl, inr}
 use Prim.Native.Nat.{ℕ, ◌≤◌, ◌<◌, min}
-use mathlib.Core.Bool.{Bool, true}
 use mathlib.Core.List.{List}
 use native.Mathlib.Omega.{arith}
 use lib.ListN.{length, take}
 use lib.Seq.{take_all}
 use lib.Ieee.{Float}
-use borrow.Author.Tests.{lt-ltb}
 use Rattle.numbers.specs.Lists.{over}
 use Rattle.numbers.proofs.Bools.{lt_or_ge}
 use Rattle.chain_theory.specs.Columns.{ChainColumns, chain_of}
@@ -22,7 +20,7 @@ use Rattle.distance_theory.proofs.Index.{index}
 use Rattle.distance_pairs.specs.Starting.{starting_in}
 use Rattle.distance_rounds.proofs.Started.{bare}
 use Rattle.distance_words.specs.Told.{told_of}
-use Rattle.distance_words.proofs.Found.{found_if, found_of}
+use Rattle.distance_words.proofs.Found.{found_of}
 use Rattle.distance_words.specs.declared.told.Told.{Told}
 use Rattle.distance_run.proofs.Founding.{too_many}
 use Rattle.distance_run.proofs.Chains.{many_told, found_told}

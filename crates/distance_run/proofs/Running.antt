@@ -1,5 +1,5 @@
 -- Chains that can be run: what their columns give, and what is told of them.
-use mathlib.Core.Path.{◌≡◌, refl, sym, ap, ap₂, ◌∙◌}
+use mathlib.Core.Path.{◌≡◌, sym, ap, ◌∙◌}
 use Prim.Native.Nat.{ℕ, ◌+◌, ◌-◌, ◌≤◌, ◌<◌, min}
 use mathlib.Core.Bool.{Bool, true, false, not, ◌&&◌}
 use mathlib.Core.List.{List}
@@ -17,10 +17,10 @@ use Rattle.chain_theory.specs.Columns.{ChainColumns, begins, chain_of}
 use Rattle.chain_theory.specs.Check.{misshapen}
 use Rattle.chain_theory.specs.declared.ChainShape.{ChainShape}
 use Rattle.chain_theory.proofs.Shaped.{Shaped, shaped}
-use Rattle.distance_theory.specs.Pairs.{Pair, most, row_of, pairs}
+use Rattle.distance_theory.specs.Pairs.{most, row_of, pairs}
 use Rattle.distance_theory.specs.Outcome.{run}
 use Rattle.distance_theory.specs.declared.MetricOptions.{MetricOptions}
-use Rattle.distance_theory.proofs.Discovery.{Discovery, discovered, listed, listed_if, discover}
+use Rattle.distance_theory.proofs.Discovery.{discovered, listed, listed_if, discover}
 use Rattle.distance_theory.proofs.Inside.{row_at}
 use Rattle.distance_rounds.proofs.Started.{bare}
 use Rattle.distance_words.specs.Told.{refused_with, told_of, Ran, ran_as}

@@ -1,20 +1,20 @@
 -- The ways that `solve` ends.
 use mathlib.Core.Path.{◌≡◌, sym, ap, ◌∙◌}
 use Prim.Native.Nat.{ℕ, ◌<◌}
-use mathlib.Core.Bool.{Bool, true, false, not, ◌&&◌}
+use mathlib.Core.Bool.{Bool, true, false, not}
 use mathlib.Core.List.{List}
 use native.Mathlib.Omega.{arith}
 use lib.Dec.{ltb}
 use lib.Ieee.{Float, inf, binary64, sub, mul}
 use borrow.Author.Tests.{lt-ltb, le-ltb, not-true, not-false}
-use Rattle.numbers.specs.Real.{nought, one, tenth}
+use Rattle.numbers.specs.Real.{one, tenth}
 use Rattle.numbers.proofs.Bools.{and_first, and_second}
 use Rattle.chain_theory.specs.Columns.{ChainColumns}
 use Rattle.distance_theory.specs.Rounds.{tolerance}
 use Rattle.distance_theory.specs.declared.MetricOptions.{MetricOptions}
-use Rattle.distance_words.proofs.Store.{Filled, filled, fill}
+use Rattle.distance_words.proofs.Store.{filled, fill}
 use Rattle.distance_words.proofs.Even.{all_even}
-use Rattle.distance_words.proofs.Iterating.{Task, task, Iterated, iterated, iterate_from}
+use Rattle.distance_words.proofs.Iterating.{task, Iterated, iterated, iterate_from}
 use Rattle.distance_words.proofs.Solve.{Solving, solving, unsolved, uneven, aim_of, rounds_of, solve_if, solve_from, solve_of}
 use Rattle.distance_words.specs.declared.told.Solved.{Solved}
 

@@ -1,6 +1,6 @@
 -- The ways that a run of the definition ends, in the order of its checks.
 use mathlib.Core.Path.{◌≡◌, refl, sym, ap, ◌∙◌}
-use Prim.Native.Nat.{ℕ, zero, suc, ◌≤◌, ◌<◌}
+use Prim.Native.Nat.{ℕ, suc, ◌≤◌, ◌<◌}
 use mathlib.Core.Bool.{Bool, true, false, not, ◌&&◌}
 use lib.Dec.{ltb}
 use lib.ListN.{length, get_or}
@@ -13,7 +13,7 @@ use Rattle.numbers.proofs.Refuses.{check_hit, check_skip}
 use Rattle.chain_theory.specs.Chain.{Chain}
 use Rattle.distance_theory.specs.Pairs.{most}
 use Rattle.distance_theory.specs.Couplings.{Metric, metric, room, even}
-use Rattle.distance_theory.specs.Rounds.{Solution, solve}
+use Rattle.distance_theory.specs.Rounds.{solve}
 use Rattle.distance_theory.specs.Contributions.{Visits, occupancy, listed}
 use Rattle.distance_theory.specs.Refusal.{run_refusal}
 use Rattle.distance_theory.specs.Outcome.{Run, run}

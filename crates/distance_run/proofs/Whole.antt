@@ -1,12 +1,12 @@
 -- A run of pairs in lists is the definition's, where the lists hold the pairs of a metric.
-use mathlib.Core.Path.{◌≡◌, refl, sym, ap, ap₂, ◌∙◌}
+use mathlib.Core.Path.{◌≡◌, refl, ap, ap₂, ◌∙◌}
 use mathlib.Core.Logic.{◌⊎◌, inl, inr}
-use Prim.Native.Nat.{ℕ, zero, suc, ◌+◌, ◌≤◌, ◌<◌, min}
+use Prim.Native.Nat.{ℕ, suc, ◌+◌, ◌≤◌, ◌<◌, min}
 use mathlib.Core.Bool.{Bool, true, false, not, ◌&&◌}
 use mathlib.Core.List.{List, [], ◌∷◌, ◌++◌}
 use native.Mathlib.Omega.{arith}
-use lib.Dec.{ltb, leb}
-use lib.ListN.{length, get_or, take, drop, replicate, length-append, length-drop, get_or-append}
+use lib.Dec.{ltb}
+use lib.ListN.{length, get_or, take, drop, replicate, length-append, get_or-append}
 use lib.Seq.{take_at}
 use lib.Ieee.{Float, nan, inf, binary64, sub, mul, lt}
 use borrow.Author.Tests.{le-leb}
@@ -17,7 +17,7 @@ use Rattle.chain_theory.specs.Columns.{ChainColumns}
 use Rattle.transport_theory.specs.Transport.{keep}
 use Rattle.distance_theory.specs.Pairs.{Pair, most}
 use Rattle.distance_theory.specs.Couplings.{Metric, room, even}
-use Rattle.distance_theory.specs.Rounds.{many, Solution, solve, aim, tolerance}
+use Rattle.distance_theory.specs.Rounds.{many, solve, tolerance}
 use Rattle.distance_theory.specs.Contributions.{contribution, contributions, rank_into, listed}
 use Rattle.distance_theory.specs.declared.MetricOptions.{MetricOptions}
 use Rattle.distance_theory.specs.declared.PairContribution.{PairContribution}
@@ -31,7 +31,6 @@ use Rattle.distance_store.proofs.Kept.{Ready, Held, filled_held, unfilled}
 use Rattle.distance_words.proofs.Costs.{costs, priced_if, pricing}
 use Rattle.distance_words.proofs.Costs
 use Rattle.distance_costs.proofs.Pricing.{costs_length}
-use Rattle.distance_words.proofs.Even.{all_even}
 use Rattle.distance_even.proofs.Evens.{all_even_is}
 use Rattle.distance_words.proofs.Iterating.{Task, task, Iterated, iterate_from}
 use Rattle.distance_rounds.proofs.Rounded.{Serves, Solves, in_store}
@@ -39,7 +38,7 @@ use Rattle.distance_rounds.proofs.Started.{solved}
 use Rattle.distance_words.proofs.Listing.{listing, listed_of}
 use Rattle.distance_words.specs.declared.told.Listed.{Listed}
 use Rattle.distance_words.proofs.Found.{account_of}
-use Rattle.distance_words.proofs.Solve.{Solving, solving, uneven, aim_of, fine_of, solve_if, solve_from}
+use Rattle.distance_words.proofs.Solve.{Solving, uneven, aim_of, fine_of, solve_if, solve_from}
 use Rattle.distance_words.specs.declared.told.Accounted.{Accounted}
 use Rattle.distance_words.specs.declared.told.Told.{Told}
 use Rattle.distance_words.specs.Told.{told_of}

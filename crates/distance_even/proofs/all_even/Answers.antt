@@ -1,5 +1,5 @@
 use mathlib.Core.Path.{ap}
-use mathlib.Core.Bool.{not, true}
+use mathlib.Core.Bool.{not}
 use mathlib.Core.List.{[]}
 use native.Mathlib.Omega.{arith}
 use Rattle.numbers.proofs.Alls.{every_none}

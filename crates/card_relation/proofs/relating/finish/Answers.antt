@@ -1,5 +1,5 @@
 -- `relating::finish` meets its contract: the arm says what `epsdelta` answered, and Relates turns it into the text.
-use mathlib.Core.Path.{◌≡◌, sym, ap, ◌∙◌}
+use mathlib.Core.Path.{sym, ap, ◌∙◌}
 use Rattle.epsdelta.specs.Outcome.{ends}
 use Rattle.epsdelta.specs.declared.relation.Ended.{Ended}
 use Rattle.card_relation.proofs.Relates.{finish_related, finish_refused}

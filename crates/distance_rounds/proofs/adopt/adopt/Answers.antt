@@ -2,7 +2,6 @@
 use mathlib.Core.Path.{ap}
 use Prim.Native.Nat.{ℕ, ◌+◌}
 use native.Mathlib.Omega.{arith}
-use borrow.Author.Tests.{not-true, not-false}
 use Rattle.parts.proofs.Lent.{part_length}
 use Rattle.distance_rounds.proofs.Steps.{no_gain, no_places, no_masses, adopts}
 use Rattle.distance_rounds.proofs.adopt.adopt.Goals as goal

@@ -1,7 +1,6 @@
 -- By the tests, one after the other.
 use mathlib.Core.Bool.{not}
 use Rattle.chain_theory.specs.Columns.{chain_columns}
-use Rattle.chain_theory.specs.Check.{misshapen}
 use Rattle.chain_theory.proofs.Shaped.{shaped}
 use Rattle.distance_run.proofs.Fitting.{large, unfit, long_row, fits_seen}
 use mathlib.Core.Path.{ap, sym, ◌∙◌}

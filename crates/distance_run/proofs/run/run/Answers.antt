@@ -2,7 +2,6 @@
 use mathlib.Core.Bool.{not}
 use mathlib.Core.Path.{ap, sym, ◌∙◌}
 use lib.ListN.{length}
-use borrow.Author.Tests.{not-false}
 use Rattle.chain_theory.specs.Columns.{chain_columns}
 use Rattle.distance_run.proofs.Fitting.{both_fit}
 use Rattle.distance_run.proofs.Running.{run_refused, run_clears}
