@@ -1,5 +1,5 @@
 -- What reading a case leaves of its marks.
-use Rattle.std.specs.Prelude.{ℕ, ◌≤◌, ◌≡◌, Bool, ◌&&◌, ◌||◌, Float}
+use Rattle.std.specs.Prelude.{◌≤◌, ◌≡◌, Bool, ◌&&◌, ◌||◌, Float}
 use Rattle.std.specs.Float.Ieee.{eq, ne}
 use Rattle.replay_text.specs.declared.text.Reader.{Reader}
 

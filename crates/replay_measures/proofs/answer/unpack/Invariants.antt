@@ -1,7 +1,5 @@
 -- `unpack` is safe and ends: its turns are bounded, and the measure is how many are left.
-use mathlib.Core.Path.{◌≡◌}
 use Prim.Native.Nat.{◌≤◌, ◌-◌}
-use lib.ListN.{length}
 use Rattle.replay_measures.proofs.answer.unpack.Given as goal
 
 abbrev pub invariant-loop-i : goal.invariant-loop-i

@@ -1,5 +1,4 @@
 -- `all_are` is safe and ends: its turns are bounded, and the measure is how many are left.
-use mathlib.Core.Path.{◌≡◌}
 use Prim.Native.Nat.{◌≤◌, ◌-◌}
 use lib.ListN.{length}
 use Rattle.replay_measures.proofs.scratch.all_are.Given as goal

@@ -1,5 +1,4 @@
 -- `reals_are` is safe and ends: its turns are bounded, and the measure is how many are left.
-use mathlib.Core.Path.{◌≡◌}
 use Prim.Native.Nat.{◌≤◌, ◌-◌}
 use lib.ListN.{length}
 use Rattle.replay_measures.proofs.scratch.reals_are.Given as goal
