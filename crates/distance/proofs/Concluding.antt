@@ -1,5 +1,5 @@
 -- What is told and written is the definition's outcome.
-use mathlib.Core.Path.{◌≡◌, refl, sym, ap, ◌∙◌}
+use mathlib.Core.Path.{◌≡◌, refl, sym, ap, ap₂, ◌∙◌}
 use Prim.Native.Nat.{ℕ, zero, suc, ◌≤◌, min}
 use mathlib.Core.Bool.{Bool, true, false, not, ◌||◌}
 use mathlib.Core.List.{List, [], ◌∷◌}
@@ -29,7 +29,7 @@ use Rattle.distance_theory.specs.declared.Measured.{Measured}
 use Rattle.distance_theory.specs.declared.Measured.TheVariants as says
 use Rattle.distance_theory.proofs.Inside.{row_proper, proper_few}
 use Rattle.distance_words.specs.Told.{row, Ran, ran_as}
-use Rattle.distance_contributions.specs.Row.{Stored, stored_if, written}
+use Rattle.distance_contributions.specs.Row.{Stored, stored, stored_if, written}
 use Rattle.distance_contributions.proofs.Records.{listed_written}
 use Rattle.distance_words.specs.declared.told.Told.{Told}
 use Rattle.distance_words.specs.Told.{refused_with, told_if, told_of}
