@@ -12,6 +12,7 @@ mod reals; // reals.rt: the kind `real`
 use replay_text::text::Reader;
 use replay_text::{tally, text};
 use std::io;
+use std::io::Read;
 
 // The words of the kinds, by their bytes.
 const REAL: u64 = 0x7265616c;
@@ -59,45 +60,44 @@ fn run_all(buf: &[u8], counts: &mut [u64; 48]) {
     }
 }
 
-fn print_labels(rt: &impl Print, counts: &[u64; 48]) -> io::Result<()> {
-    tally::print_entry(rt, b"real is_valid ", counts, entries::IS_VALID)?;
-    tally::print_entry(rt, b"real is_zero ", counts, entries::IS_ZERO)?;
-    tally::print_entry(rt, b"real sum ", counts, entries::SUM)?;
-    tally::print_entry(rt, b"intern ", counts, entries::INTERN)?;
-    tally::print_entry(rt, b"label get ", counts, entries::GET)?;
-    tally::print_entry(rt, b"label resolve ", counts, entries::RESOLVE)?;
-    tally::print_entry(rt, b"build ", counts, entries::BUILD)?;
-    Ok(())
+fn print_labels(rt: &impl Print, counts: &[u64; 48]) {
+    tally::print_entry(rt, b"real is_valid ", counts, entries::IS_VALID);
+    tally::print_entry(rt, b"real is_zero ", counts, entries::IS_ZERO);
+    tally::print_entry(rt, b"real sum ", counts, entries::SUM);
+    tally::print_entry(rt, b"intern ", counts, entries::INTERN);
+    tally::print_entry(rt, b"label get ", counts, entries::GET);
+    tally::print_entry(rt, b"label resolve ", counts, entries::RESOLVE);
+    tally::print_entry(rt, b"build ", counts, entries::BUILD);
 }
 
-fn print_models(rt: &impl Print, counts: &[u64; 48]) -> io::Result<()> {
-    tally::print_entry(rt, b"model model_refusal ", counts, entries::MODEL_REFUSAL)?;
-    tally::print_entry(rt, b"model num_states ", counts, entries::NUM_STATES)?;
+fn print_models(rt: &impl Print, counts: &[u64; 48]) {
+    tally::print_entry(rt, b"model model_refusal ", counts, entries::MODEL_REFUSAL);
+    tally::print_entry(rt, b"model num_states ", counts, entries::NUM_STATES);
     tally::print_entry(
         rt,
         b"model num_transitions ",
         counts,
         entries::NUM_TRANSITIONS,
-    )?;
-    tally::print_entry(rt, b"model num_labels ", counts, entries::NUM_LABELS)?;
-    tally::print_entry(rt, b"model initial ", counts, entries::INITIAL)?;
-    tally::print_entry(rt, b"model successors ", counts, entries::SUCCESSORS)?;
-    tally::print_entry(rt, b"model label ", counts, entries::LABEL)?;
-    tally::print_entry(rt, b"model label_id ", counts, entries::LABEL_ID)?;
-    Ok(())
+    );
+    tally::print_entry(rt, b"model num_labels ", counts, entries::NUM_LABELS);
+    tally::print_entry(rt, b"model initial ", counts, entries::INITIAL);
+    tally::print_entry(rt, b"model successors ", counts, entries::SUCCESSORS);
+    tally::print_entry(rt, b"model label ", counts, entries::LABEL);
+    tally::print_entry(rt, b"model label_id ", counts, entries::LABEL_ID);
 }
 
-fn print_all(rt: &impl Print, counts: &[u64; 48]) -> io::Result<()> {
-    print_labels(rt, counts)?;
-    print_models(rt, counts)?;
-    tally::print_entry(rt, b"other ", counts, tally::OTHER)?;
-    tally::print_total(rt, counts)?;
-    Ok(())
+fn print_all(rt: &impl Print, counts: &[u64; 48]) {
+    print_labels(rt, counts);
+    print_models(rt, counts);
+    tally::print_entry(rt, b"other ", counts, tally::OTHER);
+    tally::print_total(rt, counts);
 }
 
 fn main(rt: HostRuntime) -> io::Result<()> {
-    let buf = text::input(&rt)?;
+    let mut buf = Vec::new(rt.alloc());
+    rt.reader().read_to_end(&mut buf)?;
     let mut counts = [0u64; 48];
     run_all(&buf, &mut counts);
-    print_all(&rt, &counts)
+    print_all(&rt, &counts);
+    Ok(())
 }

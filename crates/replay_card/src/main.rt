@@ -7,6 +7,7 @@ mod cards; // cards.rt: a stored card, its report and the store
 use replay_text::text::Reader;
 use replay_text::{tally, text};
 use std::io;
+use std::io::Read;
 
 // The word of the kind, by its bytes.
 const CARD: u64 = 0x63617264;
@@ -38,13 +39,14 @@ fn run_all(buf: &[u8], counts: &mut [u64; 48], card: &mut [u8], out: &mut [u8]) 
 }
 
 fn main(rt: HostRuntime) -> io::Result<()> {
-    let buf = text::input(&rt)?;
+    let mut buf = Vec::new(rt.alloc());
+    rt.reader().read_to_end(&mut buf)?;
     let mut counts = [0u64; 48];
     let mut card = [0u8; 10500];
     let mut out = [0u8; 26662];
     run_all(&buf, &mut counts, &mut card, &mut out);
-    tally::print_entry(&rt, b"card report ", &counts, cards::REPORT)?;
-    tally::print_entry(&rt, b"other ", &counts, tally::OTHER)?;
-    tally::print_total(&rt, &counts)?;
+    tally::print_entry(&rt, b"card report ", &counts, cards::REPORT);
+    tally::print_entry(&rt, b"other ", &counts, tally::OTHER);
+    tally::print_total(&rt, &counts);
     Ok(())
 }

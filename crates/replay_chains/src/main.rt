@@ -11,6 +11,7 @@ mod scaled; // scaled.rt: the kind `normalise`
 use replay_text::text::Reader;
 use replay_text::{tally, text};
 use std::io;
+use std::io::Read;
 
 // The first eight letters of the words of the kinds, by their bytes.
 const RATE: u64 = 0x72617465;
@@ -49,13 +50,14 @@ fn run_all(buf: &[u8], counts: &mut [u64; 48]) {
 }
 
 fn main(rt: HostRuntime) -> io::Result<()> {
-    let buf = text::input(&rt)?;
+    let mut buf = Vec::new(rt.alloc());
+    rt.reader().read_to_end(&mut buf)?;
     let mut counts = [0u64; 48];
     run_all(&buf, &mut counts);
-    tally::print_entry(&rt, b"rate common_rate ", &counts, entries::COMMON_RATE)?;
-    tally::print_entry(&rt, b"uniformise uniformise ", &counts, entries::UNIFORMISE)?;
-    tally::print_entry(&rt, b"normalise normalise ", &counts, entries::NORMALISE)?;
-    tally::print_entry(&rt, b"other ", &counts, tally::OTHER)?;
-    tally::print_total(&rt, &counts)?;
+    tally::print_entry(&rt, b"rate common_rate ", &counts, entries::COMMON_RATE);
+    tally::print_entry(&rt, b"uniformise uniformise ", &counts, entries::UNIFORMISE);
+    tally::print_entry(&rt, b"normalise normalise ", &counts, entries::NORMALISE);
+    tally::print_entry(&rt, b"other ", &counts, tally::OTHER);
+    tally::print_total(&rt, &counts);
     Ok(())
 }

@@ -7,6 +7,7 @@ mod chains; // chains.rt: the kind `distance`
 use replay_text::text::Reader;
 use replay_text::{tally, text};
 use std::io;
+use std::io::Read;
 
 // The letters of the kind's word, by their bytes.
 const DISTANCE: u64 = 0x64697374616e6365;
@@ -32,11 +33,12 @@ fn run_all(buf: &[u8], counts: &mut [u64; 48]) {
 }
 
 fn main(rt: HostRuntime) -> io::Result<()> {
-    let buf = text::input(&rt)?;
+    let mut buf = Vec::new(rt.alloc());
+    rt.reader().read_to_end(&mut buf)?;
     let mut counts = [0u64; 48];
     run_all(&buf, &mut counts);
-    tally::print_entry(&rt, b"distance distance ", &counts, chains::DISTANCE)?;
-    tally::print_entry(&rt, b"other ", &counts, tally::OTHER)?;
-    tally::print_total(&rt, &counts)?;
+    tally::print_entry(&rt, b"distance distance ", &counts, chains::DISTANCE);
+    tally::print_entry(&rt, b"other ", &counts, tally::OTHER);
+    tally::print_total(&rt, &counts);
     Ok(())
 }

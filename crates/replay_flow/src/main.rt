@@ -13,6 +13,7 @@ mod nodes; // nodes.rt: the kind `nodes`
 use replay_text::text::Reader;
 use replay_text::{tally, text};
 use std::io;
+use std::io::Read;
 
 // The words of the kinds, by their bytes.
 const FLOW: u64 = 0x666c6f77;
@@ -50,18 +51,19 @@ fn run_all(buf: &[u8], counts: &mut [u64; 48]) {
     }
 }
 
-fn print_all(rt: &impl Print, counts: &[u64; 48]) -> io::Result<()> {
-    tally::print_entry(rt, b"flow max_flow ", counts, entries::MAX_FLOW)?;
-    tally::print_entry(rt, b"edge add_edge ", counts, entries::ADD_EDGE)?;
-    tally::print_entry(rt, b"nodes new ", counts, entries::NEW)?;
-    tally::print_entry(rt, b"other ", counts, tally::OTHER)?;
-    tally::print_total(rt, counts)?;
-    Ok(())
+fn print_all(rt: &impl Print, counts: &[u64; 48]) {
+    tally::print_entry(rt, b"flow max_flow ", counts, entries::MAX_FLOW);
+    tally::print_entry(rt, b"edge add_edge ", counts, entries::ADD_EDGE);
+    tally::print_entry(rt, b"nodes new ", counts, entries::NEW);
+    tally::print_entry(rt, b"other ", counts, tally::OTHER);
+    tally::print_total(rt, counts);
 }
 
 fn main(rt: HostRuntime) -> io::Result<()> {
-    let buf = text::input(&rt)?;
+    let mut buf = Vec::new(rt.alloc());
+    rt.reader().read_to_end(&mut buf)?;
     let mut counts = [0u64; 48];
     run_all(&buf, &mut counts);
-    print_all(&rt, &counts)
+    print_all(&rt, &counts);
+    Ok(())
 }

@@ -1,5 +1,5 @@
 // How often each entry agrees with the stored answers, and how often it differs.
-ghost use Rattle.std.specs.Prelude.{◌≡◌, true, false, get_or, IfOk};
+ghost use Rattle.std.specs.Prelude.{◌≡◌, true, false, get_or};
 ghost use Rattle.replay_text.specs.Tally.{Ready, agrees as agreed, place as place_of, more, tallied};
 
 use crate::text;
@@ -60,29 +60,38 @@ fn at(counts: &[u64], i: usize) -> u64
     if i < counts.len() { counts[i] } else { 0 }
 }
 
-// Prints how many agree and differ, and answers how many differ.
-pub fn print_entry(
+fn print_line(
     rt: &impl Print,
     what: &[u8],
-    counts: &[u64; 48],
-    entry: usize,
-) -> io::Result<u64>
-    ensures { IfOk result (λ n. n ≡ get_or counts.now (place_of entry false) 0) }
+    agree: u64,
+    between: &str,
+    differ: u64,
+) -> io::Result<()> {
+    io::writer(rt).write_all(what)?;
+    println!(rt; "{agree}{between}{differ} differ")
+}
+
+// Prints how many agree and differ, and answers how many differ. What can't be written is lost.
+pub fn print_entry(rt: &impl Print, what: &[u8], counts: &[u64; 48], entry: usize) -> u64
+    ensures { result ≡ get_or counts.now (place_of entry false) 0 }
 {
     let differ = at(counts, place(entry, false));
     let agree = at(counts, place(entry, true));
-    io::writer(rt).write_all(what)?;
-    println!(rt; "{agree} agree {differ} differ")?;
-    Ok(differ)
+    match print_line(rt, what, agree, " agree ", differ) {
+        Ok(()) => differ,
+        Err(_) => differ,
+    }
 }
 
-pub fn print_total(rt: &impl Print, counts: &[u64; 48]) -> io::Result<u64>
-    ensures { IfOk result (λ n. n ≡ get_or counts.now (place_of 46 false) 0) }
+pub fn print_total(rt: &impl Print, counts: &[u64; 48]) -> u64
+    ensures { result ≡ get_or counts.now (place_of 46 false) 0 }
 {
     let differ = at(counts, place(TOTAL, false));
     let agree = at(counts, place(TOTAL, true));
-    println!(rt; "{agree} agree, {differ} differ")?;
-    Ok(differ)
+    match print_line(rt, b"", agree, " agree, ", differ) {
+        Ok(()) => differ,
+        Err(_) => differ,
+    }
 }
 
 // A case that cannot be read: one difference.

@@ -2,9 +2,6 @@
 ghost use Rattle.std.specs.Prelude.{◌≡◌, true, false, ◌<◌, ◌≤◌, eqb};
 ghost use Rattle.replay_text.specs.Reading.{Placed, Kept, Lasts, same};
 
-use std::io;
-use std::io::Read;
-
 const LINE_FEED: u32 = 10;
 
 const BLANK: u32 = 32;
@@ -92,13 +89,6 @@ pub fn compared(r: Reader, agrees: bool) -> Reader
         return r;
     }
     marked(r, r.faults, raised(r.differences))
-}
-
-// All of standard input.
-pub fn input(rt: &(impl Input + AllocGlobal)) -> io::Result<Vec<u8>> {
-    let mut bytes = Vec::new(rt.alloc());
-    rt.reader().read_to_end(&mut bytes)?;
-    Ok(bytes)
 }
 
 pub(crate) fn advance(buf: &[u8], r: Reader) -> Reader

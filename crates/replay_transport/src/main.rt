@@ -7,6 +7,7 @@ mod plans; // plans.rt: a stored case, its answer and its columns
 use replay_text::text::Reader;
 use replay_text::{tally, text};
 use std::io;
+use std::io::Read;
 
 // The first eight letters of the word of the kind, by their bytes.
 const TRANSPOR: u64 = 0x7472616e73706f72;
@@ -32,11 +33,12 @@ fn run_all(buf: &[u8], counts: &mut [u64; 48]) {
 }
 
 fn main(rt: HostRuntime) -> io::Result<()> {
-    let buf = text::input(&rt)?;
+    let mut buf = Vec::new(rt.alloc());
+    rt.reader().read_to_end(&mut buf)?;
     let mut counts = [0u64; 48];
     run_all(&buf, &mut counts);
-    tally::print_entry(&rt, b"transport transport ", &counts, plans::TRANSPORT)?;
-    tally::print_entry(&rt, b"other ", &counts, tally::OTHER)?;
-    tally::print_total(&rt, &counts)?;
+    tally::print_entry(&rt, b"transport transport ", &counts, plans::TRANSPORT);
+    tally::print_entry(&rt, b"other ", &counts, tally::OTHER);
+    tally::print_total(&rt, &counts);
     Ok(())
 }
