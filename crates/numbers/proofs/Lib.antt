@@ -17,3 +17,4 @@ pub mod Members
 pub mod Parts
 pub mod Choices
 pub mod Digits
+pub mod Loops

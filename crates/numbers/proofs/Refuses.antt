@@ -1,10 +1,48 @@
 -- Laws of checks in a row, and of tests in a row.
-use mathlib.Core.Path.{◌≡◌, refl}
+use mathlib.Core.Path.{◌≡◌, refl, sym, ap, ◌∙◌}
 use mathlib.Core.Bool.{Bool, true, false, ◌||◌, true≢false, false≢true}
 use mathlib.Core.Logic.{◌≢◌}
 use Prim.Native.Nat.{ℕ, zero, suc}
 use native.Mathlib.Omega.{arith}
-use Rattle.numbers.specs.Refuse.{check}
+use Rattle.std.specs.Prelude.{Result, Ok, Err}
+use Rattle.numbers.specs.declared.refusal.Refusal.{Refusal}
+use Rattle.numbers.specs.declared.refusal.Refusal.TheVariants as refusal
+use Rattle.numbers.specs.Refuse.{check, number, numbered, code, ends}
+
+-- no refusal has the number 0
+pub number_positive : (r : Refusal) → number r ≢ 0
+number_positive refusal.CardLayout e = absurd (omega arith)
+number_positive refusal.CardSize e = absurd (omega arith)
+number_positive refusal.ModelSize e = absurd (omega arith)
+number_positive refusal.OutOfRange e = absurd (omega arith)
+number_positive refusal.Weight e = absurd (omega arith)
+number_positive refusal.Targets e = absurd (omega arith)
+number_positive refusal.Store e = absurd (omega arith)
+number_positive refusal.NoInitialState e = absurd (omega arith)
+number_positive refusal.Tolerance e = absurd (omega arith)
+number_positive refusal.StatesTogether e = absurd (omega arith)
+number_positive refusal.DiscountOrRate e = absurd (omega arith)
+number_positive refusal.Observation e = absurd (omega arith)
+number_positive refusal.Chain e = absurd (omega arith)
+number_positive refusal.TopOrRounds e = absurd (omega arith)
+number_positive refusal.NetworkOrMasses e = absurd (omega arith)
+number_positive refusal.Totals e = absurd (omega arith)
+number_positive refusal.Pairs e = absurd (omega arith)
+number_positive refusal.CouplingStore e = absurd (omega arith)
+number_positive refusal.Occupancy e = absurd (omega arith)
+
+-- a call that passes, and one that is turned back
+pub ends_ok : {A : Type 0} (n : ℕ) (x : A) → 0 ≡ n → Ok x ≡ ends n x
+ends_ok zero x e = refl
+ends_ok (suc n) x e = absurd (omega arith)
+
+pub ends_err : {A : Type 0} (r : Refusal) (n : ℕ) (x : A) → number r ≡ n → numbered (Err r) ≡ ends n x
+ends_err r zero x e = absurd (number_positive r e)
+ends_err r (suc n) x e = ap Err e
+
+-- what is answered, by the code of a check before it
+pub ends_code : {A B : Type 0} (r : Result B Refusal) (n : ℕ) (x : A) → code r ≡ n → code r ≡ 0 → numbered (Ok x) ≡ ends n x
+ends_code r n x e z = ends_ok n x (sym z ∙ e)
 
 -- a refusal that was found, or, where it is 0, what the later checks say
 abbrev pub first : ℕ → ℕ → ℕ

@@ -1,6 +1,8 @@
 // Numbers: `Real` of semiring.rs, the constants of document 01, the ordered search that stands in for hash maps, and the bits of a byte store.
 #![tactic(auto)]
 
+pub mod refusal; // refusal.rt: why a call is turned back
+
 ghost use Rattle.std.specs.Prelude.{◌≡◌, ◌≤◌, min, false, length, take, [], ◌∷◌};
 ghost use Rattle.std.specs.Float.{inf};
 ghost use Rattle.numbers.specs.Real.{is_zero, is_valid, sum, one, half, tenth, least_weight, greatest_weight, greatest_joined, least_observation, greatest_factor, greatest_rate, eps, slack, margin, fineness};
@@ -87,10 +89,8 @@ impl Real {
         ensures { result.0 ≡ sum items.now }
     {
         let mut total = 0.0;
-        let mut i = 0;
-        while i < items.len() {
-            total = total + items[i];
-            i += 1;
+        for x in items {
+            total += *x;
         }
         Real(total)
     }
@@ -139,29 +139,12 @@ pub fn least(a: usize, b: usize, c: usize, d: usize) -> usize
     lesser(a, lesser(b, lesser(c, d)))
 }
 
-// Where x first stands in list[..n]; n if it does not.
-fn place_in(list: &[u32], n: usize, x: u32) -> usize
-    requires { n ≤ length list.now }
-    ensures { result ≡ Search.seek x (take n list.now) }
-{
-    let mut at = 0;
-    while at < n {
-        if list[at] == x {
-            return at;
-        }
-        at += 1;
-    }
-    n
-}
-
 // Where x first stands among the first n entries of a list; how many these are if it does not.
 pub fn seek(list: &[u32], n: usize, x: u32) -> usize
     ensures { result ≡ Search.seek x (take n list.now) }
 {
-    if n < list.len() {
-        return place_in(list, n, x);
-    }
-    place_in(list, list.len(), x)
+    let front = &list[..n.min(list.len())];
+    front.iter().position(|y| *y == x).unwrap_or(front.len())
 }
 
 // Bit i of a store of bytes, lowest bit of a byte first; false past its end.

@@ -1,17 +1,14 @@
-use mathlib.Core.Path.{refl, ◌∙◌}
-use native.Mathlib.Omega.{arith}
+use Rattle.std.proofs.Common.{refl, ◌∙◌, arith}
 use Rattle.numbers.specs.Real.{sum}
 use Rattle.numbers.proofs.Sums.{sum_next, sum_end}
 use Rattle.numbers.proofs.Real.sum.Goals as goal
 
-pub loop-i-init : goal.loop-i-init
+pub loop-x-init : goal.loop-x-init
 unfolding sum
-loop-i-init c = (omega arith, refl)
+loop-x-init c = refl
 
-pub loop-i-preserved : goal.loop-i-preserved
-loop-i-preserved c =
-    (omega arith, sum_next c.loop-i.total c.args.items.now c.loop-i.i c.loop-i-test.true ∙ c.loop-i.invariant.1)
+pub loop-x-preserved : goal.loop-x-preserved
+loop-x-preserved c = sum_next c.loop-x.total c.args.items.now c.loop-x.x-index c.loop-x-test.true ∙ c.loop-x.invariant
 
 pub returns : goal.returns
-returns c =
-    sum_end c.loop-i.total c.args.items.now c.loop-i.i (omega arith) ∙ c.loop-i.invariant.1
+returns c = sum_end c.loop-x.total c.args.items.now c.loop-x.x-index (omega arith) ∙ c.loop-x.invariant
