@@ -11,12 +11,6 @@ use bisim_core::ids::StateId;
 use chain_check::shape::misshapen;
 use chain_theory::ChainShape;
 
-fn wide(x: u32) -> usize
-    ensures { result ≡ x }
-{
-    x as usize
-}
-
 // A pair is met: it is known, or the next one. How many pairs there are then; pair 4,097 is counted, and not noted.
 fn meet(x: u32, y: u32, lefts: &mut [u32], rights: &mut [u32], codes: &mut [u64], n: usize) -> usize
     requires { Lists n lefts.old rights.old codes.old }
@@ -50,13 +44,11 @@ fn meet_row(
     ensures { (result ≤ 4097) × Takes (map (pair x) ys.now) n lefts.old rights.old codes.old result lefts.new rights.new codes.new }
 {
     let mut count = n;
-    let mut j = 0;
-    while j < ys.len() {
-        count = meet(x, ys[j], lefts, rights, codes, count);
+    for y in ys {
+        count = meet(x, *y, lefts, rights, codes, count);
         if count > 4096 {
             return count;
         }
-        j += 1;
     }
     count
 }
@@ -74,13 +66,11 @@ fn meet_rows(
     ensures { (result ≤ 4097) × Takes (crossing xs.now ys.now) n lefts.old rights.old codes.old result lefts.new rights.new codes.new }
 {
     let mut count = n;
-    let mut i = 0;
-    while i < xs.len() {
-        count = meet_row(xs[i], ys, lefts, rights, codes, count);
+    for x in xs {
+        count = meet_row(*x, ys, lefts, rights, codes, count);
         if count > 4096 {
             return count;
         }
-        i += 1;
     }
     count
 }
@@ -102,10 +92,10 @@ fn follow(
     requires rowed { (Rowed left_offsets.now left_targets.now x) × (Rowed right_offsets.now right_targets.now y) }
     ensures { (result ≤ 4097) × Takes (crossing (row_in left_offsets.now left_targets.now x) (row_in right_offsets.now right_targets.now y)) n lefts.old rights.old codes.old result lefts.new rights.new codes.new }
 {
-    let left_from = wide(left_offsets[x]);
-    let left_to = wide(left_offsets[x + 1]);
-    let right_from = wide(right_offsets[y]);
-    let right_to = wide(right_offsets[y + 1]);
+    let left_from = left_offsets[x] as usize;
+    let left_to = left_offsets[x + 1] as usize;
+    let right_from = right_offsets[y] as usize;
+    let right_to = right_offsets[y + 1] as usize;
     meet_rows(
         &left_targets[left_from..left_to],
         &right_targets[right_from..right_to],
@@ -133,8 +123,8 @@ fn discover_in(
     let mut n = 1;
     let mut i = 0;
     while i < n {
-        let x = wide(lefts[i]);
-        let y = wide(rights[i]);
+        let x = lefts[i] as usize;
+        let y = rights[i] as usize;
         n = follow(
             x,
             y,
@@ -165,27 +155,15 @@ fn readable(
 ) -> bool
     ensures { result ≡ Discovery.readable (starting_in initial chain) (chain_columns offsets.now targets.now probs.now []) }
 {
-    if chain.states > 2000 {
-        return false;
-    }
-    let shape = ChainShape {
-        states: chain.states,
-        entries: chain.entries,
-        initial,
-    };
-    !misshapen(shape, offsets, targets, probs)
+    let shape = ChainShape { initial, ..chain };
+    chain.states <= 2000 && !misshapen(shape, offsets, targets, probs)
 }
 
 // At least 4,096 entries each.
 fn long(lefts: usize, rights: usize, codes: usize) -> bool
     ensures { result ≡ Discovery.long lefts rights codes }
 {
-    if lefts >= 4096 {
-        if rights >= 4096 {
-            return codes >= 4096;
-        }
-    }
-    false
+    lefts >= 4096 && rights >= 4096 && codes >= 4096
 }
 
 // The pairs of states that are met from x and y on, in the order of their discovery: left and right states, and their index. How many there are, 4,097 where there are more than 4,096; then the first 4,096 are listed. 0 where the chains are not as check 4 wants them, x and y their initial states, have over 2,000 states, or a list is short: the lists are then as they were.

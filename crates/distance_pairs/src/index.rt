@@ -7,18 +7,11 @@ ghost use Rattle.distance_theory.proofs.Index;
 
 use bisim_core::ids::StateId;
 
-// A value below 2^32, as a wider number.
-fn wider(x: u32) -> u64
-    ensures { (result ≡ x) × (result < 4294967296) }
-{
-    x as u64
-}
-
 // A pair as one number.
 pub(crate) fn key(x: u32, y: u32) -> u64
     ensures { (result ≡ Index.key (pair x y)) × (result < 8800387989504) }
 {
-    wider(x) * 2048 + wider(y)
+    u64::from(x) * 2048 + u64::from(y)
 }
 
 // Pair number n.
@@ -29,17 +22,12 @@ pub(crate) fn code(x: u32, y: u32, n: usize) -> u64
     key(x, y) * 4096 + n as u64
 }
 
-// A code put in at the front; the k codes from there on move on by one, the last of them first, which the compiler makes one move of memory.
+// A code put in at the front; the k codes from there on move on by one.
 pub(crate) fn push(codes: &mut [u64], k: usize, code: u64)
     requires { k < length codes.old }
     ensures { codes.new ≡ RowsIn.pushed k codes.old code }
 {
-    let mut i = k;
-    while i > 0 {
-        let moved = codes[i - 1];
-        codes[i] = moved;
-        i -= 1;
-    }
+    codes.copy_within(..k, 1);
     codes[0] = code;
 }
 
@@ -70,11 +58,7 @@ pub(crate) fn goes_by(list: &[u64], key: u64) -> usize
 pub(crate) fn is_at(list: &[u64], at: usize, key: u64) -> bool
     ensures { result ≡ Index.is_at list.now at key }
 {
-    if at < list.len() {
-        let code = list[at];
-        return code / 4096 == key;
-    }
-    false
+    list.get(at).is_some_and(|code| *code / 4096 == key)
 }
 
 // The number of a pair of states, by the codes of all pairs; how many these are if it is none of them.

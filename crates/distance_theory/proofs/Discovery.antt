@@ -9,7 +9,8 @@ use native.Mathlib.Numerals.{add-one}
 use native.Mathlib.Nat.{le_of_suc-le-suc, not-suc-le-zero}
 use lib.Dec.{ltb, leb}
 use lib.ListN.{length, get_or, set, take, drop, length-append, length-drop, length-map, length-take, take-append-drop, get_or-append}
-use lib.Seq.{slice, take_all, take-suc, take_at, take-append-le, length-slice, drop-append-add, drop-drop}
+use lib.Seq.{paste, slice, take_all, take-suc, take_at, take-append-le, length-slice, drop-append-add, drop-drop}
+use Rattle.std.specs.List.{copy_within}
 use Rattle.numbers.specs.Lists.{In, over}
 use Rattle.numbers.specs.Sort.{insert}
 use borrow.Author.Tests.{ltb-true, ltb-false, leb-true, not-true, not-false}
@@ -153,24 +154,13 @@ push_insert t (suc n) k (suc m) (x ∷ l) s h S =
     ap (λ (r : List ℕ). x ∷ r) (push_insert t n k m l (omega arith) (le_of_suc-le-suc h) R)
     ∙ ap (λ (r : List ℕ). r ++ drop (suc m) l) (sym (insert_past t x (take m l) (S.before 0 (omega arith))))
 
--- what stands behind the first k moves on: then k are left to move
-push_back : (k : ℕ) (l : List ℕ) (c : ℕ) → suc k < length l → pushed k (set l (suc k) (get_or l k 0)) c ≡ pushed (suc k) l c
-unfolding pushed
-push_back k [] c h = absurd (not-suc-le-zero h)
-push_back k (y ∷ []) c h = absurd (omega arith)
-push_back zero (y ∷ (z ∷ l)) c h = refl
-push_back (suc k) (y ∷ (z ∷ l)) c h = ap (λ (r : List ℕ). c ∷ r) (push_back k (z ∷ l) y (le_of_suc-le-suc h))
-
--- the loop of `push`, from the last on
-pub push_turn : (i : ℕ) (l : List ℕ) (c : ℕ) → 0 < i → i < length l → pushed (i - 1) (set l i (get_or l (i - 1) 0)) c ≡ pushed i l c
-push_turn zero l c h k = absurd (not-suc-le-zero h)
-push_turn (suc i) l c h k = ap (λ (j : ℕ). pushed j (set l (suc i) (get_or l j 0)) c) (let e : suc i - 1 ≡ i = omega arith in e) ∙ push_back i l c k
-
-pub push_end : (i : ℕ) (l : List ℕ) (c : ℕ) → i ≤ 0 → set l 0 c ≡ pushed i l c
-unfolding pushed
-push_end zero [] c h = refl
-push_end zero (y ∷ l) c h = refl
-push_end (suc i) l c h = absurd (not-suc-le-zero h)
+-- the first k entries are moved on by one, and c goes before them
+pub push_moved : (k : ℕ) (l : List ℕ) (c : ℕ) → k < length l → set (copy_within l 0 k 1) 0 c ≡ pushed k l c
+push_moved k [] c h = absurd (not-suc-le-zero h)
+push_moved k (y ∷ l) c h =
+    let e : k - 0 ≡ k = omega arith in
+    let s : 1 + k ≡ suc k = omega arith in
+    ap (λ (j : ℕ). set (paste (y ∷ l) 1 (y ∷ l) j) 0 c) e ∙ ap (λ (j : ℕ). (c ∷ take k (y ∷ l)) ++ drop j (y ∷ l)) s ∙ sym (pushed_is k (y ∷ l) c h)
 
 -- ---- some pairs met
 

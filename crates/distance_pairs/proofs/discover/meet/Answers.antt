@@ -6,36 +6,15 @@ use native.Mathlib.Omega.{arith}
 use lib.ListN.{take}
 use lib.Seq.{length-take-le}
 use Rattle.epsdelta_theory.proofs.RowsIn.{pushed}
-use Rattle.parts.proofs.Lent.{part_length, part_all, back_is}
+use Rattle.parts.proofs.Lent.{part_all, back_is}
 use Rattle.distance_theory.proofs.Discovery.{takes_known, takes_last, takes_new}
 use Rattle.distance_pairs.proofs.discover.meet.Goals as goal
-
-pub slice_bounds-goes_by-end-2 : goal.slice_bounds-goes_by-end-2
-slice_bounds-goes_by-end-2 c = sym (length-take-le _ _ (let f = c.requires.few in let g = c.requires.codes_long in omega arith))
-
-pub slice_bounds-is_at-end-2 : goal.slice_bounds-is_at-end-2
-slice_bounds-is_at-end-2 c = sym (length-take-le _ _ (let f = c.requires.few in let g = c.requires.codes_long in omega arith))
 
 pub returns-then-is_at : goal.returns-then-is_at
 returns-then-is_at c = ((let f = c.requires.few in omega arith), takes_known c.args.x c.args.y c.args.n c.args.lefts.now c.args.rights.now c.args.codes.now c.requires _ c.goes_by-at.result c.key-pair.ensures.0 c.goes_by-at.ensures.0 (sym c.is_at.ensures ∙ c.if-is_at.true))
 
 pub returns-then-n-ge4096 : goal.returns-then-n-ge4096
 returns-then-n-ge4096 c = ((let f = c.requires.few in omega arith), takes_last c.args.x c.args.y c.args.n c.args.lefts.now c.args.rights.now c.args.codes.now c.requires _ c.goes_by-at.result c.key-pair.ensures.0 c.goes_by-at.ensures.0 (sym c.is_at.ensures ∙ c.if-is_at.false) c.if-n-ge4096.true)
-
-pub offset_bounds-codes-at : goal.offset_bounds-codes-at
-offset_bounds-codes-at c = let f = c.requires.few in let g = c.requires.codes_long in let k = length-take-le c.args.n c.args.codes.now (omega arith) in let h = c.goes_by-at.ensures.1 in omega arith
-
-pub slice_bounds-push-count : goal.slice_bounds-push-count
-slice_bounds-push-count c = let f = c.requires.few in let g = c.requires.codes_long in let k = length-take-le c.args.n c.args.codes.now (omega arith) in let h = c.goes_by-at.ensures.1 in omega arith
-
-pub slice_bounds-push-start : goal.slice_bounds-push-start
-slice_bounds-push-start c = let f = c.requires.few in let g = c.requires.codes_long in let k = length-take-le c.args.n c.args.codes.now (omega arith) in let h = c.goes_by-at.ensures.1 in omega arith
-
-pub overflow_sub-n : goal.overflow_sub-n
-overflow_sub-n c = let f = c.requires.few in let g = c.requires.codes_long in let k = length-take-le c.args.n c.args.codes.now (omega arith) in let h = c.goes_by-at.ensures.1 in omega arith
-
-pub push-requires : goal.push-requires
-push-requires c = let f = c.requires.few in let g = c.requires.codes_long in let k = length-take-le c.args.n c.args.codes.now (omega arith) in let h = c.goes_by-at.ensures.1 in let l = part_length c.goes_by-at.result c.args.codes.now in let m = c.if-n-ge4096.false in omega arith
 
 pub returns : goal.returns
 returns c = let at = c.goes_by-at.result in let l = c.args.codes.now in ((let f = c.requires.few in omega arith), takes_new c.args.x c.args.y c.args.n c.args.lefts.now c.args.rights.now c.args.codes.now c.requires _ c.goes_by-at.result c.key-pair.ensures.0 c.goes_by-at.ensures.0 (sym c.is_at.ensures ∙ c.if-is_at.false) c.if-n-ge4096.false _ (back_is at l _ (let f = c.requires.few in let g = c.requires.codes_long in let k = length-take-le c.args.n l (omega arith) in let h = c.goes_by-at.ensures.1 in omega arith) ∙ ap (λ (z : List ℕ). take at l ++ z) (c.push.ensures ∙ ap₂ (pushed (c.args.n - at)) (part_all at l) c.code-c.ensures)))

@@ -12,23 +12,6 @@ some half b h = let m : half * b ≤ half * 1 = mul-le-mul (let z : half ≤ hal
 pub loop-n-init : goal.loop-n-init
 loop-n-init c = (omega arith, narrowing_start c.args.list.now c.args.key _ refl)
 
-pub bounds-list-lo : goal.bounds-list-lo
-bounds-list-lo c = let h = c.loop-n-test.true in let I = c.loop-n.invariant.0 in omega arith
-
-pub overflow_mul-lo : goal.overflow_mul-lo
-overflow_mul-lo c =
-    let I = c.loop-n.invariant in
-    let m = some (c.loop-n.n - c.loop-n.n / 2) _ c.below.ensures.1 in
-    let g = c.well_formed.0 in
-    record { fits = omega arith }
-
-pub overflow_add-lo-in-loop-n : goal.overflow_add-lo-in-loop-n
-overflow_add-lo-in-loop-n c =
-    let I = c.loop-n.invariant in
-    let m = some (c.loop-n.n - c.loop-n.n / 2) _ c.below.ensures.1 in
-    let g = c.well_formed.0 in
-    record { fits = omega arith }
-
 pub loop-n-preserved : goal.loop-n-preserved
 loop-n-preserved c =
     let h = c.loop-n-test.true in
