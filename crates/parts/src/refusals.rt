@@ -12,8 +12,5 @@ pub fn earlier(left: u32, right: u32) -> u32
     if right == 0 {
         return left;
     }
-    if left < right {
-        return left;
-    }
-    right
+    left.min(right)
 }

@@ -10,10 +10,7 @@ use bisim_core::wlts::Initial;
 pub fn absent(initial: Initial) -> bool
     ensures { result ≡ Refusal.absent initial }
 {
-    match initial {
-        Initial::At(_) => false,
-        Initial::Absent => true,
-    }
+    matches!(initial, Initial::Absent)
 }
 
 // The initial state; 0 if there is none.
