@@ -1,3 +1,4 @@
+pub mod Tests
 pub mod Merges
 pub mod Halving
 pub mod Conditions
