@@ -5,11 +5,16 @@ use mathlib.Core.List.{List, [], ◌∷◌}
 use Prim.Native.Nat.{ℕ, zero, suc, ◌+◌, ◌*◌, ◌-◌, ◌/◌, ◌%◌, ◌≤◌, ◌<◌}
 use native.Mathlib.Omega.{arith}
 use lib.Dec.{eqb}
-use lib.ListN.{length, get_or, drop, get_or-eq_default, drop_of_length-le, length-drop}
-use lib.Seq.{drop-cons, get_or-drop, drop-drop}
-use borrow.Author.Tests.{lt-ltb, le-ltb, eq-eqb, ne_eqb}
+use lib.ListN.{length, get_or, take, drop, get_or-eq_default, drop_of_length-le, length-drop}
+use lib.Seq.{take_all, get_or-drop}
+use borrow.Author.Tests.{lt-ltb, le-ltb, ne_eqb}
+use mathlib.Core.Logic.{◌⊎◌, inl, inr}
+use Rattle.std.proofs.Common.{nat_eq}
+use Rattle.std.proofs.lemmas.Bool.Decides.{nat_tests}
+use Rattle.std.specs.List.{starts_with}
+use Rattle.numbers.proofs.Bools.{lt_or_ge}
 use Rattle.card_layout.specs.Layout.{place, column, line, lines, digit, value, numbers, rows, starts, laid}
-use Rattle.card_layout.proofs.Lines.{line_step, laid_step, starts_length, length_column, length_row, length_rows}
+use Rattle.card_layout.proofs.Lines.{line_step, laid_step, starts_length, length_row, length_rows}
 
 and_true : (b : Bool) → (b && true) ≡ b
 and_true true = refl
@@ -17,17 +22,13 @@ and_true false = refl
 
 -- ---- a byte, a place, a number
 
-pub digit_past : (s : List ℕ) (i : ℕ) → length s ≤ i → 0 ≡ digit (get_or s i 0)
+pub digit_at : (s : List ℕ) (i r : ℕ) → ((k : ℕ) → k < length s → get_or s k 0 < 256) → r ≡ get_or s i 0 - 48 → (r ≡ digit (get_or s i 0)) × (r ≤ 207)
 unfolding digit
-digit_past s i h = rw (get_or-eq_default s 0 h)
-
-pub digit_low : (b : ℕ) → b ≤ 48 → 0 ≡ digit b
-unfolding digit
-digit_low b h = omega arith
-
-pub digit_high : (b : ℕ) → b - 48 ≡ digit b
-unfolding digit
-digit_high b = refl
+digit_at s i r f e = (e, pick (lt_or_ge i (length s)))
+  where
+    pick : (i < length s) ⊎ (length s ≤ i) → r ≤ 207
+    pick (inl h) = let b = f i h in omega arith
+    pick (inr h) = let b = get_or-eq_default s 0 h in omega arith
 
 pub place_space : (p n : ℕ) → n < p → 32 ≡ place p n
 unfolding place
@@ -61,24 +62,15 @@ pub column_of : (n a b d e f : ℕ) → a ≡ place 100000 n → b ≡ place 100
 unfolding column
 column_of n a b d e f p q r t u = rw (p, q, r, t, u)
 
-module _ (c s : List ℕ) (i p : ℕ) (h : i < length c) where
-  pub starts_past : length s ≤ p → starts (drop i c) (drop p s) ≡ false
-  unfolding starts
-  starts_past g = rw (drop-cons c i 0 h, drop_of_length-le s g)
+eqb_swap : (a b : ℕ) → eqb a b ≡ eqb b a
+eqb_swap a b = grind (arith, nat_tests)
 
-  starts_at : p < length s → starts (drop i c) (drop p s) ≡ (eqb (get_or s p 0) (get_or c i 0) && starts (drop (suc i) c) (drop (suc p) s))
-  unfolding starts
-  starts_at g = rw (drop-cons c i 0 h, drop-cons s p 0 g)
-
-  pub starts_other : p < length s → (get_or s p 0 ≡ get_or c i 0 → ⊥) → starts (drop i c) (drop p s) ≡ false
-  starts_other g d = starts_at g ∙ ap (λ (b : Bool). b && starts (drop (suc i) c) (drop (suc p) s)) (ne_eqb _ _ d)
-
-  pub starts_more : p < length s → get_or s p 0 ≡ get_or c i 0 → starts (drop i c) (drop p s) ≡ starts (drop (suc i) c) (drop (suc p) s)
-  starts_more g d = starts_at g ∙ ap (λ (b : Bool). b && starts (drop (suc i) c) (drop (suc p) s)) (eq-eqb _ _ d)
-
-pub starts_end : (c bs : List ℕ) (i : ℕ) → length c ≤ i → starts (drop i c) bs ≡ true
+-- std's test of the first bytes
+pub starts_is : (c bs : List ℕ) → starts c bs ≡ starts_with nat_eq bs c
 unfolding starts
-starts_end c bs i h = rw (drop_of_length-le c h)
+starts_is [] bs = refl
+starts_is (x ∷ xs) [] = refl
+starts_is (x ∷ xs) (b ∷ bs) = rw (eqb_swap b x, starts_is xs bs)
 
 -- ---- the columns of a line, one by one
 
@@ -86,69 +78,49 @@ starts_end c bs i h = rw (drop_of_length-le c h)
 abbrev pub line_laid : ℕ → List ℕ → Bool
 line_laid k bs = starts (line (numbers k bs)) bs
 
-module _ (s : List ℕ) (k i p : ℕ) where
-  -- the columns from i on, at p, are as laid out
-  abbrev pub cols_laid : Bool
-  cols_laid = line_laid (k - i) (drop p s)
+-- what `starts` answers at a column that the bytes' number gives
+pub first_is : (bs c : List ℕ) (n : ℕ) (r b : Bool) → c ≡ column n → n ≡ value bs → r ≡ starts c bs → r ≡ b → starts (column (value bs)) bs ≡ b
+first_is bs c n r b p q t u = cc
 
-  pub cols_all : i ≡ 0 → cols_laid ≡ line_laid k (drop p s)
-  cols_all h = let e : k - i ≡ k = omega arith in ap (λ (n : ℕ). line_laid n (drop p s)) e
+-- `&bytes[n..]`
+pub rest_is : (n : ℕ) (bs : List ℕ) → take (length bs - n) (drop n bs) ≡ drop n bs
+rest_is n bs = take_all _ (drop n bs) (omega (arith, length-drop n bs))
 
-  cols_step : i < k → cols_laid ≡ (starts (column (value (drop p s))) (drop p s)
-      && line_laid (k - (i + 1)) (drop (p + 6) s))
-  cols_step h =
-      let e : k - i ≡ suc (k - (i + 1)) = omega arith in
-      ap (λ (n : ℕ). line_laid n (drop p s)) e
-      ∙ line_step (k - (i + 1)) (drop p s)
-      ∙ ap (λ (l : List ℕ). starts (column (value (drop p s))) (drop p s) && line_laid (k - (i + 1)) l) (drop-drop 6 p s)
+pub shorter : (n : ℕ) (bs : List ℕ) {m : ℕ} → length bs ≤ m → length (take (length bs - n) (drop n bs)) ≤ m
+shorter n bs h = rw (rest_is n bs) (omega (arith, length-drop n bs))
 
-  pub cols_on : i < k → true ≡ starts (column (value (drop p s))) (drop p s)
-      → line_laid (k - (i + 1)) (drop (p + 6) s) ≡ cols_laid
-  cols_on h t = sym (cols_step h ∙ ap (λ (b : Bool). b && line_laid (k - (i + 1)) (drop (p + 6) s)) (sym t))
+module _ (k i : ℕ) (bs : List ℕ) where
+  cols_step : i < k → line_laid (k - i) bs ≡ (starts (column (value bs)) bs && line_laid (k - (i + 1)) (drop 6 bs))
+  cols_step h = let e : k - i ≡ suc (k - (i + 1)) = omega arith in rw e (line_step (k - (i + 1)) bs)
 
-  pub cols_off : i < k → false ≡ starts (column (value (drop p s))) (drop p s) → false ≡ cols_laid
-  cols_off h t = sym (cols_step h ∙ ap (λ (b : Bool). b && line_laid (k - (i + 1)) (drop (p + 6) s)) (sym t))
+  pub cols_on : i < k → starts (column (value bs)) bs ≡ true → line_laid (k - (i + 1)) (take (length bs - 6) (drop 6 bs)) ≡ line_laid (k - i) bs
+  cols_on h t = ap (line_laid (k - (i + 1))) (rest_is 6 bs) ∙ sym (cols_step h ∙ ap (λ (b : Bool). b && line_laid (k - (i + 1)) (drop 6 bs)) t)
 
-  pub cols_room : p ≤ length s → true ≡ starts (column (value (drop p s))) (drop p s) → p + 6 ≤ length s
-  cols_room h t =
-      let l = starts_length (column (value (drop p s))) (drop p s) (sym t) in
-      omega (arith, length_column (value (drop p s)), length-drop p s)
+  pub cols_off : i < k → starts (column (value bs)) bs ≡ false → false ≡ line_laid (k - i) bs
+  cols_off h t = sym (cols_step h ∙ ap (λ (b : Bool). b && line_laid (k - (i + 1)) (drop 6 bs)) t)
 
-  pub feed_past : k ≤ i → length s ≤ p → false ≡ cols_laid
-  unfolding line numbers starts
-  feed_past h g = let e : k - i ≡ 0 = omega arith in rw (e, drop_of_length-le s g)
-
-  pub feed_at : k ≤ i → p < length s → eqb (get_or s p 0) 10 ≡ cols_laid
-  unfolding line numbers starts
-  feed_at h g = let e : k - i ≡ 0 = omega arith in rw (e, drop-cons s p 0 g) (sym (and_true (eqb (get_or s p 0) 10)))
+  pub cols_end : k ≤ i → starts (10 ∷ []) bs ≡ line_laid (k - i) bs
+  unfolding line numbers
+  cols_end h = let e : k - i ≡ 0 = omega arith in rw e
 
 -- ---- the lines of a block, one by one
 
-module _ (s : List ℕ) (n k i p : ℕ) where
-  pub rows_all : i ≡ 0 → laid (n - i) k (drop p s) ≡ laid n k (drop p s)
-  rows_all h = let e : n - i ≡ n = omega arith in ap (λ (m : ℕ). laid m k (drop p s)) e
+module _ (n k i : ℕ) (bs : List ℕ) where
+  rows_step : i < n → laid (n - i) k bs ≡ (line_laid k bs && laid (n - (i + 1)) k (drop (6 * k + 1) bs))
+  rows_step h = let e : n - i ≡ suc (n - (i + 1)) = omega arith in rw e (laid_step (n - (i + 1)) k bs)
 
-  rows_step : i < n → laid (n - i) k (drop p s) ≡ (line_laid k (drop p s) && laid (n - (i + 1)) k (drop (p + (6 * k + 1)) s))
-  rows_step h =
-      let e : n - i ≡ suc (n - (i + 1)) = omega arith in
-      ap (λ (m : ℕ). laid m k (drop p s)) e
-      ∙ laid_step (n - (i + 1)) k (drop p s)
-      ∙ ap (λ (l : List ℕ). line_laid k (drop p s) && laid (n - (i + 1)) k l) (drop-drop (6 * k + 1) p s)
+  pub rows_on : i < n → line_laid k bs ≡ true → laid (n - (i + 1)) k (take (length bs - (6 * k + 1)) (drop (6 * k + 1) bs)) ≡ laid (n - i) k bs
+  rows_on h t = ap (laid (n - (i + 1)) k) (rest_is (6 * k + 1) bs) ∙ sym (rows_step h ∙ ap (λ (b : Bool). b && laid (n - (i + 1)) k (drop (6 * k + 1) bs)) t)
 
-  pub rows_on : i < n → true ≡ line_laid k (drop p s) → laid (n - (i + 1)) k (drop (p + (6 * k + 1)) s) ≡ laid (n - i) k (drop p s)
-  rows_on h t = sym (rows_step h ∙ ap (λ (b : Bool). b && laid (n - (i + 1)) k (drop (p + (6 * k + 1)) s)) (sym t))
+  pub rows_off : i < n → line_laid k bs ≡ false → false ≡ laid (n - i) k bs
+  rows_off h t = sym (rows_step h ∙ ap (λ (b : Bool). b && laid (n - (i + 1)) k (drop (6 * k + 1) bs)) t)
 
-  pub rows_off : i < n → false ≡ line_laid k (drop p s) → false ≡ laid (n - i) k (drop p s)
-  rows_off h t = sym (rows_step h ∙ ap (λ (b : Bool). b && laid (n - (i + 1)) k (drop (p + (6 * k + 1)) s)) (sym t))
-
-  pub rows_room : p ≤ length s → true ≡ line_laid k (drop p s) → p + (6 * k + 1) ≤ length s
-  rows_room h t =
-      let l = starts_length (line (numbers k (drop p s))) (drop p s) (sym t) in
-      omega (arith, length_row k (drop p s), length-drop p s)
-
-  pub rows_end : n ≤ i → true ≡ laid (n - i) k (drop p s)
+  pub rows_end : n ≤ i → true ≡ laid (n - i) k bs
   unfolding lines rows starts
   rows_end h = let e : n - i ≡ 0 = omega arith in rw e
+
+pub line_room : (k : ℕ) (bs : List ℕ) (r : Bool) → r ≡ line_laid k bs → r ≡ true → 6 * k + 1 ≤ length bs
+line_room k bs r e t = let l = starts_length (line (numbers k bs)) bs (sym e ∙ t) in omega (arith, length_row k bs)
 
 -- lines that are as laid out are there
 pub laid_room : (s : List ℕ) (n k p : ℕ) → p ≤ length s → laid n k (drop p s) ≡ true → p + n * (6 * k + 1) ≤ length s

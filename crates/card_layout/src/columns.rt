@@ -38,14 +38,7 @@ pub fn column(n: u32) -> [u8; 6]
 fn digit(s: &[u8], i: usize) -> u32
     ensures { (result ≡ Layout.digit (get_or s.now i 0)) × (result ≤ 207) }
 {
-    if s.len() <= i {
-        return 0;
-    }
-    let b = s[i];
-    if b <= ZERO {
-        return 0;
-    }
-    (b - ZERO) as u32
+    s.get(i).map_or(0, |b| u32::from(b.saturating_sub(ZERO)))
 }
 
 // The number in the six bytes at `at`; 0 past the end.
@@ -59,55 +52,39 @@ pub fn number(s: &[u8], at: usize) -> u32
     high + 100 * digit(s, at + 3) + 10 * digit(s, at + 4) + digit(s, at + 5)
 }
 
-// The bytes at `at` begin with the six of a column.
-fn starts(s: &[u8], at: usize, c: &[u8; 6]) -> bool
-    requires { (at ≤ length s.now) × (length c.now ≡ 6) }
-    ensures { result ≡ Layout.starts c.now (drop at s.now) }
+// The bytes begin with the six of a column.
+fn starts(bytes: &[u8], c: &[u8; 6]) -> bool
+    ensures is { result ≡ Layout.starts c.now bytes.now }
+    ensures room { result ≡ true → 6 ≤ length bytes.now }
 {
-    let mut i = 0;
-    while i < 6 {
-        if s.len() <= at + i {
-            return false;
-        }
-        if s[at + i] != c[i] {
-            return false;
-        }
-        i += 1;
-    }
-    true
+    bytes.starts_with(c)
 }
 
-// The line of k columns at `at` is as laid out.
-fn line_laid(s: &[u8], at: usize, k: usize) -> bool
-    requires { at ≤ length s.now }
-    ensures { result ≡ Layout.starts (Layout.line (Layout.numbers k (drop at s.now))) (drop at s.now) }
+// The line of k columns that the bytes begin with is as laid out.
+fn line_laid(bytes: &[u8], k: usize) -> bool
+    ensures is { result ≡ Layout.starts (Layout.line (Layout.numbers k bytes.now)) bytes.now }
+    ensures room { result ≡ true → 6 * k + 1 ≤ length bytes.now }
 {
-    let mut p = at;
-    let mut i = 0;
-    while i < k {
-        let c = column(number(s, p));
-        if !starts(s, p, &c) {
+    let mut rest = bytes;
+    for _ in 0..k {
+        if !starts(rest, &column(number(rest, 0))) {
             return false;
         }
-        p += 6;
-        i += 1;
+        rest = &rest[6..];
     }
-    p < s.len() && s[p] == LINE_FEED
+    rest.starts_with(&[LINE_FEED])
 }
 
-// The n lines of k columns at `at`, within the bytes, are as laid out.
-fn lines_laid(s: &[u8], at: usize, n: u32, k: usize) -> bool
-    requires { at ≤ length s.now }
-    ensures { result ≡ Layout.laid n k (drop at s.now) }
+// The n lines of k columns that the bytes begin with are as laid out.
+fn lines_laid(bytes: &[u8], n: u32, k: usize) -> bool
+    ensures { result ≡ Layout.laid n k bytes.now }
 {
-    let mut p = at;
-    let mut i = 0;
-    while i < n {
-        if !line_laid(s, p, k) {
+    let mut rest = bytes;
+    for _ in 0..n {
+        if !line_laid(rest, k) {
             return false;
         }
-        p += 6 * k + 1;
-        i += 1;
+        rest = &rest[6 * k + 1..];
     }
     true
 }
@@ -119,5 +96,5 @@ pub fn laid(s: &[u8], at: usize, n: u32, k: usize) -> bool
     if s.len() < at {
         return n == 0;
     }
-    lines_laid(s, at, n, k)
+    lines_laid(&s[at..], n, k)
 }

@@ -1,55 +1,18 @@
-use borrow.Author.Tests.{le-ltb}
-use mathlib.Core.Bool.{true}
-use mathlib.Core.List.{List}
-use Rattle.card_layout.specs.Layout.{column, value, starts}
-use Rattle.card_layout.proofs.Lines.{length_column}
-use Prim.Native.Nat.{ℕ}
+use mathlib.Core.Path.{sym, ◌∙◌}
 use native.Mathlib.Omega.{arith}
-use mathlib.Core.Path.{◌≡◌, refl, sym, ap, ◌∙◌}
-use lib.ListN.{length, drop}
-use Rattle.card_layout.proofs.Steps.{cols_all, cols_on, cols_off, cols_room, feed_past, feed_at}
+use Rattle.card_layout.proofs.Steps.{starts_is, first_is, cols_on, cols_off, cols_end, line_room}
 use Rattle.card_layout.proofs.columns.line_laid.Goals as goal
 
-pub loop-i-init : goal.loop-i-init
-loop-i-init c = (omega arith, omega arith, cols_all c.args.s.now _ 0 c.args.at refl)
+pub returns-then-not-starts-clause-is : goal.returns-then-not-starts-clause-is
+returns-then-not-starts-clause-is c =
+    cols_off _ _ _ (omega arith) (first_is _ _ _ _ _ c.column.ensures c.number.ensures.0 c.starts.ensures.is c.if-not-starts.true) ∙ c.loop.invariant
 
-pub number-requires : goal.number-requires
-number-requires c = omega arith
+pub loop-preserved : goal.loop-preserved
+loop-preserved c =
+    cols_on _ _ _ (omega arith) (first_is _ _ _ _ _ c.column.ensures c.number.ensures.0 c.starts.ensures.is c.if-not-starts.false) ∙ c.loop.invariant
 
-pub starts-requires : goal.starts-requires
-starts-requires c = (omega arith, ap length c.column-c.ensures ∙ length_column _)
+pub returns-clause-is : goal.returns-clause-is
+returns-clause-is c = c.starts_with.ensures.value ∙ sym (starts_is _ _) ∙ cols_end _ _ _ (omega arith) ∙ c.loop.invariant
 
-pub returns-then-not-starts : goal.returns-then-not-starts
-returns-then-not-starts c =
-    let e = c.column-c.ensures ∙ ap column c.number.ensures.0 in
-    cols_off c.args.s.now _ c.loop-i.i c.loop-i.p (omega arith)
-    (sym (c.if-not-starts.true) ∙ c.starts.ensures ∙ ap (λ (l : List ℕ). starts l (drop c.loop-i.p c.args.s.now)) e)
-    ∙ c.loop-i.invariant.2
-
-pub overflow_add-p : goal.overflow_add-p
-overflow_add-p c = omega arith
-
-pub overflow_add-i : goal.overflow_add-i
-overflow_add-i c = omega arith
-
-pub loop-i-smaller : goal.loop-i-smaller
-loop-i-smaller c = omega arith
-
-pub loop-i-preserved : goal.loop-i-preserved
-loop-i-preserved c =
-    let s = c.args.s.now in
-    let e = c.column-c.ensures ∙ ap column c.number.ensures.0 in
-    let t : true ≡ starts (column (value (drop c.loop-i.p s))) (drop c.loop-i.p s) =
-    sym (c.if-not-starts.false) ∙ c.starts.ensures ∙ ap (λ (l : List ℕ). starts l (drop c.loop-i.p s)) e in
-    (omega arith, cols_room s 0 0 c.loop-i.p (omega arith) t, cols_on s c.args.k c.loop-i.i c.loop-i.p (omega arith) t ∙ c.loop-i.invariant.2)
-
-pub bounds-s-p : goal.bounds-s-p
-bounds-s-p c = omega arith
-
-pub returns-then-p-s : goal.returns-then-p-s
-returns-then-p-s c =
-    feed_at c.args.s.now _ c.loop-i.i c.loop-i.p (omega arith) (omega arith) ∙ c.loop-i.invariant.2
-
-pub returns-else-p-s : goal.returns-else-p-s
-returns-else-p-s c =
-    le-ltb c.loop-i.p (length c.args.s.now) (omega arith) ∙ feed_past c.args.s.now _ c.loop-i.i c.loop-i.p (omega arith) (omega arith) ∙ c.loop-i.invariant.2
+pub returns-clause-room : goal.returns-clause-room
+returns-clause-room c = λ t. line_room c.args.k c.args.bytes.now _ (returns-clause-is c) t

@@ -1,12 +1,9 @@
--- `columns::lines_laid` meets its contract.
+-- The rest of the lines decides.
 use Prim.Native.Nat.{◌-◌, ◌≤◌}
 use mathlib.Core.Path.{◌≡◌}
-use lib.ListN.{length, drop}
+use lib.ListN.{length}
 use Rattle.card_layout.specs.Layout.{laid}
 use Rattle.card_layout.proofs.columns.lines_laid.Given as goal
 
-abbrev pub invariant-loop-i : goal.invariant-loop-i
-invariant-loop-i l = (l.i ≤ l.n) × (l.p ≤ length l.s) × (laid (l.n - l.i) l.k (drop l.p l.s) ≡ laid l.n l.k (drop l.at l.s))
-
-abbrev pub decreases-loop-i : goal.decreases-loop-i
-decreases-loop-i l = l.n - l.i
+abbrev pub invariant-loop : goal.invariant-loop
+invariant-loop l = (length l.rest ≤ length l.bytes) × (laid (l.n - l.counter) l.k l.rest ≡ laid l.n l.k l.bytes)
