@@ -1,7 +1,7 @@
 -- What the check of refusal 15 decides.
-use mathlib.Core.Path.{◌≡◌, refl, sym, ap, subst, subst⁻¹}
+use mathlib.Core.Path.{◌≡◌, refl, sym, ap, subst⁻¹}
 use mathlib.Core.Logic.{◌≢◌, ◌⊎◌, inl, inr}
-use mathlib.Core.Bool.{Bool, true, false, ◌&&◌, not, false≢true}
+use mathlib.Core.Bool.{Bool, true, false, not, false≢true}
 use Prim.Native.Nat.{ℕ, suc, ◌+◌, ◌/◌, ◌%◌, ◌≤◌, ◌<◌}
 use mathlib.Core.List.{List}
 use native.Mathlib.Omega.{arith}
@@ -59,18 +59,6 @@ pub infinite_is : (x : Float) → x ≡ inf false → eq x (inf false) ≡ true
 unfolding eq
 infinite_is x q = ap (λ (y : Float). eq y (inf false)) q
 
--- how the check of a capacity ends
-module _ (x : Float) where
-  pub below_fails : le nought x ≡ false → false ≡ cap_fits x
-  below_fails a = rw a
-
-  module _ (a : le nought x ≡ true) where
-    pub finite_fits : le x greatest_weight ≡ true → true ≡ cap_fits x
-    finite_fits l = rw (a, l)
-
-    pub infinite_fits : le x greatest_weight ≡ false → {y : Float} → y ≡ inf false → eq x y ≡ cap_fits x
-    infinite_fits l i = rw (a, l) (ap (eq x) i)
-
 abbrev Range : Float → Type 0
 Range x = T (le nought x) × (T (le x greatest_weight) ⊎ (x ≡ inf false))
 
@@ -123,22 +111,6 @@ reverse_there e m p h = rw (rev_xor e) (omega arith)
 -- what a link is said to be by its reverse's head
 pub by_reverse : (H : List ℕ) (c : List Float) (s e : ℕ) {b : Bool} → b ≡ leaves_finite s (get_or H (bit_xor e 1) 0) (get_or c e nan) → leaves_finite s (get_or H (rev e) 0) (get_or c e nan) ≡ b
 by_reverse H c s e q = rw (← rev_xor e) (sym q)
-
--- how the check of a link that leaves the source ends
-module _ (s t : ℕ) (x : Float) {y : Float} (i : y ≡ inf false) where
-  pub infinite_leaves : eq x y ≡ true → not (eqb t s) ≡ leaves_finite s t x
-  infinite_leaves q = rw (subst (λ (z : Float). eq x z ≡ true) i q) (ap not (sym (and_yes (eqb t s))))
-    where
-      and_yes : (b : Bool) → (b && true) ≡ b
-      and_yes true = refl
-      and_yes false = refl
-
-  pub finite_leaves : eq x y ≡ false → true ≡ leaves_finite s t x
-  finite_leaves q = rw (subst (λ (z : Float). eq x z ≡ false) i q) (sym (ap not (and_no (eqb t s))))
-    where
-      and_no : (b : Bool) → (b && false) ≡ false
-      and_no true = refl
-      and_no false = refl
 
 pub record Ends (H : List ℕ) (c : List Float) (n s t : ℕ) : Type 0 where
   pub source_in : s < n
