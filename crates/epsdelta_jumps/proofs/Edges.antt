@@ -8,12 +8,14 @@ use native.Mathlib.Numerals.{add-one}
 use lib.Dec.{eqb}
 use lib.Ieee.{Float, binary64, div, nan}
 use lib.ListN.{length, get_or, take, drop, set, length-map, get_or-map}
-use lib.Seq.{get_or-take, get_or-drop, drop-drop, length-take-le, get_or-append-add}
+use lib.Seq.{get_or-drop, drop-drop, length-take-le, get_or-append-add}
 use borrow.Author.Tests.{eq-eqb, ne_eqb}
 use Rattle.numbers.specs.Lists.{span}
-use Rattle.numbers.proofs.Over.{over, over_next, over_done}
+use Rattle.numbers.proofs.Over.{over, over_next}
 use Rattle.bisim_core.specs.Data.{Columns, columns}
 use Rattle.bisim_core.specs.Model.{edge_at}
+use Rattle.epsdelta_theory.proofs.RowsIn.{LaidJumps}
+use Rattle.parts.proofs.Laid.{laid_grown, laid_past, laid_jumps}
 use Rattle.epsdelta_theory.specs.Jumps.{Jump, jumps_of, add_rate, add_edge, add_edges}
 
 -- ---- the edges still to come, from i up to b
@@ -53,23 +55,20 @@ quotients x m d = map (λ (p : Float). div binary64 p x) (take m d)
 pub quotients_length : (x : Float) (m : ℕ) (d : List Float) → m ≤ length d → length (quotients x m d) ≡ m
 quotients_length x m d h = length-map (take m d) (λ (p : Float). div binary64 p x) ∙ length-take-le m d h
 
-pub divide_next : (x : Float) (m i : ℕ) (d out : List Float) → m ≤ length d → i < m → out ≡ over (quotients x m d) i d
-    → set out i (div binary64 (get_or out i nan) x) ≡ over (quotients x m d) (i + 1) d
-divide_next x m i d out h k e =
-    over_next (quotients x m d) d out i (div binary64 nan x) (div binary64 (get_or out i nan) x) e
-    (ap (λ (p : Float). div binary64 p x) (ap (λ (o : List Float). get_or o i nan) e ∙ at) ∙ sym (get_or-map (λ (p : Float). div binary64 p x) (take m d) i nan ∙ ap (λ (p : Float). div binary64 p x) (get_or-take m d i nan k)))
-    (let n = quotients_length x m d h in omega arith) (omega arith)
+-- a turn that maps the next entry in its place
+pub map_next : {A : Type 0} (f : A → A) (d out : List A) (i : ℕ) (z : A) → i < length d → out ≡ over (map f d) i d → set out i (f (get_or out i z)) ≡ over (map f d) (i + 1) d
+map_next {A} f d out i z h e =
+    over_next (map f d) d out i (f z) (f (get_or out i z)) e
+    (ap f (ap (λ (o : List A). get_or o i z) e ∙ at) ∙ sym (get_or-map f d i z))
+    (let n = length-map d f in omega arith) h
   where
-    at : get_or (over (quotients x m d) i d) i nan ≡ get_or d i nan
+    at : get_or (over (map f d) i d) i z ≡ get_or d i z
     at =
-        let q = take i (quotients x m d) in
-        let n : length q ≡ i = length-take-le i (quotients x m d) (let l = quotients_length x m d h in omega arith) in
-        let z : length q + 0 ≡ i = omega arith in
+        let q = take i (map f d) in
+        let n : length q ≡ i = length-take-le i (map f d) (let l = length-map d f in omega arith) in
+        let k : length q + 0 ≡ i = omega arith in
         let y : i + 0 ≡ i = omega arith in
-        ap (λ (j : ℕ). get_or (q ++ drop i d) j nan) (sym z) ∙ get_or-append-add q (drop i d) 0 nan ∙ get_or-drop i d 0 nan ∙ ap (λ (j : ℕ). get_or d j nan) y
-
-pub divide_done : (x : Float) (m i : ℕ) (d out : List Float) → m ≤ length d → i ≡ m → out ≡ over (quotients x m d) i d → out ≡ quotients x m d ++ drop (length (quotients x m d)) d
-divide_done x m i d out h k e = over_done (quotients x m d) d out i e (k ∙ sym (quotients_length x m d h))
+        ap (λ (j : ℕ). get_or (q ++ drop i d) j z) (sym k) ∙ get_or-append-add q (drop i d) 0 z ∙ get_or-drop i d 0 z ∙ ap (λ (j : ℕ). get_or d j z) y
 
 -- ---- the loop over the edges a up to b of state s, before edge i: m jumps are made, and the edges still to come make those of the row of them
 
@@ -106,21 +105,25 @@ module _ {ET : List ℕ} {EW : List Float} {a b s off : ℕ} {T₀ : List ℕ} {
     same = λ D O L. rest_skip (columns D O L ET EW) s off i b (jumps_of (take m T) (take m P)) h e ∙ I.same D O L;
   })
 
-  pub turn_add : (t : ℕ) → t ≡ get_or ET i 0 → (t ≡ s → ⊥) → (T₁ : List ℕ) (P₁ : List Float) (m₁ : ℕ) → length T₁ ≡ length T → length P₁ ≡ length P
-      → (m ≤ m₁) × (m₁ ≤ m + 1) × (drop m₁ T₁ ≡ drop m₁ T) × (drop m₁ P₁ ≡ drop m₁ P) × (jumps_of (take m₁ T₁) (take m₁ P₁) ≡ add_rate (off + t) (get_or EW i nan) (jumps_of (take m T) (take m P)))
-      → (T' : List ℕ) (P' : List Float) (m' : ℕ) → T' ≡ T₁ → P' ≡ P₁ → m' ≡ m₁ → Adding ET EW a b s off T₀ P₀ T' P' m' (i + 1)
-  turn_add t g e T₁ P₁ m₁ u p (l, n, v, w, q) T' P' m' x y z = rw (x, y, z) (record {
-    from = let x = I.from in omega arith;
-    to = omega arith;
-    few = let x = I.few in let y = I.from in omega arith;
-    t_size = u ∙ I.t_size;
-    p_size = p ∙ I.p_size;
-    t_past = v ∙ past_further m m₁ T T₀ l I.t_past;
-    p_past = w ∙ past_further m m₁ P P₀ l I.p_past;
-    same = λ D O L. rest_add (columns D O L ET EW) s off i b (jumps_of (take m T) (take m P)) h (λ z. e (g ∙ z)) (jumps_of (take m₁ T₁) (take m₁ P₁))
-        (q ∙ ap (λ (x : ℕ). add_rate (off + x) (get_or EW i nan) (jumps_of (take m T) (take m P))) g) ∙ I.same D O L;
-  })
-
   -- there is room for another jump
-  pub room : b - a ≤ length T₀ → b - a ≤ length P₀ → (m < length T) × (m < length P)
+  room : b - a ≤ length T₀ → b - a ≤ length P₀ → (m < length T) × (m < length P)
   room x y = let f = I.few in let g = I.from in let u = I.t_size in let v = I.p_size in (omega arith, omega arith)
+
+  pub turn_add : b - a ≤ length T₀ → b - a ≤ length P₀ → (get_or ET i 0 ≡ s → ⊥) → (T₁ : List ℕ) (P₁ : List Float) (m₁ : ℕ) → length T₁ ≡ length T → length P₁ ≡ length P
+      → (m < length T → m < length P → LaidJumps (add_rate (off + get_or ET i 0) (get_or EW i nan) (jumps_of (take m T) (take m P))) m₁ T P T₁ P₁)
+      → (T' : List ℕ) (P' : List Float) (m' : ℕ) → T' ≡ T₁ → P' ≡ P₁ → m' ≡ m₁ → Adding ET EW a b s off T₀ P₀ T' P' m' (i + 1)
+  turn_add r o e T₁ P₁ m₁ u p N T' P' m' x y z =
+      let w = room r o in
+      let L = N w.0 w.1 in
+      let (l, n) = laid_grown _ _ m L (omega arith) (omega arith) in
+      let k = laid_past L in
+      rw (x, y, z) (record {
+        from = let x = I.from in omega arith;
+        to = omega arith;
+        few = let x = I.few in let y = I.from in omega arith;
+        t_size = u ∙ I.t_size;
+        p_size = p ∙ I.p_size;
+        t_past = k.0 ∙ past_further m m₁ T T₀ l I.t_past;
+        p_past = k.1 ∙ past_further m m₁ P P₀ l I.p_past;
+        same = λ D O L'. rest_add (columns D O L' ET EW) s off i b (jumps_of (take m T) (take m P)) h e (jumps_of (take m₁ T₁) (take m₁ P₁)) (laid_jumps L) ∙ I.same D O L';
+      })

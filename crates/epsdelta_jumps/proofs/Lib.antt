@@ -1,4 +1,3 @@
-pub mod Inserts
 pub mod Edges
 pub mod Fills
 pub mod Makes

@@ -1,8 +1,7 @@
 -- `union`: which answer is due, that the rows of accepted models can be made, and that what is made is the union.
 use mathlib.Core.Path.{◌≡◌, refl, sym, ap, subst, ◌∙◌}
-use Prim.Native.Nat.{ℕ, zero, suc, ◌+◌, ◌≤◌, ◌<◌, min}
-use mathlib.Core.Logic.{◌≢◌}
-use mathlib.Core.Bool.{Bool, true, false, ◌||◌}
+use Prim.Native.Nat.{ℕ, zero, suc, ◌+◌, ◌≤◌, ◌<◌}
+use mathlib.Core.Bool.{Bool, false, ◌||◌}
 use mathlib.Core.List.{List, []}
 use native.Mathlib.Omega.{arith}
 use lib.Dec.{ltb, leb}
@@ -10,7 +9,6 @@ use lib.Ieee.{Float}
 use lib.ListN.{length, get_or}
 use lib.Seq.{take_all}
 use borrow.Author.Tests.{ltb-false, leb-false}
-use Rattle.numbers.specs.Refuse.{check}
 use Rattle.numbers.proofs.Bools.{or_f}
 use Rattle.bisim_core.specs.Data.{Columns, columns}
 use Rattle.bisim_core.specs.declared.wlts.Shape.{Shape}
@@ -21,52 +19,10 @@ use Rattle.epsdelta_theory.specs.Jumps.{Jumps, no_row, row, union}
 use Rattle.epsdelta_theory.specs.Refusal.{models_refusal}
 use Rattle.epsdelta_theory.proofs.Rows.{model_length, model_at, union_length, union_left, union_right}
 use Rattle.epsdelta_theory.proofs.RowsIn.{Readable, Laid, LaidTo}
-use Rattle.epsdelta_theory.proofs.Unrefused.{models_passed}
+use Rattle.parts.specs.Earlier.{earlier}
+use Rattle.parts.proofs.Models.{models_number, readable}
 use Rattle.epsdelta_jumps.specs.Union.{settled, joined}
 use Rattle.epsdelta_jumps.specs.declared.jumps.Joined.TheVariants.{Rows, Refused, Short}
-
--- ---- the first check that fails
-
--- n is the one of a and b that comes first; 0 is none
-abbrev pub First : ℕ → ℕ → ℕ → Type 0
-First a b n = (a ≡ 0 → n ≡ b) × (b ≡ 0 → n ≡ a) × (a ≢ 0 → b ≢ 0 → n ≡ min a b)
-
-pub lower : (a b : ℕ) → a < b → a ≡ min a b
-lower a b h = omega arith
-
-pub higher : (a b : ℕ) → b ≤ a → b ≡ min a b
-higher a b h = omega arith
-
-abbrev checks : Bool → Bool → Bool → Bool → ℕ
-checks a b c d = check 3 a (check 4 b (check 5 c (check 6 d 0)))
-
--- it is the first of the checks over both models
-first_of : (a b c d a' b' c' d' : Bool) (n : ℕ) → First (checks a b c d) (checks a' b' c' d') n → n ≡ checks (a || a') (b || b') (c || c') (d || d')
-first_of true b c d true b' c' d' n (f, g, h) = h (λ e. omega arith) (λ e. omega arith)
-first_of true b c d false true c' d' n (f, g, h) = h (λ e. omega arith) (λ e. omega arith)
-first_of true b c d false false true d' n (f, g, h) = h (λ e. omega arith) (λ e. omega arith)
-first_of true b c d false false false true n (f, g, h) = h (λ e. omega arith) (λ e. omega arith)
-first_of true b c d false false false false n (f, g, h) = g refl
-first_of false true c d true b' c' d' n (f, g, h) = h (λ e. omega arith) (λ e. omega arith)
-first_of false true c d false true c' d' n (f, g, h) = h (λ e. omega arith) (λ e. omega arith)
-first_of false true c d false false true d' n (f, g, h) = h (λ e. omega arith) (λ e. omega arith)
-first_of false true c d false false false true n (f, g, h) = h (λ e. omega arith) (λ e. omega arith)
-first_of false true c d false false false false n (f, g, h) = g refl
-first_of false false true d true b' c' d' n (f, g, h) = h (λ e. omega arith) (λ e. omega arith)
-first_of false false true d false true c' d' n (f, g, h) = h (λ e. omega arith) (λ e. omega arith)
-first_of false false true d false false true d' n (f, g, h) = h (λ e. omega arith) (λ e. omega arith)
-first_of false false true d false false false true n (f, g, h) = h (λ e. omega arith) (λ e. omega arith)
-first_of false false true d false false false false n (f, g, h) = g refl
-first_of false false false true true b' c' d' n (f, g, h) = h (λ e. omega arith) (λ e. omega arith)
-first_of false false false true false true c' d' n (f, g, h) = h (λ e. omega arith) (λ e. omega arith)
-first_of false false false true false false true d' n (f, g, h) = h (λ e. omega arith) (λ e. omega arith)
-first_of false false false true false false false true n (f, g, h) = h (λ e. omega arith) (λ e. omega arith)
-first_of false false false true false false false false n (f, g, h) = g refl
-first_of false false false false a' b' c' d' n (f, g, h) = f refl
-
-first_checks : (SL : Shape) (ML : Columns) (SR : Shape) (MR : Columns) (n : ℕ) → First (model_refusal SL ML) (model_refusal SR MR) n → n ≡ models_refusal SL ML SR MR 0
-unfolding model_refusal models_refusal
-first_checks SL ML SR MR n f = first_of (large SL) (unfit SL ML) (weights_outside SL ML) (crowded SL ML) (large SR) (unfit SR MR) (weights_outside SR MR) (crowded SR MR) n f
 
 -- ---- the answer
 
@@ -80,9 +36,9 @@ no_rows n e = let z : ◌≡◌ {A = ℕ} 0 1 = cc in absurd (omega arith)
 pub short_no_rows : {P : Type 0} → Short ≡ Rows → P
 short_no_rows e = let z : ◌≡◌ {A = ℕ} 0 1 = cc in absurd (omega arith)
 
-module _ (SL : Shape) (ML : Columns) (SR : Shape) (MR : Columns) (x y n : ℕ) (l : x ≡ model_refusal SL ML) (r : y ≡ model_refusal SR MR) (f : First x y n) where
+module _ (SL : Shape) (ML : Columns) (SR : Shape) (MR : Columns) (x y n : ℕ) (l : x ≡ model_refusal SL ML) (r : y ≡ model_refusal SR MR) (f : n ≡ earlier x y) where
   number : n ≡ models_refusal SL ML SR MR 0
-  number = first_checks SL ML SR MR n (subst (λ (b : ℕ). First (model_refusal SL ML) b n) r (subst (λ (a : ℕ). First a y n) l f))
+  number = models_number SL ML SR MR x y n l r f
 
   pub refused : (b : Bool) → (n ≡ 0 → ⊥) → Refused n ≡ joined SL ML SR MR b
   unfolding joined
@@ -92,25 +48,7 @@ module _ (SL : Shape) (ML : Columns) (SR : Shape) (MR : Columns) (x y n : ℕ) (
   unfolding joined
   unrefused b c h e = ap (settled 0) (sym e) ∙ ap (λ (k : ℕ). settled k b) (sym h ∙ number)
 
-  pub both : n ≡ 0 → Accepted SL ML × Accepted SR MR
-  both h =
-      let q = models_passed SL ML SR MR 0 (sym number ∙ h) in
-      (q.0, q.1)
-
 -- ---- the rows can be made
-
-readable : {S : Shape} {M : Columns} → Accepted S M → Readable S.states M.offsets M.edge_targets M.edge_weights
-readable A =
-    let e = A.begins_last in
-    record {
-      few = A.states_few;
-      offsets_long = A.offsets_long;
-      rise = A.begins_rise;
-      targets_long = let h = A.edge_targets_long in omega arith;
-      weights_long = let h = A.edge_weights_long in omega arith;
-      edges_few = let h = A.edges_few in omega arith;
-      target_low = λ i h. A.target_low i (omega arith);
-    }
 
 -- too few places for the exit rates, the starts, the targets or the divided rates
 abbrev short : Shape → Shape → ℕ → ℕ → ℕ → ℕ → Bool

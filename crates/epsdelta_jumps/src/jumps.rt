@@ -8,6 +8,7 @@ ghost use Rattle.epsdelta_jumps.specs.Union;
 
 use crate::rows::both_rows;
 use bisim_core::wlts::{Shape, model_refusal};
+use parts::refusals::earlier;
 
 // The lists hold the rows, or the number of the first check that fails, or that a list lent is short.
 #[derive(Clone, Copy)]
@@ -15,22 +16,6 @@ pub enum Joined {
     Rows,
     Refused(u32),
     Short,
-}
-
-// Of what is refused of each model, the check that comes first; 0 if nothing.
-fn first(left: u32, right: u32) -> u32
-    ensures { (left ≡ 0 → result ≡ right) × (right ≡ 0 → result ≡ left) × (left ≢ 0 → right ≢ 0 → result ≡ min left right) }
-{
-    if left == 0 {
-        return right;
-    }
-    if right == 0 {
-        return left;
-    }
-    if left < right {
-        return left;
-    }
-    right
 }
 
 // Whether one of the four lists is too short for the states and edges of both models.
@@ -90,7 +75,7 @@ pub fn union(
         right_targets,
         right_weights,
     );
-    let refusal = first(of_left, of_right);
+    let refusal = earlier(of_left, of_right);
     if refusal != 0 {
         return Joined::Refused(refusal);
     }

@@ -5,7 +5,7 @@ ghost use Rattle.bisim_core.specs.Model;
 ghost use Rattle.epsdelta_theory.specs.Jumps;
 ghost use Rattle.epsdelta_theory.proofs.RowsIn.{Readable, LaidTo};
 
-use crate::rates::{fill, wide};
+use crate::rates::fill;
 
 // The rows of a model whose state 0 is number off, behind those of the states before it, whose jumps end at place `at`. Where the jumps of all end.
 pub(crate) fn model_rows(
@@ -25,10 +25,9 @@ pub(crate) fn model_rows(
         → off + states ≤ length E₀ → off + states < length S₀ → LaidTo J off E₀ S₀ T₀ P₀ exits.old starts.old targets.old probs.old → LaidTo J (off + states) E₀ S₀ T₀ P₀ exits.new starts.new targets.new probs.new)) }
 {
     let mut end = at;
-    let mut s = 0;
-    while s < states {
-        let from = wide(offsets[s]);
-        let to = wide(offsets[s + 1]);
+    for s in 0..states {
+        let from = offsets[s] as usize;
+        let to = offsets[s + 1] as usize;
         end = fill(
             edge_targets,
             edge_weights,
@@ -42,7 +41,6 @@ pub(crate) fn model_rows(
             probs,
         );
         starts[off + s + 1] = end as u32;
-        s += 1;
     }
     end
 }

@@ -1,13 +1,8 @@
--- The invariant: the first i rates are those divided, the rest as they were. A turn divides the next.
-use mathlib.Core.Path.{◌≡◌}
-use Prim.Native.Nat.{◌-◌, ◌≤◌}
-use lib.ListN.{length}
+-- The invariant: the rates passed are divided, the rest as they were.
+use Rattle.std.proofs.Common.{◌≡◌, map}
+use lib.Ieee.{Float, binary64, div}
 use Rattle.numbers.proofs.Over.{over}
-use Rattle.epsdelta_jumps.proofs.Edges.{quotients}
 use Rattle.epsdelta_jumps.proofs.rates.divide.Given as goal
 
-abbrev pub invariant-loop-i : goal.invariant-loop-i
-invariant-loop-i l = (l.i ≤ l.m) × (length l.probs ≡ length l.initial.probs) × (l.probs ≡ over (quotients l.x l.m l.initial.probs) l.i l.initial.probs)
-
-abbrev pub decreases-loop-i : goal.decreases-loop-i
-decreases-loop-i l = l.m - l.i
+abbrev pub invariant-loop-p : goal.invariant-loop-p
+invariant-loop-p l = l.probs ≡ over (map (λ (p : Float). div binary64 p l.x) l.initial.probs) l.p-index l.initial.probs

@@ -1,23 +1,16 @@
 -- The rates are made in the part of the lists from place `at` on, then summed and divided there (`filled`).
 use Prim.Native.Nat.{◌+◌}
 use native.Mathlib.Omega.{arith}
-use Rattle.epsdelta_jumps.proofs.Fills.{part_length, filled}
+use Rattle.epsdelta_jumps.proofs.Fills.{filled}
 use Rattle.epsdelta_jumps.proofs.rates.fill.Goals as goal
-
-pub add_edges-m-requires : goal.add_edges-m-requires
-add_edges-m-requires c =
-    let p = c.requires in
-    let t = part_length c.args.at c.args.targets.now in
-    let q = part_length c.args.at c.args.probs.now in
-    (p.0, p.1, p.2, (let a = p.3 in omega arith), (let a = p.4 in omega arith), p.5, p.7)
 
 pub returns : goal.returns
 returns c =
+    let s = c in
+    let p = c.requires in
     let g = c in
-    let s = g in
-    let p = s.requires in
-    let n = g.add_edges-m.ensures.0 in (
-      (let a = p.0 in omega arith),
+    let n = c.add_edges-m.ensures.0 in (
+      omega arith,
       λ D O L. filled s.args.off _ (s.args.off + s.args.s) s.args.at g.add_edges-m.result s.args.exits.now s.args.targets.now s.args.probs.now _ _ _ _
           (let a = p.3 in omega arith) (let a = p.4 in omega arith) g.add_edges-m.auto.targets g.add_edges-m.auto.probs g.add_edges-m.ensures.1 g.add_edges-m.ensures.2 (g.add_edges-m.ensures.3 D O L) c.finish.ensures,
     )
