@@ -1,5 +1,5 @@
 -- The coupling store as the code has it: the couplings of the pairs one after the other, each in places of its own, and as many of these in use as it is long.
-use mathlib.Core.Path.{◌≡◌, refl, sym, ap, ap₂, ◌∙◌}
+use mathlib.Core.Path.{◌≡◌, refl, sym, subst, ap, ap₂, ◌∙◌}
 use mathlib.Core.Logic.{◌⊎◌, inl, inr}
 use Prim.Native.Nat.{ℕ, zero, suc, ◌+◌, ◌-◌, ◌≤◌, ◌<◌}
 use mathlib.Core.List.{List, [], ◌∷◌, map}
@@ -8,6 +8,7 @@ use native.Mathlib.Nat.{le_of_suc-le-suc, not-suc-le-zero}
 use lib.ListN.{length, get_or, set, take, drop, length-map}
 use lib.Seq.{slice, length-slice, get_or-drop, get_or-take, take-set-le, take-set-lt, drop-set-lt}
 use lib.Ieee.{Float, nan}
+use Rattle.std.proofs.lemmas.List.{drop-take}
 use Rattle.numbers.specs.Lists.{span}
 use Rattle.numbers.proofs.Bools.{lt_or_ge}
 use Rattle.numbers.proofs.Spans.{span_length}
@@ -42,6 +43,10 @@ pub record Lies (places : List ℕ) (masses : List Float) (n a b : ℕ) : Type 0
   pub in_masses : b ≤ length masses
   pub leads : (i : ℕ) → a ≤ i → i < b → get_or places i 0 < n
 
+-- each place is that of one of n pairs
+pub record Leads (n : ℕ) (places : List ℕ) : Type 0 where
+  pub each : (i : ℕ) → i < length places → get_or places i 0 < n
+
 -- so does the coupling of each of n pairs
 pub record Holds (starts lengths places : List ℕ) (masses : List Float) (n : ℕ) : Type 0 where
   pub in_starts : n ≤ length starts
@@ -74,6 +79,33 @@ shares_at (p ∷ ps) (m ∷ ms) (suc i) h k = shares_at ps ms i (le_of_suc-le-su
 -- entry i of a list, in its part from a to b
 pub slice_at : {A : Type 0} (a b i : ℕ) (l : List A) (d : A) → a ≤ i → i < b → get_or (slice a b l) (i - a) d ≡ get_or l i d
 slice_at a b i l d h k = get_or-drop a (take b l) (i - a) d ∙ get_or-take b l (a + (i - a)) d (omega arith) ∙ ap (λ (j : ℕ). get_or l j d) (omega arith)
+
+pub no_shares : (ps : List ℕ) (ms : List Float) → (ps ≡ []) ⊎ (ms ≡ []) → shares_of ps ms ≡ []
+unfolding shares_of
+no_shares [] ms h = refl
+no_shares (p ∷ ps) [] h = refl
+no_shares (p ∷ ps) (m ∷ ms) (inl e) = absurd (omega (arith, ap length e))
+no_shares (p ∷ ps) (m ∷ ms) (inr e) = absurd (omega (arith, ap length e))
+
+pub leads_past : {n p : ℕ} {ps : List ℕ} → Leads n (p ∷ ps) → Leads n ps
+leads_past H = record { each = λ i h. H.each (suc i) (omega arith) }
+
+-- a part of a list, as code lends it
+pub part_is : {A : Type 0} (a b : ℕ) (l : List A) → a ≤ b → take (b - a) (drop a l) ≡ slice a b l
+part_is a b l h = let e : a + (b - a) ≡ b = omega arith in sym (drop-take a (b - a) l) ∙ ap (λ (n : ℕ). slice a n l) e
+
+-- a coupling that lies in the store, in parts of two lists: what it holds, and that each of its places is that of a pair
+pub part_shares : (P : List ℕ) (M : List Float) (a b : ℕ) → a ≤ b → shares_of (take (b - a) (drop a P)) (take (b - a) (drop a M)) ≡ shares_in P M a b
+part_shares P M a b h = ap₂ shares_of (part_is a b P h) (part_is a b M h)
+
+pub part_leads : {P : List ℕ} {M : List Float} {n a b : ℕ} → Lies P M n a b → Leads n (take (b - a) (drop a P))
+part_leads {P} {M} {n} {a} {b} H = rw (part_is a b P H.ordered) (record { each = λ i h. low i h })
+  where
+    low : (i : ℕ) → i < length (slice a b P) → get_or (slice a b P) i 0 < n
+    low i h =
+        let l = length-slice a b P H.in_places in
+        let z : a + i - a ≡ i = omega arith in
+        subst (λ (j : ℕ). get_or (slice a b P) j 0 < n) z (rw (slice_at a b (a + i) P 0 (omega arith) (omega arith)) (H.leads (a + i) (omega arith) (omega arith)))
 
 -- how many shares there are from a to b, and the one at place i
 module _ {P : List ℕ} {M : List Float} {n a b : ℕ} (H : Lies P M n a b) where

@@ -2,54 +2,41 @@
 use mathlib.Core.Path.{◌≡◌, refl, sym, ap, ◌∙◌}
 use Prim.Native.Nat.{ℕ, suc, ◌+◌, ◌-◌, ◌≤◌, ◌<◌}
 use mathlib.Core.Bool.{true, false}
-use mathlib.Core.List.{List, map}
+use mathlib.Core.List.{List, [], ◌∷◌, map}
+use mathlib.Core.Logic.{◌⊎◌}
 use native.Mathlib.Omega.{arith}
-use lib.ListN.{length, get_or, set, drop, length-set}
+use lib.ListN.{length, get_or, set, take, drop, length-set}
 use lib.Ieee.{Float, nan, binary64, add, mul, le}
 use Rattle.numbers.specs.Real.{nought, sum_from, sum}
 use Rattle.numbers.specs.Choice.{larger, apart}
 use Rattle.distance_theory.specs.Couplings.{Share, Metric, weighed, expected}
 use Rattle.distance_theory.specs.Rounds.{Values, backup, update, sweep, swept, sweeps}
-use Rattle.distance_theory.proofs.Turns.{coupling_at, no_item, expected_next, sweep_next}
+use Rattle.distance_theory.proofs.Turns.{coupling_at, no_item, sweep_next}
 use Rattle.distance_theory.proofs.Lengths.{sweeps_on, sweeps_end}
-use Rattle.distance_theory.proofs.Held.{shares_in, coupling, policy_in, Lies, Holds, policy_length, policy_at, in_length, in_at}
+use Rattle.distance_theory.proofs.Held.{shares_of, no_shares, coupling, policy_in, Leads, leads_past, part_leads, part_shares, Holds, policy_length, policy_at}
 use Rattle.distance_theory.proofs.ValueRows.{Swept}
 use Rattle.distance_words.proofs.Valuing.{priced}
 
 -- ---- the shares of a coupling
 
--- what is still to come, added to this, is the sum of all
-pub record Adding (v : List Float) (P : List ℕ) (M : List Float) (a b : ℕ) (x : Float) (i : ℕ) : Type 0 where
-  pub begun : a ≤ i
-  pub ends : i ≤ b
-  pub same : sum_from x (map (weighed v) (drop (i - a) (shares_in P M a b))) ≡ expected v (shares_in P M a b)
+-- what is still to come, places ps and masses ms, added to this is the sum of all
+pub record Adding (v : List Float) (P : List ℕ) (M : List Float) (x : Float) (ps : List ℕ) (ms : List Float) : Type 0 where
+  pub leads : Leads (length v) ps
+  pub same : sum_from x (map (weighed v) (shares_of ps ms)) ≡ expected v (shares_of P M)
 
-module _ {v : List Float} {P : List ℕ} {M : List Float} {a b : ℕ} (H : Lies P M (length v) a b) where
-  pub adding_starts : Adding v P M a b nought a
+module _ {v : List Float} {P : List ℕ} {M : List Float} where
+  pub adding_starts : {ps : List ℕ} {ms : List Float} → ps ≡ P → ms ≡ M → Leads (length v) P → Adding v P M nought ps ms
   unfolding expected sum
-  adding_starts = record {
-    begun = omega arith;
-    ends = H.ordered;
-    same = let z : a - a ≡ 0 = omega arith in ap (λ (j : ℕ). sum_from nought (map (weighed v) (drop j (shares_in P M a b)))) z;
-  }
+  adding_starts e f H = rw (e, f) (record { leads = H; same = refl })
 
-  module _ {x : Float} {i : ℕ} (I : Adding v P M a b x i) where
-    pub adding_on : i < b → Adding v P M a b (add binary64 x (mul binary64 (get_or M i nan) (get_or v (get_or P i 0) nan))) (i + 1)
-    adding_on l =
-        let u = I.begun in
-        let n = in_length H in
-        let z : i + 1 - a ≡ i - a + 1 = omega arith in
-        record {
-          begun = omega arith;
-          ends = omega arith;
-          same = ap (λ (j : ℕ). sum_from (add binary64 x (mul binary64 (get_or M i nan) (get_or v (get_or P i 0) nan))) (map (weighed v) (drop j (shares_in P M a b)))) z
-              ∙ ap (λ (c : Share). sum_from (add binary64 x (weighed v c)) (map (weighed v) (drop (i - a + 1) (shares_in P M a b)))) (sym (in_at H i u l))
-              ∙ sym (expected_next v (shares_in P M a b) x (i - a) (omega arith)) ∙ I.same;
-        }
+  module _ {x : Float} {ps : List ℕ} {ms : List Float} (I : Adding v P M x ps ms) where
+    pub adding_on : {p : ℕ} {m : Float} {ps' : List ℕ} {ms' : List Float} → ps ≡ p ∷ ps' → ms ≡ m ∷ ms' → Adding v P M (add binary64 x (mul binary64 m (get_or v p nan))) ps' ms'
+    unfolding shares_of sum_from
+    adding_on e f = let J = rw (e, f) at I in record { leads = leads_past J.leads; same = J.same }
 
-    pub adding_ends : b ≤ i → x ≡ expected v (shares_in P M a b)
-    unfolding sum_from
-    adding_ends l = let n = in_length H in sym (no_item (λ (cs : List Share). sum_from x (map (weighed v) cs)) (shares_in P M a b) (i - a) (omega arith)) ∙ I.same
+    pub adding_ends : (ps ≡ []) ⊎ (ms ≡ []) → x ≡ expected v (shares_of P M)
+    unfolding sum_from shares_of
+    adding_ends h = ap (λ (l : List Share). sum_from x (map (weighed v) l)) (sym (no_shares ps ms h)) ∙ I.same
 
 -- ---- the pairs of a sweep
 
@@ -76,14 +63,16 @@ module _ {S L P : List ℕ} {M c : List Float} {γ : Float} {v₀ : List Float} 
     pub pair_in_lem : k < length v → k < length v₀
     pair_in_lem l = let s = I.size in omega arith
 
-    pub pair_lies : Holds S L P M (length v₀) → k < length v → Lies P M (length v) (get_or S k 0) (get_or S k 0 + get_or L k 0)
-    pair_lies H l = rw I.size (H.each k (pair_in_lem l))
+    pub pair_leads : Holds S L P M (length v₀) → k < length v → let a = get_or S k 0 in let b = a + get_or L k 0 in Leads (length v) (take (b - a) (drop a P))
+    pair_leads H l = rw I.size (part_leads (H.each k (pair_in_lem l)))
 
-    pub sweeping_on : k < length v → {y z e : Float} → y ≡ expected v (coupling S L P M k) → z ≡ apart (add binary64 (get_or c k nan) (mul binary64 γ y)) (get_or v k nan) → e ≡ larger d z
+    pub sweeping_on : k < length v → {y z e : Float} → (let a = get_or S k 0 in let b = a + get_or L k 0 in y ≡ expected v (shares_of (take (b - a) (drop a P)) (take (b - a) (drop a M)))) → z ≡ apart (add binary64 (get_or c k nan) (mul binary64 γ y)) (get_or v k nan) → e ≡ larger d z
         → Sweeping S L P M c γ v₀ (set v k (add binary64 (get_or c k nan) (mul binary64 γ y))) e (k + 1)
     sweeping_on l {y} {z} {e} p q r =
         let h = pair_in_lem l in
         let n = policy_length S L P M (length v₀) in
+        let a = get_or S k 0 in
+        let b = a + get_or L k 0 in
         record {
           ends = omega arith;
           size = length-set v k (add binary64 (get_or c k nan) (mul binary64 γ y)) ∙ I.size;
@@ -92,7 +81,7 @@ module _ {S L P : List ℕ} {M c : List Float} {γ : Float} {v₀ : List Float} 
         }
       where
         here : values (set v k (add binary64 (get_or c k nan) (mul binary64 γ y))) e ≡ update (priced γ c) k (coupling_at (policy_in S L P M (length v₀)) k) (values v d)
-        here = rw (r, q, p, policy_at S L P M (length v₀) k (pair_in_lem l)) (sym (update_is (priced γ c) k (coupling S L P M k) v d))
+        here = rw (r, q, p, part_shares P M (get_or S k 0) (get_or S k 0 + get_or L k 0) (omega arith), policy_at S L P M (length v₀) k (pair_in_lem l)) (sym (update_is (priced γ c) k (coupling S L P M k) v d))
 
     pub sweeping_ends : length v ≤ k → Swept (swept (priced γ c) (policy_in S L P M (length v₀)) v₀) v d
     unfolding sweep

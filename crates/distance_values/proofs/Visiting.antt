@@ -1,70 +1,54 @@
 -- The loops of `visits` over rows: one share is one step of `pour`, one pair one `stay` of the definition, one round one `onward`.
 use mathlib.Core.Path.{◌≡◌, refl, sym, subst, ap, ap₂, ◌∙◌}
 use Prim.Native.Nat.{ℕ, zero, suc, ◌+◌, ◌-◌, ◌≤◌, ◌<◌}
-use mathlib.Core.Bool.{Bool, true, false}
-use mathlib.Core.List.{List, ◌++◌, append-nil}
+use mathlib.Core.Bool.{Bool, true, false, not}
+use mathlib.Core.List.{List, [], ◌∷◌}
+use mathlib.Core.Logic.{◌⊎◌}
 use native.Mathlib.Omega.{arith}
-use lib.ListN.{length, get_or, set, take, drop, replicate, length-set, length-replicate, get_or-replicate}
-use lib.Seq.{length-take-le, get_or-append-add, get_or-drop, drop-length, take-set-lt}
-use lib.Ieee.{Float, nan, binary64, add, sub, mul, lt}
-use Rattle.numbers.specs.Real.{nought, one, eps, is_zero, sum_from, sum}
-use Rattle.numbers.proofs.Over.{over, over_length, over_next, over_done}
+use lib.ListN.{length, get_or, set, take, drop, replicate, length-set, length-replicate}
+use lib.Seq.{take-set-lt}
+use lib.Ieee.{Float, nan, binary64, add, sub, mul, lt, eq, ne}
+use Rattle.numbers.specs.Real.{nought, one, eps, is_zero, sum}
 use Rattle.numbers.proofs.Parts.{take_replicate, take_replicate_length}
-use Rattle.numbers.proofs.Sums.{sum_next, sum_end}
 use Rattle.distance_theory.specs.Pairs.{most}
 use Rattle.distance_theory.specs.Couplings.{Share}
 use Rattle.distance_theory.specs.Contributions.{Visits, pour, Stay, stay, stay_all, onward, visits, depart}
-use Rattle.distance_theory.proofs.Turns.{coupling_at, no_item, pour_next, stay_next}
+use Rattle.distance_theory.proofs.Turns.{coupling_at, no_item, stay_next}
 use Rattle.distance_theory.proofs.Lengths.{visits_on, visits_end}
-use Rattle.distance_theory.proofs.Held.{shares_in, coupling, policy_in, Lies, Holds, policy_length, policy_at, in_length, in_at}
+use Rattle.distance_theory.proofs.Held.{shares_of, no_shares, coupling, policy_in, Leads, leads_past, part_leads, part_shares, Holds, policy_length, policy_at}
 use Rattle.distance_theory.proofs.ValueRows.{staying, Stayed, Advanced, visiting, Rested}
 
 -- ---- the shares of a coupling
 
--- what is still to come of the shares leads from these masses to the last ones
-pub record Pouring (P : List ℕ) (M : List Float) (a b : ℕ) (x : Float) (l₀ l : List Float) (i : ℕ) : Type 0 where
-  pub begun : a ≤ i
-  pub ends : i ≤ b
-  pub size : length l ≡ length l₀
-  pub same : pour x (drop (i - a) (shares_in P M a b)) l ≡ pour x (shares_in P M a b) l₀
+-- the shares still to come, places ps and masses ms, lead from these masses to the last ones
+pub record Pouring (P : List ℕ) (M : List Float) (x : Float) (l₀ l : List Float) (ps : List ℕ) (ms : List Float) : Type 0 where
+  pub leads : Leads (length l) ps
+  pub same : pour x (shares_of ps ms) l ≡ pour x (shares_of P M) l₀
 
-module _ {P : List ℕ} {M : List Float} {a b : ℕ} {x : Float} {l₀ : List Float} (H : Lies P M (length l₀) a b) where
-  pub pouring_starts : Pouring P M a b x l₀ l₀ a
-  pouring_starts = record {
-    begun = omega arith;
-    ends = H.ordered;
-    size = refl;
-    same = let z : a - a ≡ 0 = omega arith in ap (λ (j : ℕ). pour x (drop j (shares_in P M a b)) l₀) z;
-  }
+module _ {P : List ℕ} {M : List Float} {x : Float} {l₀ : List Float} where
+  pub pouring_starts : {ps : List ℕ} {ms : List Float} → ps ≡ P → ms ≡ M → Leads (length l₀) P → Pouring P M x l₀ l₀ ps ms
+  pouring_starts e f H = rw (e, f) (record { leads = H; same = refl })
 
-  module _ {l : List Float} {i : ℕ} (I : Pouring P M a b x l₀ l i) where
-    module _ (more : i < b) where
-      abbrev j : ℕ
-      j = get_or P i 0
+  module _ {l : List Float} {ps : List ℕ} {ms : List Float} (I : Pouring P M x l₀ l ps ms) where
+    pub pouring_on : {p : ℕ} {m : Float} {ps' : List ℕ} {ms' : List Float} → ps ≡ p ∷ ps' → ms ≡ m ∷ ms' → Pouring P M x l₀ (set l p (add binary64 (get_or l p nan) (mul binary64 x m))) ps' ms'
+    unfolding shares_of pour
+    pouring_on {p} {m} e f =
+        let J = rw (e, f) at I in
+        record { leads = rw (length-set l p (add binary64 (get_or l p nan) (mul binary64 x m))) (leads_past J.leads); same = J.same }
 
-      pub place_in : j < length l
-      place_in = rw I.size (H.leads i I.begun more)
-
-      pub pouring_on : Pouring P M a b x l₀ (set l j (add binary64 (get_or l j nan) (mul binary64 x (get_or M i nan)))) (i + 1)
-      pouring_on =
-          let u = I.begun in
-          let n = in_length H in
-          let z : i + 1 - a ≡ i - a + 1 = omega arith in
-          let l' = set l j (add binary64 (get_or l j nan) (mul binary64 x (get_or M i nan))) in
-          record {
-            begun = omega arith;
-            ends = omega arith;
-            size = length-set l j (add binary64 (get_or l j nan) (mul binary64 x (get_or M i nan))) ∙ I.size;
-            same = ap (λ (m : ℕ). pour x (drop m (shares_in P M a b)) l') z
-                ∙ ap (λ (c : Share). pour x (drop (i - a + 1) (shares_in P M a b)) (set l c.at (add binary64 (get_or l c.at nan) (mul binary64 x c.mass)))) (sym (in_at H i u more))
-                ∙ sym (pour_next x (shares_in P M a b) l (i - a) (omega arith)) ∙ I.same;
-          }
-
-    pub pouring_ends : b ≤ i → l ≡ pour x (shares_in P M a b) l₀
+    pub pouring_ends : (ps ≡ []) ⊎ (ms ≡ []) → l ≡ pour x (shares_of P M) l₀
     unfolding pour
-    pouring_ends h = let n = in_length H in sym (no_item (λ (cs : List Share). pour x cs l) (shares_in P M a b) (i - a) (omega arith)) ∙ I.same
+    pouring_ends h = ap (λ (cs : List Share). pour x cs l) (sym (no_shares ps ms h)) ∙ I.same
 
 -- ---- the pairs of a round
+
+zero_unless : (x : Float) {b : Bool} → ne x nought ≡ b → is_zero x ≡ not b
+unfolding ne
+zero_unless x e = twice (eq x nought) ∙ ap not e
+  where
+    twice : (b : Bool) → b ≡ not (not b)
+    twice true = refl
+    twice false = refl
 
 -- the pairs still to come lead from this to the last
 pub record Stays (S L P : List ℕ) (M : List Float) (γ : Float) (c x₀ s₀ x s : List Float) (k : ℕ) : Type 0 where
@@ -79,8 +63,8 @@ module _ {S L P : List ℕ} {M : List Float} {γ : Float} {c x₀ s₀ : List Fl
 
   module _ {x s : List Float} {k : ℕ} (I : Stays S L P M γ c x₀ s₀ x s k) where
     module _ (more : k < length c) where
-      pub pair_lies : Holds S L P M (length c) → Lies P M (length x) (get_or S k 0) (get_or S k 0 + get_or L k 0)
-      pair_lies H = rw I.next_size (H.each k more)
+      pub pair_leads : Holds S L P M (length c) → let a = get_or S k 0 in let b = a + get_or L k 0 in Leads (length x) (take (b - a) (drop a P))
+      pair_leads H = rw I.next_size (part_leads (H.each k more))
 
       turned : (b : Bool) → is_zero (get_or c k nan) ≡ b → (x' s' : List Float) → length x' ≡ length c → length s' ≡ length c
           → staying s' x' ≡ stay b γ (get_or c k nan) k (coupling S L P M k) (staying s x) → Stays S L P M γ c x₀ s₀ x' s' (k + 1)
@@ -98,14 +82,14 @@ module _ {S L P : List ℕ} {M : List Float} {γ : Float} {c x₀ s₀ : List Fl
           here = rw (z, policy_at S L P M (length c) k more)
 
       -- nothing is there
-      pub stays_over : is_zero (get_or c k nan) ≡ true → (x' s' : List Float) → x' ≡ x → s' ≡ s → Stays S L P M γ c x₀ s₀ x' s' (k + 1)
+      pub stays_over : ne (get_or c k nan) nought ≡ false → (x' s' : List Float) → x' ≡ x → s' ≡ s → Stays S L P M γ c x₀ s₀ x' s' (k + 1)
       unfolding stay
-      stays_over z x' s' e f = turned true z x' s' (ap length e ∙ I.next_size) (ap length f ∙ I.spent_size) (rw (e, f))
+      stays_over z x' s' e f = turned true (zero_unless (get_or c k nan) z) x' s' (ap length e ∙ I.next_size) (ap length f ∙ I.spent_size) (rw (e, f))
 
-      pub stays_through : is_zero (get_or c k nan) ≡ false → {y : List Float} → length y ≡ length x → y ≡ pour (mul binary64 γ (get_or c k nan)) (coupling S L P M k) x
+      pub stays_through : ne (get_or c k nan) nought ≡ true → {y : List Float} → length y ≡ length x → (let a = get_or S k 0 in let b = a + get_or L k 0 in y ≡ pour (mul binary64 γ (get_or c k nan)) (shares_of (take (b - a) (drop a P)) (take (b - a) (drop a M))) x)
           → (x' s' : List Float) → x' ≡ y → s' ≡ set s k (add binary64 (get_or s k nan) (get_or c k nan)) → Stays S L P M γ c x₀ s₀ x' s' (k + 1)
       unfolding stay
-      stays_through z n p x' s' e f = turned false z x' s' (ap length e ∙ n ∙ I.next_size) (ap length f ∙ length-set s k (add binary64 (get_or s k nan) (get_or c k nan)) ∙ I.spent_size) (rw (e, f, p))
+      stays_through z n p x' s' e f = turned false (zero_unless (get_or c k nan) z) x' s' (ap length e ∙ n ∙ I.next_size) (ap length f ∙ length-set s k (add binary64 (get_or s k nan) (get_or c k nan)) ∙ I.spent_size) (rw (e, f, p, part_shares P M (get_or S k 0) (get_or S k 0 + get_or L k 0) (omega arith)))
 
     pub stays_end : length c ≤ k → Stayed (stay_all γ c 0 (policy_in S L P M (length c)) (staying s₀ x₀)) s x
     unfolding stay_all
@@ -113,72 +97,6 @@ module _ {S L P : List ℕ} {M : List Float} {γ : Float} {c x₀ s₀ : List Fl
         let n = policy_length S L P M (length c) in
         let e = sym (no_item (λ (ps : List (List Share)). stay_all γ c k ps (staying s x)) (policy_in S L P M (length c)) k (omega arith)) ∙ I.same in
         record { spent_is = ap (λ (w : Stay). w.spent) e; next_is = ap (λ (w : Stay). w.next) e }
-
--- ---- the next masses become the present ones
-
--- what stands past the entries that are written
-over_at : (l d : List Float) (i : ℕ) → i ≤ length l → get_or (over l i d) i nan ≡ get_or d i nan
-over_at l d i h =
-    let n = length-take-le i l h in
-    let z : i ≡ length (take i l) + 0 = omega arith in
-    let o : i + 0 ≡ i = omega arith in
-    ap (λ (j : ℕ). get_or (over l i d) j nan) z ∙ get_or-append-add (take i l) (drop i d) 0 nan ∙ get_or-drop i d 0 nan ∙ ap (λ (j : ℕ). get_or d j nan) o
-
--- a list over all of another
-over_whole : (l d out : List Float) (i : ℕ) → out ≡ over l i d → i ≡ length l → length l ≡ length d → out ≡ l
-over_whole l d out i e n m = over_done l d out i e n ∙ ap (λ (r : List Float). l ++ r) (ap (λ (j : ℕ). drop j d) m ∙ drop-length d) ∙ append-nil l
-
--- the first k entries are 0
-module _ (l : List Float) (k : ℕ) {x : List Float} (e : x ≡ over (replicate (length l) nought) k l) where
-  pub blank_size : k ≤ length l → length x ≡ length l
-  blank_size h = let n = length-replicate (length l) nought in ap length e ∙ over_length (replicate (length l) nought) l k (omega arith) h
-
-  pub blank_on : k < length l → set x k nought ≡ over (replicate (length l) nought) (k + 1) l
-  blank_on h =
-      let n = length-replicate (length l) nought in
-      over_next (replicate (length l) nought) l x k nan nought e (sym (get_or-replicate (length l) k nought nan h)) (omega arith) h
-
-  pub blank_ends : k ≡ length l → x ≡ replicate (length l) nought
-  blank_ends h = let n = length-replicate (length l) nought in over_whole (replicate (length l) nought) l x k e (omega arith) n
-
--- the first k entries are moved, and added up
-pub record Moving (c₀ x₀ c x : List Float) (t : Float) (k : ℕ) : Type 0 where
-  pub ends : k ≤ length c₀
-  pub current_is : c ≡ over x₀ k c₀
-  pub next_is : x ≡ over (replicate (length x₀) nought) k x₀
-  pub total_is : sum_from t (drop k x₀) ≡ sum x₀
-
-module _ {c₀ x₀ : List Float} (size : length x₀ ≡ length c₀) where
-  pub moving_starts : Moving c₀ x₀ c₀ x₀ nought 0
-  unfolding sum
-  moving_starts = record { ends = omega arith; current_is = refl; next_is = refl; total_is = refl }
-
-  module _ {c x : List Float} {t : Float} {k : ℕ} (I : Moving c₀ x₀ c x t k) where
-    pub current_size : length c ≡ length c₀
-    current_size = let e = I.ends in ap length I.current_is ∙ over_length x₀ c₀ k (omega arith) e
-
-    pub next_size : length x ≡ length x₀
-    next_size = let e = I.ends in blank_size x₀ k I.next_is (omega arith)
-
-    pub moving_on : k < length c₀ → Moving c₀ x₀ (set c k (get_or x k nan)) (set x k nought) (add binary64 t (get_or x k nan)) (k + 1)
-    moving_on more =
-        let n = length-replicate (length x₀) nought in
-        let y : get_or x k nan ≡ get_or x₀ k nan = ap (λ (l : List Float). get_or l k nan) I.next_is ∙ over_at (replicate (length x₀) nought) x₀ k (omega arith) in
-        record {
-          ends = omega arith;
-          current_is = over_next x₀ c₀ c k nan (get_or x k nan) I.current_is y (omega arith) more;
-          next_is = blank_on x₀ k I.next_is (omega arith);
-          total_is = ap (λ (z : Float). sum_from (add binary64 t z) (drop (k + 1) x₀)) y ∙ sum_next t x₀ k (omega arith) ∙ I.total_is;
-        }
-
-    pub moving_ends : length c₀ ≤ k → Advanced x₀ t c x
-    moving_ends done =
-        let e = I.ends in
-        record {
-          mass_is = sum_end t x₀ k (omega arith) ∙ I.total_is;
-          current_is = over_whole x₀ c₀ c k I.current_is (omega arith) size;
-          next_is = blank_ends x₀ k I.next_is (omega arith);
-        }
 
 -- ---- the rounds
 

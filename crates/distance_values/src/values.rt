@@ -2,23 +2,21 @@
 ghost use Rattle.std.specs.Prelude.{◌≡◌, ◌≤◌, length};
 ghost use Rattle.distance_theory.specs.Couplings;
 ghost use Rattle.distance_theory.specs.Rounds;
-ghost use Rattle.distance_theory.proofs.Held.{shares_in, policy_in, Lies, Holds};
+ghost use Rattle.distance_theory.proofs.Held.{shares_of, policy_in, Leads, Holds};
 ghost use Rattle.distance_theory.proofs.ValueRows.{Swept};
 ghost use Rattle.distance_words.proofs.Valuing.{priced, valued, evaluated};
 
 use crate::store;
 use numbers::{apart, larger};
 
-// The sum of mass × value over the shares from..to.
-fn expected(places: &[u32], masses: &[f64], from: usize, to: usize, value: &[f64]) -> f64
-    requires { Lies places.now masses.now (length value.now) from to }
-    ensures { result ≡ Couplings.expected value.now (shares_in places.now masses.now from to) }
+// The sum of mass × value over the shares.
+fn expected(places: &[u32], masses: &[f64], value: &[f64]) -> f64
+    requires { Leads (length value.now) places.now }
+    ensures { result ≡ Couplings.expected value.now (shares_of places.now masses.now) }
 {
     let mut total = 0.0;
-    let mut i = from;
-    while i < to {
-        total = total + masses[i] * value[places[i] as usize];
-        i += 1;
+    for (place, mass) in places.iter().zip(masses) {
+        total += *mass * value[*place as usize];
     }
     total
 }
@@ -38,14 +36,12 @@ fn sweep(
     ensures { Swept (Rounds.swept (priced gamma cost.now) (policy_in starts.now lengths.now places.now masses.now (length value.old)) value.old) value.new result }
 {
     let mut delta = 0.0;
-    let mut k: usize = 0;
-    while k < value.len() {
+    for k in 0..value.len() {
         let from = starts[k] as usize;
         let to = from + lengths[k] as usize;
-        let x = cost[k] + gamma * expected(places, masses, from, to, value);
+        let x = cost[k] + gamma * expected(&places[from..to], &masses[from..to], value);
         delta = larger(delta, apart(x, value[k]));
         value[k] = x;
-        k += 1;
     }
     delta
 }
@@ -66,12 +62,10 @@ fn sweeps_in(
     requires value_in_bounds { length value.old ≤ length cost.now }
     ensures { value.new ≡ Rounds.sweeps (priced gamma cost.now) (policy_in starts.now lengths.now places.now masses.now (length value.old)) tol limit value.old }
 {
-    let mut k: usize = 0;
-    while k < limit {
+    for _ in 0..limit {
         if sweep(starts, lengths, places, masses, cost, gamma, value) <= tol {
             return;
         }
-        k += 1;
     }
 }
 

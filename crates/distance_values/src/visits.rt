@@ -3,23 +3,20 @@ ghost use Rattle.std.specs.Prelude.{◌≡◌, ◌≤◌, length, replicate};
 ghost use Rattle.numbers.specs.Real.{nought};
 ghost use Rattle.distance_theory.specs.Pairs.{most};
 ghost use Rattle.distance_theory.specs.Contributions;
-ghost use Rattle.distance_theory.proofs.Held.{shares_in, policy_in, Lies, Holds};
+ghost use Rattle.distance_theory.proofs.Held.{shares_of, policy_in, Leads, Holds};
 ghost use Rattle.distance_theory.proofs.ValueRows.{staying, Stayed, Advanced, visiting, Rested};
 ghost use Rattle.distance_words.proofs.Valuing.{occupied, visited};
 
 use crate::store;
-use numbers::{EPS, ONE};
+use numbers::{EPS, ONE, Real};
 
-// x × mass more for each pair that the shares from..to lead to.
-fn pour(places: &[u32], masses: &[f64], from: usize, to: usize, x: f64, next: &mut [f64])
-    requires { Lies places.now masses.now (length next.old) from to }
-    ensures { next.new ≡ Contributions.pour x (shares_in places.now masses.now from to) next.old }
+// x × mass more for each pair that the shares lead to.
+fn pour(places: &[u32], masses: &[f64], x: f64, next: &mut [f64])
+    requires { Leads (length next.old) places.now }
+    ensures { next.new ≡ Contributions.pour x (shares_of places.now masses.now) next.old }
 {
-    let mut i = from;
-    while i < to {
-        let j = places[i] as usize;
-        next[j] = next[j] + x * masses[i];
-        i += 1;
+    for (place, mass) in places.iter().zip(masses) {
+        next[*place as usize] += x * *mass;
     }
 }
 
@@ -38,16 +35,13 @@ fn stay_all(
     requires next_len { (length next.old ≡ length current.now) × (length spent.old ≡ length current.now) }
     ensures { Stayed (Contributions.stay_all gamma current.now 0 (policy_in starts.now lengths.now places.now masses.now (length current.now)) (staying spent.old next.old)) spent.new next.new }
 {
-    let mut k: usize = 0;
-    while k < current.len() {
-        let p = current[k];
-        if !(p == 0.0) {
-            spent[k] = spent[k] + p;
+    for (k, p) in current.iter().enumerate() {
+        if *p != 0.0 {
+            spent[k] += *p;
             let from = starts[k] as usize;
             let to = from + lengths[k] as usize;
-            pour(places, masses, from, to, gamma * p, next);
+            pour(&places[from..to], &masses[from..to], gamma * *p, next);
         }
-        k += 1;
     }
 }
 
@@ -56,16 +50,9 @@ fn advance(current: &mut [f64], next: &mut [f64]) -> f64
     requires { length next.old ≡ length current.old }
     ensures { Advanced next.old result current.new next.new }
 {
-    let mut total = 0.0;
-    let mut k: usize = 0;
-    while k < current.len() {
-        let x = next[k];
-        total = total + x;
-        current[k] = x;
-        next[k] = 0.0;
-        k += 1;
-    }
-    total
+    current.copy_from_slice(next);
+    next.fill(0.0);
+    Real::sum(current).value()
 }
 
 // Rounds while the mass is above 1e-12, at most `limit`; gives the mass that is left.
@@ -86,27 +73,14 @@ fn rounds(
     ensures { Rested (Contributions.visits gamma (policy_in starts.now lengths.now places.now masses.now (length current.old)) limit (visiting spent.old current.old mass)) result spent.new }
 {
     let mut left = mass;
-    let mut k: usize = 0;
-    while k < limit {
+    for _ in 0..limit {
         if !(left > EPS) {
             return left;
         }
         stay_all(starts, lengths, places, masses, gamma, current, next, spent);
         left = advance(current, next);
-        k += 1;
     }
     left
-}
-
-// Every entry is 0.
-fn clear(list: &mut [f64])
-    ensures { list.new ≡ replicate (length list.old) nought }
-{
-    let mut k: usize = 0;
-    while k < list.len() {
-        list[k] = 0.0;
-        k += 1;
-    }
 }
 
 // The time spent in each of at most 4,096 pairs, from the first on; gives the mass that is left.
@@ -128,7 +102,7 @@ fn visits_in(
     let mut current = [0.0f64; 4096];
     let mut next = [0.0f64; 4096];
     current[0] = p;
-    clear(spent);
+    spent.fill(0.0);
     rounds(
         limit,
         starts,

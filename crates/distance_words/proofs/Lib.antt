@@ -9,3 +9,4 @@ pub mod Listing
 pub mod Solve
 pub mod Found
 pub mod Run
+pub mod Ranges

@@ -1,30 +1,15 @@
-use mathlib.Core.Path.{◌≡◌, sym, ◌∙◌}
-use native.Mathlib.Omega.{arith}
-use borrow.Author.Tests.{le-leb, lt-leb}
-use Rattle.numbers.proofs.Alls.{every_none}
-use Rattle.numbers.proofs.Bools.{and_first, and_second}
-use Rattle.distance_values.proofs.Reading.{stops, goes}
+-- The tests one after the other; the last is whether each of the couplings can be read.
+use Rattle.std.proofs.Common.{rules, tests, ◌∙◌, length}
+use borrow.Author.Tests.{le-leb}
+use Rattle.std.proofs.lemmas.Iterator.{YieldsList-from_range}
+use Rattle.std.proofs.lemmas.Iterator.Search.{all_from_yields_List}
+use Rattle.distance_words.proofs.Ranges.{all_in_range}
+use Rattle.distance_words.proofs.Readable.{lies}
 use Rattle.distance_values.proofs.store.held.Goals as goal
 
-pub loop-k-init : goal.loop-k-init
-loop-k-init c = (omega arith, every_none _)
-
-pub returns-then-not-lies : goal.returns-then-not-lies
-returns-then-not-lies c =
-    let a = c.args in
-    and_second _ _ _ (le-leb _ _ c.if-n-starts.true) (and_second _ _ _ (le-leb _ _ c.if-n-lengths.true)
-    (sym (stops a.starts.now a.lengths.now a.places.now a.masses.now a.n c.loop-k.k c.lies.ensures c.loop-k-test.true (c.if-not-lies.true))))
-
-pub loop-k-preserved : goal.loop-k-preserved
-loop-k-preserved c =
-    let a = c.args in
-    (omega arith, goes a.starts.now a.lengths.now a.places.now a.masses.now a.n c.loop-k.k c.lies.ensures c.loop-k.invariant.1 (c.if-not-lies.false))
-
 pub returns-then-n-lengths : goal.returns-then-n-lengths
-returns-then-n-lengths c = let z : c.loop-k.k ≡ c.args.n = let h = c.loop-k.invariant.0 in let l = c.loop-k-test.false in omega arith in and_second _ _ _ (le-leb _ _ c.if-n-starts.true) (and_second _ _ _ (le-leb _ _ c.if-n-lengths.true) (sym (rw z at c.loop-k.invariant.1)))
-
-pub returns-else-n-lengths : goal.returns-else-n-lengths
-returns-else-n-lengths c = and_second _ _ _ (le-leb _ _ c.if-n-starts.true) (sym (lt-leb _ _ c.if-n-lengths.false) ∙ and_first _ _ (lt-leb _ _ c.if-n-lengths.false))
-
-pub returns-else-n-starts : goal.returns-else-n-starts
-returns-else-n-starts c = sym (lt-leb _ _ c.if-n-starts.false) ∙ and_first _ _ (lt-leb _ _ c.if-n-starts.false)
+returns-then-n-lengths c =
+    let test = lies c.args.starts.now c.args.lengths.now c.args.places.now c.args.masses.now c.args.n in
+    let (p, q) = c.if-n-lengths.true in
+    rw (le-leb c.args.n (length c.args.starts.now) p, le-leb c.args.n (length c.args.lengths.now) q)
+    (all_from_yields_List test _ _ c.all.result c.all.ensures.ran (YieldsList-from_range 0 c.args.n c.args.n (search rules) (search rules)) (λ x b q k. search (rules, tests)) ∙ all_in_range test c.args.n)

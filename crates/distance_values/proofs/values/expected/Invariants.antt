@@ -1,10 +1,8 @@
--- `values::expected` meets its contract. The loop's invariant: the shares still to come, added to the total, make the sum of all (Sweeping.Adding).
-use Prim.Native.Nat.{◌-◌}
+-- The invariant: the shares still to come, added to the total, are the sum of all (Sweeping.Adding).
+use Rattle.std.specs.Iterator.Adapters.{zip_first, zip_second}
+use Rattle.std.specs.Slice.Iter.{iter_rest}
 use Rattle.distance_values.proofs.Sweeping.{Adding}
 use Rattle.distance_values.proofs.values.expected.Given as goal
 
-abbrev pub invariant-loop-i : goal.invariant-loop-i
-invariant-loop-i l = Adding l.value l.places l.masses l.from l.to l.total l.i
-
-abbrev pub decreases-loop-i : goal.decreases-loop-i
-decreases-loop-i l = l.to - l.i
+abbrev pub invariant-loop-place : goal.invariant-loop-place
+invariant-loop-place l = Adding l.value l.places l.masses l.total (iter_rest (zip_first l.place-iterator)) (iter_rest (zip_second l.place-iterator))

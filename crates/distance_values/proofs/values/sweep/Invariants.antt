@@ -1,11 +1,6 @@
 -- `values::sweep` meets its contract. The loop's invariant: the pairs still to come lead from these values to the last ones (Sweeping.Sweeping).
-use Prim.Native.Nat.{◌-◌}
-use lib.ListN.{length}
 use Rattle.distance_values.proofs.Sweeping.{Sweeping}
 use Rattle.distance_values.proofs.values.sweep.Given as goal
 
 abbrev pub invariant-loop-k : goal.invariant-loop-k
 invariant-loop-k l = Sweeping l.starts l.lengths l.places l.masses l.cost l.gamma l.initial.value l.value l.delta l.k
-
-abbrev pub decreases-loop-k : goal.decreases-loop-k
-decreases-loop-k l = length l.initial.value - l.k

@@ -1,10 +1,6 @@
 -- `values::sweeps_in` meets its contract. The loop's invariant: the sweeps still to come lead from these values to the last ones (Sweeping.Repeating).
-use Prim.Native.Nat.{◌-◌}
 use Rattle.distance_values.proofs.Sweeping.{Repeating}
 use Rattle.distance_values.proofs.values.sweeps_in.Given as goal
 
-abbrev pub invariant-loop-k : goal.invariant-loop-k
-invariant-loop-k l = Repeating l.limit l.starts l.lengths l.places l.masses l.cost l.gamma l.tol l.initial.value l.value l.k
-
-abbrev pub decreases-loop-k : goal.decreases-loop-k
-decreases-loop-k l = l.limit - l.k
+abbrev pub invariant-loop : goal.invariant-loop
+invariant-loop l = Repeating l.limit l.starts l.lengths l.places l.masses l.cost l.gamma l.tol l.initial.value l.value l.counter

@@ -1,10 +1,6 @@
 -- `visits::rounds` meets its contract. The loop's invariant: the rounds still to come lead from these lists to the last ones (Visiting.Going).
-use Prim.Native.Nat.{◌-◌}
 use Rattle.distance_values.proofs.Visiting.{Going}
 use Rattle.distance_values.proofs.visits.rounds.Given as goal
 
-abbrev pub invariant-loop-k : goal.invariant-loop-k
-invariant-loop-k l = Going l.limit l.starts l.lengths l.places l.masses l.gamma l.mass l.initial.current l.initial.spent l.left l.current l.next l.spent l.k
-
-abbrev pub decreases-loop-k : goal.decreases-loop-k
-decreases-loop-k l = l.limit - l.k
+abbrev pub invariant-loop : goal.invariant-loop
+invariant-loop l = Going l.limit l.starts l.lengths l.places l.masses l.gamma l.mass l.initial.current l.initial.spent l.left l.current l.next l.spent l.counter

@@ -1,11 +1,6 @@
 -- `visits::stay_all` meets its contract. The loop's invariant: the pairs still to come lead from these lists to the last ones (Visiting.Stays).
-use Prim.Native.Nat.{◌-◌}
-use lib.ListN.{length}
 use Rattle.distance_values.proofs.Visiting.{Stays}
 use Rattle.distance_values.proofs.visits.stay_all.Given as goal
 
 abbrev pub invariant-loop-k : goal.invariant-loop-k
 invariant-loop-k l = Stays l.starts l.lengths l.places l.masses l.gamma l.current l.initial.next l.initial.spent l.next l.spent l.k
-
-abbrev pub decreases-loop-k : goal.decreases-loop-k
-decreases-loop-k l = length l.current - l.k
