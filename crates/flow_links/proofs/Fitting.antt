@@ -1,7 +1,7 @@
 -- Two rows that fit a flow test: what the checks say, that their links have room, and what stands in both rows once they are written.
 use mathlib.Core.Path.{◌≡◌, refl, sym, ap, ◌∙◌}
-use Prim.Native.Nat.{ℕ, ◌+◌, ◌-◌, ◌*◌, ◌≤◌, ◌<◌}
-use mathlib.Core.Bool.{Bool, true, false, ◌&&◌, cond, false≢true}
+use Prim.Native.Nat.{ℕ, ◌+◌, ◌-◌, ◌*◌, ◌≤◌}
+use mathlib.Core.Bool.{Bool, true, false, ◌&&◌, cond}
 use mathlib.Core.List.{List, ◌++◌}
 use native.Mathlib.Omega.{arith}
 use native.Mathlib.Nat.{mul-le-mul, mul_comm}
@@ -9,7 +9,7 @@ use lib.Dec.{eqb, leb, leb→le}
 use lib.ListN.{length, take, drop, length-append, length-drop, take-append-drop}
 use lib.Seq.{take-append_seam}
 use lib.Ieee.{Float}
-use borrow.Author.Tests.{eqb-true, le-leb, lt-leb}
+use borrow.Author.Tests.{eqb-true, le-leb}
 use Rattle.numbers.specs.Lists.{all, over}
 use Rattle.numbers.proofs.Bools.{t_of, and_t}
 use Rattle.epsdelta_theory.specs.Jumps.{jumps_of}
@@ -50,15 +50,8 @@ fit us vs ts ws n f =
 
 -- how the checks end
 module _ (us : List ℕ) (vs : List Float) (ts : List ℕ) (ws : List Float) (n : ℕ) where
-  pub many_states : 2000 < n → fits us vs ts ws n ≡ false
-  many_states h = rw (lt-leb n 2000 h)
-
-  module _ (states : n ≤ 2000) where
-    pub left_fails : row_fits us vs ≡ false → fits us vs ts ws n ≡ false
-    left_fails a = ap (λ (b : Bool). b && (row_fits us vs && row_fits ts ws)) (le-leb n 2000 states) ∙ ap (λ (b : Bool). b && row_fits ts ws) a
-
-    pub all_fit : row_fits us vs ≡ true → {b : Bool} → row_fits ts ws ≡ b → fits us vs ts ws n ≡ b
-    all_fit a d = ap (λ (b : Bool). b && (row_fits us vs && row_fits ts ws)) (le-leb n 2000 states) ∙ ap (λ (b : Bool). b && row_fits ts ws) a ∙ d
+  pub all_fit : n ≤ 2000 → row_fits us vs ≡ true → {b : Bool} → row_fits ts ws ≡ b → fits us vs ts ws n ≡ b
+  all_fit states a d = ap (λ (b : Bool). b && (row_fits us vs && row_fits ts ws)) (le-leb n 2000 states) ∙ ap (λ (b : Bool). b && row_fits ts ws) a ∙ d
 
 -- ---- room
 
@@ -162,11 +155,3 @@ module _ (us : List ℕ) (vs : List Float) (ts : List ℕ) (ws : List Float) (n 
         caps_in = omega arith;
         heads_size = omega arith;
       }
-
-  -- where there is room for rows that fit, they did not fit
-  pub unlaid : {d : Bool} {k : ℕ} {h' : List ℕ} {c' : List Float} → Written us vs ts ws n (relation_of store) h c d k h' c' → d ≡ false → Roomy us vs ts ws n h c → fits us vs ts ws n ≡ false
-  unlaid w t r = pick (fits us vs ts ws n) (sym w.0 ∙ t) r
-    where
-      pick : (b : Bool) → (b && rooms us ts h c) ≡ false → (b ≡ true → rooms us ts h c ≡ true) → b ≡ false
-      pick true x y = absurd (false≢true (sym x ∙ y refl))
-      pick false x y = refl

@@ -119,26 +119,6 @@ module _ {all : List Link} {h₀ h : List ℕ} {c₀ c : List Float} {e₀ e : �
       let l = F.small in
       record { heads_room = omega arith; caps_room = omega arith; small = omega arith }
 
--- room for the first of the links, and for the others once these are written
-pub free_first : (xs ys : List Link) {h : List ℕ} {c : List Float} {e : ℕ} → Free h c e (length (xs ++ ys)) → Free h c e (length xs)
-free_first xs ys F =
-    let n = length-append xs ys in
-    let f = F.heads_room in
-    let g = F.caps_room in
-    let l = F.small in
-    record { heads_room = omega arith; caps_room = omega arith; small = omega arith }
-
-pub free_after : (xs ys : List Link) {h h' : List ℕ} {c c' : List Float} {e e' : ℕ} → Added xs h c e h' c' e' → Free h c e (length (xs ++ ys)) → Free h' c' e' (length ys)
-free_after xs ys A F =
-    let n = length-append xs ys in
-    let p = A.count in
-    let a = A.heads_size in
-    let b = A.caps_size in
-    let f = F.heads_room in
-    let g = F.caps_room in
-    let l = F.small in
-    record { heads_room = omega arith; caps_room = omega arith; small = omega arith }
-
 -- ---- the turns of the loops
 
 pub source_next : (s i : ℕ) (ws : List Float) → i < length ws → source_row s i (drop i ws) ≡ (record { from = s; to = i; cap = get_or ws i nan } ∷ []) ++ source_row s (i + 1) (drop (i + 1) ws)
@@ -278,12 +258,12 @@ links_same n store R z us vs ts ws h g = sym (links_are n store us vs ts ws h g)
 
 -- ---- how many links
 
-pub source_size : (s i : ℕ) (ws : List Float) → length (source_row s i ws) ≡ length ws
+source_size : (s i : ℕ) (ws : List Float) → length (source_row s i ws) ≡ length ws
 unfolding source_row
 source_size s i [] = refl
 source_size s i (w ∷ ws) = ap suc (source_size s (suc i) ws)
 
-pub sink_size : (s i : ℕ) (ws : List Float) → length (sink_row s i ws) ≡ length ws
+sink_size : (s i : ℕ) (ws : List Float) → length (sink_row s i ws) ≡ length ws
 unfolding sink_row
 sink_size s i [] = refl
 sink_size s i (w ∷ ws) = ap suc (sink_size s (suc i) ws)

@@ -16,26 +16,14 @@ fn rate_fits(w: f64) -> bool
 fn rates_fit(rates: &[f64]) -> bool
     ensures { result ≡ all rate_fits rates.now }
 {
-    let mut i: usize = 0;
-    while i < rates.len() {
-        if !rate_fits(rates[i]) {
-            return false;
-        }
-        i += 1;
-    }
-    true
+    rates.iter().all(|w| rate_fits(*w))
 }
 
 // At most 31 targets, each with a rate from 0 to 2^40.
 pub fn row_fits(targets: &[u32], rates: &[f64]) -> bool
     ensures { result ≡ row_fits targets.now rates.now }
 {
-    if targets.len() <= 31 {
-        if rates.len() == targets.len() {
-            return rates_fit(rates);
-        }
-    }
-    false
+    targets.len() <= 31 && rates.len() == targets.len() && rates_fit(rates)
 }
 
 // Two rows, and a relation over at most 2,000 states.
@@ -48,10 +36,5 @@ pub fn rows_fit(
 ) -> bool
     ensures { result ≡ fits left_targets.now left_rates.now right_targets.now right_rates.now states }
 {
-    if states <= 2000 {
-        if row_fits(left_targets, left_rates) {
-            return row_fits(right_targets, right_rates);
-        }
-    }
-    false
+    states <= 2000 && row_fits(left_targets, left_rates) && row_fits(right_targets, right_rates)
 }

@@ -31,11 +31,9 @@ fn add_sources(rates: &[f64], source: usize, heads: &mut [u32], caps: &mut [f64]
     ensures { Added (source_row source 0 rates.now) heads.old caps.old 0 heads.new caps.new result }
 {
     let mut e: usize = 0;
-    let mut i: usize = 0;
-    while i < rates.len() {
-        put(heads, caps, e, source, i, rates[i]);
+    for (i, rate) in rates.iter().enumerate() {
+        put(heads, caps, e, source, i, *rate);
         e += 2;
-        i += 1;
     }
     e
 }
@@ -54,11 +52,9 @@ fn add_sinks(
     ensures { Added (sink_row sink first rates.now) heads.old caps.old at heads.new caps.new result }
 {
     let mut e = at;
-    let mut i: usize = 0;
-    while i < rates.len() {
-        put(heads, caps, e, first + i, sink, rates[i]);
+    for (i, rate) in rates.iter().enumerate() {
+        put(heads, caps, e, first + i, sink, *rate);
         e += 2;
-        i += 1;
     }
     e
 }
@@ -100,11 +96,9 @@ fn add_cross(
     ensures { Added (cross_row relation.now base node first targets.now) heads.old caps.old at heads.new caps.new result }
 {
     let mut e = at;
-    let mut j: usize = 0;
-    while j < targets.len() {
-        let v = targets[j] as usize;
+    for (j, target) in targets.iter().enumerate() {
+        let v = *target as usize;
         e = put_if(bit(relation, base + v), heads, caps, e, node, first + j);
-        j += 1;
     }
     e
 }
@@ -124,11 +118,9 @@ fn add_crosses(
     ensures { Added (cross_rows relation.now states 0 (length left.now) left.now right.now) heads.old caps.old at heads.new caps.new result }
 {
     let mut e = at;
-    let mut i: usize = 0;
-    while i < left.len() {
-        let u = left[i] as usize;
-        e = add_cross(right, u * states, i, left.len(), relation, heads, caps, e);
-        i += 1;
+    for (i, target) in left.iter().enumerate() {
+        let base = *target as usize * states;
+        e = add_cross(right, base, i, left.len(), relation, heads, caps, e);
     }
     e
 }
@@ -195,25 +187,25 @@ pub fn write_links(
     ensures heads_after { heads.new ≡ cond result.done (over (FlowTest.heads (links_of states (relation_of relation.now) (jumps_of left_targets.now left_rates.now) (jumps_of right_targets.now right_rates.now))) heads.old) heads.old }
     ensures caps_after { caps.new ≡ cond result.done (over (FlowTest.caps (links_of states (relation_of relation.now) (jumps_of left_targets.now left_rates.now) (jumps_of right_targets.now right_rates.now))) caps.old) caps.old }
 {
-    if fits::rows_fit(left_targets, left_rates, right_targets, right_rates, states) {
-        if has_room(
+    if fits::rows_fit(left_targets, left_rates, right_targets, right_rates, states)
+        && has_room(
             left_targets.len(),
             right_targets.len(),
             heads.len(),
             caps.len(),
-        ) {
-            let places = put_links(
-                left_targets,
-                left_rates,
-                right_targets,
-                right_rates,
-                states,
-                relation,
-                heads,
-                caps,
-            );
-            return Links { done: true, places };
-        }
+        )
+    {
+        let places = put_links(
+            left_targets,
+            left_rates,
+            right_targets,
+            right_rates,
+            states,
+            relation,
+            heads,
+            caps,
+        );
+        return Links { done: true, places };
     }
     Links {
         done: false,

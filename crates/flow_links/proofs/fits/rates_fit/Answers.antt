@@ -1,27 +1,11 @@
-use mathlib.Core.Path.{sym, ap, ◌∙◌}
-use native.Mathlib.Omega.{arith}
-use native.Mathlib.Nat.{le_refl}
-use lib.ListN.{length}
-use lib.Seq.{take-length}
-use lib.Ieee.{nan}
-use Rattle.numbers.specs.Lists.{all}
-use Rattle.numbers.proofs.Alls.{all_stop, all_on, all_end}
+use Rattle.std.proofs.Common.{rules}
+use borrow.Author.Tests.{tests}
+use mathlib.Core.Path.{◌∙◌}
+use Rattle.std.proofs.lemmas.Iterator.{YieldsList-from_slice}
+use Rattle.std.proofs.lemmas.Iterator.Search.{all_from_yields_List}
+use Rattle.numbers.proofs.Loops.{list_all_is}
 use Rattle.flow_links.specs.Fits.{rate_fits}
 use Rattle.flow_links.proofs.fits.rates_fit.Goals as goal
 
-pub loop-i-init : goal.loop-i-init
-loop-i-init c = (omega arith, ap (all rate_fits) (sym (take-length c.args.rates.now)))
-
-pub returns-then-not-rate_fits : goal.returns-then-not-rate_fits
-returns-then-not-rate_fits c = sym (c.loop-i.invariant.1 ∙ all_stop rate_fits c.args.rates.now _ _ nan c.loop-i-test.true (le_refl _) (sym c.rate_fits.ensures ∙ c.if-not-rate_fits.true))
-
-pub loop-i-preserved : goal.loop-i-preserved
-loop-i-preserved c =
-    let h = c.loop-i-test.true in
-    (omega arith, c.loop-i.invariant.1 ∙ all_on rate_fits c.args.rates.now _ _ nan h (le_refl _) (sym c.rate_fits.ensures ∙ c.if-not-rate_fits.false))
-
 pub returns : goal.returns
-returns c =
-    let h = c.loop-i-test.false in
-    let l = c.loop-i.invariant.0 in
-    sym (c.loop-i.invariant.1 ∙ all_end rate_fits c.args.rates.now (length c.args.rates.now) c.loop-i.i (omega arith))
+returns c = all_from_yields_List rate_fits _ _ _ c.all.ensures.ran (YieldsList-from_slice c.args.rates.now cc) (λ x b q k. search (rules, tests)) ∙ list_all_is _ _

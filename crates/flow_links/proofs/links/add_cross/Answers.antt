@@ -13,9 +13,6 @@ use Rattle.flow_links.proofs.links.add_cross.Goals as goal
 pub loop-j-init : goal.loop-j-init
 loop-j-init c = adding_start c.args.heads.now c.args.caps.now c.args.at (ap (λ (k : ℕ). cross_row c.args.relation.now c.args.base c.args.node k c.args.targets.now) (add-zero c.args.first))
 
-pub overflow_add-base : goal.overflow_add-base
-overflow_add-base c = let p = c.requires.base_bound in record { fits = omega (arith, c.type_inv.targets c.loop-j.j) }
-
 pub put_if-e-requires : goal.put_if-e-requires
 put_if-e-requires c =
     let turn : cross_row c.args.relation.now c.args.base c.args.node (c.args.first + c.loop-j.j) (drop c.loop-j.j c.args.targets.now) ≡ link_if c.bit.result c.args.node (c.args.first + c.loop-j.j) [] ++ cross_row c.args.relation.now c.args.base c.args.node (c.args.first + (c.loop-j.j + 1)) (drop (c.loop-j.j + 1) c.args.targets.now) = cross_next c.args.relation.now c.args.base c.args.node c.args.first c.loop-j.j c.args.targets.now c.loop-j-test.true ∙ ap (λ (b : Bool). link_if b c.args.node (c.args.first + c.loop-j.j) [] ++ cross_row c.args.relation.now c.args.base c.args.node (c.args.first + (c.loop-j.j + 1)) (drop (c.loop-j.j + 1) c.args.targets.now)) (sym c.bit.ensures) in
@@ -27,12 +24,6 @@ pub loop-j-preserved : goal.loop-j-preserved
 loop-j-preserved c =
     let turn : cross_row c.args.relation.now c.args.base c.args.node (c.args.first + c.loop-j.j) (drop c.loop-j.j c.args.targets.now) ≡ link_if c.bit.result c.args.node (c.args.first + c.loop-j.j) [] ++ cross_row c.args.relation.now c.args.base c.args.node (c.args.first + (c.loop-j.j + 1)) (drop (c.loop-j.j + 1) c.args.targets.now) = cross_next c.args.relation.now c.args.base c.args.node c.args.first c.loop-j.j c.args.targets.now c.loop-j-test.true ∙ ap (λ (b : Bool). link_if b c.args.node (c.args.first + c.loop-j.j) [] ++ cross_row c.args.relation.now c.args.base c.args.node (c.args.first + (c.loop-j.j + 1)) (drop (c.loop-j.j + 1) c.args.targets.now)) (sym c.bit.ensures) in
     adding_on (link_if c.bit.result c.args.node (c.args.first + c.loop-j.j) []) (cross_row c.args.relation.now c.args.base c.args.node (c.args.first + (c.loop-j.j + 1)) (drop (c.loop-j.j + 1) c.args.targets.now)) turn c.loop-j.invariant c.put_if-e.ensures
-
-pub shape_of-heads : goal.shape_of-heads
-shape_of-heads c = c.loop-j.invariant.added.heads_size
-
-pub shape_of-caps : goal.shape_of-caps
-shape_of-caps c = c.loop-j.invariant.added.caps_size
 
 pub returns : goal.returns
 returns c = adding_end (cross_end c.args.relation.now c.args.base c.args.node (c.args.first + c.loop-j.j) c.loop-j.j c.args.targets.now c.loop-j-test.false) c.loop-j.invariant

@@ -10,11 +10,6 @@ use Rattle.flow_links.proofs.links.add_crosses.Goals as goal
 pub loop-i-init : goal.loop-i-init
 loop-i-init c = adding_start c.args.heads.now c.args.caps.now c.args.at refl
 
-pub overflow_mul-u : goal.overflow_mul-u
-overflow_mul-u c =
-    let base : get_or c.args.left.now c.loop-i.i 0 * c.args.states ≤ 8589934590000 = base_low (get_or c.args.left.now c.loop-i.i 0) c.args.states (omega (arith, c.type_inv.left c.loop-i.i)) c.requires.right_len_bound.1 in
-    let l = base in record { fits = omega arith }
-
 pub add_cross-e-requires : goal.add_cross-e-requires
 add_cross-e-requires c =
     let base : get_or c.args.left.now c.loop-i.i 0 * c.args.states ≤ 8589934590000 = base_low (get_or c.args.left.now c.loop-i.i 0) c.args.states (omega (arith, c.type_inv.left c.loop-i.i)) c.requires.right_len_bound.1 in
@@ -24,12 +19,6 @@ add_cross-e-requires c =
 
 pub loop-i-preserved : goal.loop-i-preserved
 loop-i-preserved c = adding_on (cross_row c.args.relation.now (get_or c.args.left.now c.loop-i.i 0 * c.args.states) c.loop-i.i (length c.args.left.now) c.args.right.now) (cross_rows c.args.relation.now c.args.states (c.loop-i.i + 1) (length c.args.left.now) (drop (c.loop-i.i + 1) c.args.left.now) c.args.right.now) (crosses_next c.args.relation.now c.args.states (length c.args.left.now) c.loop-i.i c.args.left.now c.args.right.now c.loop-i-test.true) c.loop-i.invariant c.add_cross-e.ensures
-
-pub shape_of-heads : goal.shape_of-heads
-shape_of-heads c = c.loop-i.invariant.added.heads_size
-
-pub shape_of-caps : goal.shape_of-caps
-shape_of-caps c = c.loop-i.invariant.added.caps_size
 
 pub returns : goal.returns
 returns c = adding_end (crosses_end c.args.relation.now c.args.states (length c.args.left.now) c.loop-i.i c.args.left.now c.args.right.now c.loop-i-test.false) c.loop-i.invariant

@@ -18,19 +18,8 @@ put-requires c =
     let p = c.requires.rates_len_bound in
     record { free = next; from_bound = (omega arith, omega arith) }
 
-pub overflow_add-e : goal.overflow_add-e
-overflow_add-e c =
-    let next : Free c.loop-i.heads c.loop-i.caps c.loop-i.e 1 = free_next (record { from = c.args.source; to = c.loop-i.i; cap = get_or c.args.rates.now c.loop-i.i nan } ∷ []) (source_row c.args.source (c.loop-i.i + 1) (drop (c.loop-i.i + 1) c.args.rates.now)) (source_next c.args.source c.loop-i.i c.args.rates.now c.loop-i-test.true) c.requires.free c.loop-i.invariant in
-    let l = next.small in record { fits = omega arith }
-
 pub loop-i-preserved : goal.loop-i-preserved
 loop-i-preserved c = adding_on (record { from = c.args.source; to = c.loop-i.i; cap = get_or c.args.rates.now c.loop-i.i nan } ∷ []) (source_row c.args.source (c.loop-i.i + 1) (drop (c.loop-i.i + 1) c.args.rates.now)) (source_next c.args.source c.loop-i.i c.args.rates.now c.loop-i-test.true) c.loop-i.invariant c.put.ensures
-
-pub shape_of-heads : goal.shape_of-heads
-shape_of-heads c = c.loop-i.invariant.added.heads_size
-
-pub shape_of-caps : goal.shape_of-caps
-shape_of-caps c = c.loop-i.invariant.added.caps_size
 
 pub returns : goal.returns
 returns c = adding_end (source_end c.args.source c.loop-i.i c.loop-i.i c.args.rates.now c.loop-i-test.false) c.loop-i.invariant

@@ -9,9 +9,6 @@ put-requires c =
     let b = c.requires.from_bound.1 in
     record { free = if_free c.args.related c.args.from c.args.to c.if-related.true c.requires.free; from_bound = (omega arith, omega arith) }
 
-pub overflow_add-result : goal.overflow_add-result
-overflow_add-result c = let l = (if_free c.args.related c.args.from c.args.to c.if-related.true c.requires.free).small in record { fits = omega arith }
-
 pub returns-then-related : goal.returns-then-related
 returns-then-related c = if_put c.args.related c.if-related.true c.infinity.ensures c.put.ensures
 
