@@ -1,13 +1,13 @@
 -- The steps of the code that stands on the checks: where a model ends, and the columns that are filled.
 use mathlib.Core.Path.{◌≡◌, refl, sym, ap, ◌∙◌}
 use mathlib.Core.Bool.{true, false}
-use mathlib.Core.List.{List, ◌∷◌, map}
+use mathlib.Core.List.{List, [], ◌∷◌, map}
 use Prim.Native.Nat.{ℕ, zero, suc, ◌+◌, ◌*◌, ◌-◌, ◌≤◌, ◌<◌}
 use native.Mathlib.Omega.{arith}
 use native.Mathlib.Numerals.{add-one}
 use lib.Dec.{leb}
 use lib.Ieee.{Float}
-use lib.ListN.{length, drop, set, length-drop, length-set, length-append}
+use lib.ListN.{length, drop, set, length-drop, length-append}
 use lib.Seq.{drop-drop, sets, length-sets}
 use borrow.Author.Tests.{lt-ltb, le-ltb, leb-true}
 use Rattle.numbers.proofs.Bools.{and_t}
@@ -77,31 +77,24 @@ module _ (s : List ℕ) (m l : ℕ) (em : m ≡ 0 + side_size s) (el : l ≡ m +
 
 -- ---- the columns, one entry at a time
 
-pub classes_on : (s l : List ℕ) (p i n a : ℕ) → a ≡ value (drop p s) → 0 < n
-    → sets (set l i a) (i + 1) (classes_in (n - 1) (drop (p + 7) s)) ≡ sets l i (classes_in n (drop p s))
-unfolding classes_in
-classes_on s l p i n a d h =
-    let e : n ≡ suc (n - 1) = omega arith in
-    let q : classes_in n (drop p s) ≡ value (drop p s) ∷ classes_in (n - 1) (drop (p + 7) s) =
-    ap (λ (x : ℕ). classes_in x (drop p s)) e ∙ ap (λ (x : List ℕ). value (drop p s) ∷ classes_in (n - 1) x) (drop-drop 7 p s) in
-    rw (q, d, add-one)
+-- n lines of w bytes at `at` are read by `taken` and stored from `from` on: l has the first i of them, and those still to come make it what it has to be
+abbrev pub Stored : {A : Type 0} → ℕ → (ℕ → List ℕ → List A) → List ℕ → ℕ → ℕ → ℕ → List A → List A → ℕ → Type 0
+Stored w taken s at n from l₀ l i = sets l (from + i) (taken (n - i) (drop (at + w * i) s)) ≡ sets l₀ from (taken n (drop at s))
 
-pub transitions_on : {A : Type 0} (f : Transition → A) (s : List ℕ) (l : List A) (p i n : ℕ) (a : A) → a ≡ f (transition_in (drop p s)) → 0 < n
-    → sets (set l i a) (i + 1) (map f (transitions_in (n - 1) (drop (p + 25) s))) ≡ sets l i (map f (transitions_in n (drop p s)))
-unfolding transitions_in
-transitions_on {A} f s l p i n a d h =
-    let e : n ≡ suc (n - 1) = omega arith in
-    let q : map f (transitions_in n (drop p s)) ≡ f (transition_in (drop p s)) ∷ map f (transitions_in (n - 1) (drop (p + 25) s)) =
-    ap (λ (x : ℕ). map f (transitions_in x (drop p s))) e ∙ ap (λ (x : List ℕ). f (transition_in (drop p s)) ∷ map f (transitions_in (n - 1) x)) (drop-drop 25 p s) in
-    rw (q, d, add-one)
+module _ {A : Type 0} (w : ℕ) (taken : ℕ → List ℕ → List A) (one : List ℕ → A) (none : (bs : List ℕ) → taken 0 bs ≡ []) (more : (n : ℕ) (bs : List ℕ) → taken (suc n) bs ≡ one bs ∷ taken n (drop w bs))
+    (s : List ℕ) (at n from : ℕ) where
+  pub stored_next : (l₀ l : List A) (i : ℕ) (a : A) → a ≡ one (drop (at + w * i) s) → i < n → Stored w taken s at n from l₀ l i → Stored w taken s at n from l₀ (set l (from + i) a) (i + 1)
+  stored_next l₀ l i a e h v =
+      let k : n - i ≡ suc (n - (i + 1)) = omega arith in
+      let p : at + w * i + w ≡ at + w * (i + 1) = omega (arith, add-one i) in
+      let q : taken (n - i) (drop (at + w * i) s) ≡ a ∷ taken (n - (i + 1)) (drop (at + w * (i + 1)) s) =
+      ap (λ (x : ℕ). taken x (drop (at + w * i) s)) k ∙ more (n - (i + 1)) (drop (at + w * i) s) ∙ ap (λ (x : A). x ∷ taken (n - (i + 1)) (drop w (drop (at + w * i) s))) (sym e)
+      ∙ ap (λ (x : List ℕ). a ∷ taken (n - (i + 1)) x) (drop-drop w (at + w * i) s ∙ ap (λ (x : ℕ). drop x s) p) in
+      let f : from + (i + 1) ≡ suc (from + i) = omega arith in
+      rw f (sym (ap (sets l (from + i)) q)) ∙ v
 
-pub classes_end : (s l : List ℕ) (p i n : ℕ) → n ≡ 0 → l ≡ sets l i (classes_in n (drop p s))
-unfolding classes_in
-classes_end s l p i n h = rw h
-
-pub transitions_end : {A : Type 0} (f : Transition → A) (s : List ℕ) (l : List A) (p i n : ℕ) → n ≡ 0 → l ≡ sets l i (map f (transitions_in n (drop p s)))
-unfolding transitions_in
-transitions_end f s l p i n h = rw h
+  pub stored_last : (l₀ l : List A) (i : ℕ) → n ≤ i → Stored w taken s at n from l₀ l i → l ≡ sets l₀ from (taken n (drop at s))
+  stored_last l₀ l i h v = let e : n - i ≡ 0 = omega arith in sym (ap (λ (x : ℕ). sets l (from + i) (taken x (drop (at + w * i) s))) e ∙ ap (sets l (from + i)) (none (drop (at + w * i) s))) ∙ v
 
 -- what stands at the other columns of a transition's line
 pub at_label : (s : List ℕ) (p : ℕ) → value (drop (p + 6) s) ≡ (transition_in (drop p s)).label
@@ -113,28 +106,34 @@ at_target s p = ap value (sym (drop-drop 12 p s))
 pub at_weight : (s : List ℕ) (p : ℕ) → value (drop (p + 18) s) ≡ (transition_in (drop p s)).weight
 at_weight s p = ap value (sym (drop-drop 18 p s))
 
--- one column of the transitions, filled up to line i: what is still to come makes it what it has to be
-module _ {A : Type 0} (f : Transition → A) (s : List ℕ) (at n from : ℕ) (l₀ : List A) where
-  pub record Col (l : List A) (p i rest : ℕ) : Type 0 where
-    pub space : i + rest ≤ length l
-    pub sized : length l ≡ length l₀
-    pub same : sets l i (map f (transitions_in rest (drop p s))) ≡ sets l₀ from (map f (transitions_in n (drop at s)))
+module _ (s : List ℕ) (at n from : ℕ) (l₀ l : List ℕ) (i : ℕ) where
+  -- the classes
+  abbrev pub Classes : Type 0
+  Classes = Stored 7 classes_in s at n from l₀ l i
 
-  pub col_starts : from + n ≤ length l₀ → Col l₀ at from n
-  col_starts h = record { space = h; sized = refl; same = refl }
+  pub classes_next : (a : ℕ) → a ≡ value (drop (at + 7 * i) s) → i < n → Classes → Stored 7 classes_in s at n from l₀ (set l (from + i) a) (i + 1)
+  unfolding classes_in
+  classes_next = stored_next 7 classes_in value (λ bs. refl) (λ m bs. refl) s at n from l₀ l i
 
-  pub col_on : {l : List A} {p i rest : ℕ} (a : A) → a ≡ f (transition_in (drop p s)) → 0 < rest → Col l p i rest → Col (set l i a) (p + 25) (i + 1) (rest - 1)
-  col_on {l} {p} {i} {rest} a e h k =
-      let b = k.space in
-      let d = k.sized in
-      record {
-        space = simp length-set (omega arith);
-        sized = simp length-set (omega arith);
-        same = transitions_on f s l p i rest a e h ∙ k.same;
-      }
+  pub classes_last : n ≤ i → Classes → l ≡ sets l₀ from (classes_in n (drop at s))
+  unfolding classes_in
+  classes_last = stored_last 7 classes_in value (λ bs. refl) (λ m bs. refl) s at n from l₀ l i
 
-  pub col_ends : {l : List A} {p i rest : ℕ} → rest ≡ 0 → Col l p i rest → l ≡ sets l₀ from (map f (transitions_in n (drop at s)))
-  col_ends {l} {p} {i} {rest} h k = transitions_end f s l p i rest h ∙ k.same
+-- a column of the transitions
+abbrev pub column_in : {A : Type 0} → (Transition → A) → ℕ → List ℕ → List A
+column_in f n bs = map f (transitions_in n bs)
+
+module _ {A : Type 0} (f : Transition → A) (s : List ℕ) (at n from : ℕ) where
+  abbrev pub Col : List A → List A → ℕ → Type 0
+  Col = Stored 25 (column_in f) s at n from
+
+  pub col_next : (l₀ l : List A) (i : ℕ) (a : A) → a ≡ f (transition_in (drop (at + 25 * i) s)) → i < n → Col l₀ l i → Col l₀ (set l (from + i) a) (i + 1)
+  unfolding transitions_in
+  col_next = stored_next 25 (column_in f) (λ bs. f (transition_in bs)) (λ bs. refl) (λ m bs. refl) s at n from
+
+  pub col_last : (l₀ l : List A) (i : ℕ) → n ≤ i → Col l₀ l i → l ≡ sets l₀ from (column_in f n (drop at s))
+  unfolding transitions_in
+  col_last = stored_last 25 (column_in f) (λ bs. f (transition_in bs)) (λ bs. refl) (λ m bs. refl) s at n from
 
 -- ---- the counts and the initial state of a model
 

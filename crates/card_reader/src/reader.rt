@@ -53,7 +53,7 @@ fn side_fault(s: &[u8], at: usize) -> u32
     if !laid(s, at + 19, states, 1) {
         return 1;
     }
-    if !laid(s, at + 19 + 7 * (states as usize), transitions, 4) {
+    if !laid(s, at + 19 + 7 * states as usize, transitions, 4) {
         return 1;
     }
     0
@@ -97,14 +97,8 @@ fn fill_classes(s: &[u8], at: usize, n: u32, classes: &mut [u32], from: usize)
     requires { (at + 7 * n ≤ length s.now) × (from + n ≤ length classes.old) }
     ensures { classes.new ≡ sets classes.old from (Card.classes_in n (drop at s.now)) }
 {
-    let mut p = at;
-    let mut i = from;
-    let mut rest = n;
-    while 0 < rest {
-        classes[i] = number(s, p);
-        p += 7;
-        i += 1;
-        rest -= 1;
+    for i in 0..n as usize {
+        classes[from + i] = number(s, at + 7 * i);
     }
 }
 
@@ -122,17 +116,12 @@ fn fill_transitions(
     requires { (at + 25 * n ≤ length s.now) × TransitionsRoom n from sources.old labels.old targets.old weights.old }
     ensures { TransitionsStored (Card.transitions_in n (drop at s.now)) from sources.old labels.old targets.old weights.old sources.new labels.new targets.new weights.new }
 {
-    let mut p = at;
-    let mut i = from;
-    let mut rest = n;
-    while 0 < rest {
-        sources[i] = number(s, p);
-        labels[i] = number(s, p + 6);
-        targets[i] = number(s, p + 12);
-        weights[i] = number(s, p + 18) as f64;
-        p += 25;
-        i += 1;
-        rest -= 1;
+    for i in 0..n as usize {
+        let line = at + 25 * i;
+        sources[from + i] = number(s, line);
+        labels[from + i] = number(s, line + 6);
+        targets[from + i] = number(s, line + 12);
+        weights[from + i] = number(s, line + 18) as f64;
     }
 }
 
@@ -160,19 +149,7 @@ fn enough(
 ) -> bool
     ensures { result ≡ Filling.enough n m classes sources labels targets weights }
 {
-    if classes < n {
-        return false;
-    }
-    if sources < m {
-        return false;
-    }
-    if labels < m {
-        return false;
-    }
-    if targets < m {
-        return false;
-    }
-    m <= weights
+    n <= classes && m <= sources && m <= labels && m <= targets && m <= weights
 }
 
 // The model at `at`, which has no fault, stored in the columns from `from` and `first` on.
@@ -193,7 +170,7 @@ fn fill_side(
     let states = number(s, at);
     let transitions = number(s, at + 12);
     fill_classes(s, at + 19, states, classes, from);
-    let lines = at + 19 + 7 * (states as usize);
+    let lines = at + 19 + 7 * states as usize;
     fill_transitions(
         s,
         lines,

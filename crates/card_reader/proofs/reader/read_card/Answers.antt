@@ -16,13 +16,6 @@ returns-then-not-enough c =
     short_answered b.s.now (columns b.classes.now b.sources.now b.labels.now b.targets.now b.weights.now) (sym c.fault-found.ensures ∙ c.if-found-ne0.false)
     (sym (c.enough.ensures ∙ counts_together (card_in b.s.now) _ _ _ _ _ _ c.heads_of-heads.ensures) ∙ c.if-not-enough.true)
 
-pub fill_card-requires : goal.fill_card-requires
-fill_card-requires c =
-    let b = c.args in (
-      sym c.fault-found.ensures ∙ c.if-found-ne0.false,
-      sym (c.enough.ensures ∙ counts_together (card_in b.s.now) _ _ _ _ _ _ c.heads_of-heads.ensures) ∙ c.if-not-enough.false,
-    )
-
 pub returns : goal.returns
 returns c =
     let b = c.args in
