@@ -6,7 +6,6 @@ ghost use Rattle.numbers.specs.Lists.{all};
 ghost use Rattle.chain_theory.specs.Check;
 
 use bisim_core::ids::StateId;
-use numbers::lesser;
 
 // A chain: its counts and initial state. Its columns are lent beside it.
 #[derive(Clone, Copy)]
@@ -27,13 +26,6 @@ pub fn within(least: f64, greatest: f64, x: f64) -> bool
 pub fn all_within(least: f64, greatest: f64, list: &[f64], n: usize) -> bool
     ensures { result ≡ all (Check.within least greatest) (take n list.now) }
 {
-    let end = lesser(n, list.len());
-    let mut i = 0;
-    while i < end {
-        if !within(least, greatest, list[i]) {
-            return false;
-        }
-        i += 1;
-    }
-    true
+    let end = n.min(list.len());
+    list[..end].iter().all(|x| within(least, greatest, *x))
 }
