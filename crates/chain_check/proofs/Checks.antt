@@ -1,19 +1,20 @@
 -- The checks of a row and of all rows, as the code makes them.
 use mathlib.Core.Path.{◌≡◌, refl, sym, ap, ◌∙◌}
-use mathlib.Core.Bool.{Bool, true, false, not, ◌&&◌, ◌||◌}
+use mathlib.Core.Bool.{Bool, true, false, not, ◌&&◌}
 use mathlib.Core.Logic.{◌⊎◌, inl, inr}
-use Prim.Native.Nat.{ℕ, suc, ◌+◌, ◌-◌, ◌≤◌, ◌<◌}
+use Rattle.std.specs.List.{list_all, range_with_len}
+use Prim.Native.Nat.{ℕ, zero, suc, ◌+◌, ◌-◌, ◌≤◌, ◌<◌}
 use mathlib.Core.List.{List, map}
 use native.Mathlib.Omega.{arith}
 use native.Mathlib.Numerals.{add-one}
 use lib.Dec.{ltb, leb}
 use lib.Ieee.{Float}
-use lib.ListN.{length, get_or, take, drop}
+use lib.ListN.{length, get_or, take, drop, length-take, drop_of_length-le}
 use lib.Seq.{slice}
-use borrow.Author.Tests.{lt-ltb, le-ltb, ltb-false, ne_eqb}
+use borrow.Author.Tests.{lt-ltb, le-ltb, ne_eqb}
 use Rattle.numbers.specs.Refuse.{check}
 use Rattle.numbers.specs.Lists.{span, all}
-use Rattle.numbers.proofs.Bools.{and_first, or_f, lt_or_ge}
+use Rattle.numbers.proofs.Bools.{lt_or_ge}
 use Rattle.numbers.proofs.Refuses.{check_hit, check_skip, hit, skip}
 use Rattle.numbers.proofs.Parts.{drop_take}
 use Rattle.epsdelta_theory.specs.Jumps.{Jump, jumps_of}
@@ -22,9 +23,6 @@ use Rattle.chain_theory.specs.Columns.{ChainColumns, chain_columns, entries, cha
 use Rattle.chain_theory.specs.Check.{within, ascends, probable, whole, proper, misshapen, improper, chain_refusal}
 use Rattle.chain_theory.specs.declared.ChainShape.{ChainShape}
 use Rattle.chain_theory.proofs.Shaped.{Rows, shaped}
-
-pub fails : (a b : Bool) → a ≡ false → false ≡ (a && b)
-fails a b e = sym e ∙ and_first a b e
 
 -- ---- a row, by its columns
 
@@ -37,59 +35,35 @@ proper_is T P e = rw (jumps_length T P e, jumps_targets T P e, jumps_rates T P e
 pub part_is : {A : Type 0} (a b : ℕ) (l : List A) → a ≤ b → take (b - a) (drop a l) ≡ slice a b l
 part_is a b l h = let e : a + (b - a) ≡ b = omega arith in sym (drop_take a (b - a) l) ∙ ap (λ (n : ℕ). drop a (take n l)) e
 
-pub entries_are : (O T : List ℕ) (P seen : List Float) (s a b : ℕ) → a ≡ get_or O s 0 → b ≡ get_or O (s + 1) 0 → a ≤ b
-    → jumps_of (take (b - a) (drop a T)) (take (b - a) (drop a P)) ≡ entries (chain_columns O T P seen) s
-entries_are O T P seen s a b p q h =
-    ap (λ (l : List ℕ). jumps_of l (take (b - a) (drop a P))) (part_is a b T h) ∙ ap (jumps_of (slice a b T)) (part_is a b P h) ∙ rw (p, q)
+part_any : {A : Type 0} (a b : ℕ) (l : List A) → take (b - a) (drop a l) ≡ slice a b l
+part_any {A} a b l = pick (lt_or_ge b a)
+  where
+    pick : (b < a) ⊎ (a ≤ b) → take (b - a) (drop a l) ≡ slice a b l
+    pick (inl h) = let z : b - a ≡ 0 = omega arith in let t = length-take (b) l in rw z (sym (drop_of_length-le (take b l) (omega arith)))
+    pick (inr h) = part_is a b l h
 
-pub inside : {n : ℕ} {O T : List ℕ} {P : List Float} → Rows n O T P → (s : ℕ) → s < n → (a b : ℕ) → a ≡ get_or O s 0 → b ≡ get_or O (s + 1) 0 → (a ≤ b) × (b ≤ length T) × (b ≤ length P)
-inside {n} {O} {T} {P} R s h a b p q =
+pub entries_are : (O T : List ℕ) (P seen : List Float) (s : ℕ)
+    → jumps_of (take (get_or O (s + 1) 0 - get_or O s 0) (drop (get_or O s 0) T)) (take (get_or O (s + 1) 0 - get_or O s 0) (drop (get_or O s 0) P)) ≡ entries (chain_columns O T P seen) s
+entries_are O T P seen s =
+    let a = get_or O s 0 in
+    let b = get_or O (s + 1) 0 in
+    ap (λ (l : List ℕ). jumps_of l (take (b - a) (drop a P))) (part_any a b T) ∙ ap (jumps_of (slice a b T)) (part_any a b P)
+
+pub inside : {n : ℕ} {O T : List ℕ} {P : List Float} → Rows n O T P → (s : ℕ) → s < n → (get_or O s 0 ≤ get_or O (s + 1) 0) × (get_or O (s + 1) 0 ≤ length T) × (get_or O (s + 1) 0 ≤ length P)
+inside {n} {O} {T} {P} R s h =
     let r = R.rise s h in
     let u = starts_up O n R.rise (s + 1) n (omega arith) (omega arith) in
     let x = R.targets_long in
     let y = R.probabilities_long in
     (omega arith, omega arith, omega arith)
 
--- ---- the rows still to come, from s up to n
+-- ---- all rows, one number after the other
 
-module _ (f : ℕ → List Jump) where
-  abbrev pub Left : ℕ → ℕ → Bool
-  Left s n = all proper (map f (span s (n - s)))
-
-  left_next : (s n : ℕ) → s < n → Left s n ≡ (proper (f s) && Left (s + 1) n)
-  unfolding span all
-  left_next s n h =
-      let e : n - s ≡ suc (n - (s + 1)) = omega arith in
-      ap (λ (k : ℕ). all proper (map f (span s k))) e ∙ ap (λ (k : ℕ). proper (f s) && all proper (map f (span k (n - (s + 1))))) (sym (add-one s))
-
-  pub left_stop : (s n : ℕ) → s < n → proper (f s) ≡ false → Left s n ≡ false
-  left_stop s n h e = left_next s n h ∙ ap (λ (b : Bool). b && Left (s + 1) n) e
-
-  pub left_on : (s n : ℕ) → s < n → proper (f s) ≡ true → Left s n ≡ Left (s + 1) n
-  left_on s n h e = left_next s n h ∙ ap (λ (b : Bool). b && Left (s + 1) n) e
-
-  pub left_end : (s n : ℕ) → s ≡ n → Left s n ≡ true
-  unfolding span all
-  left_end s n e = let z : n - s ≡ 0 = omega arith in ap (λ (k : ℕ). all proper (map f (span s k))) z
-
--- ---- the tests as facts
-
-pub none_there : (n : ℕ) → n ≡ 0 → ltb 0 n ≡ false
-none_there n e = le-ltb 0 n (omega arith)
-
-pub some_there : (n : ℕ) → (n ≡ 0 → ⊥) → ltb 0 n ≡ true
-some_there n e = pick (lt_or_ge 0 n)
-  where
-    pick : (0 < n) ⊎ (n ≤ 0) → ltb 0 n ≡ true
-    pick (inl h) = lt-ltb 0 n h
-    pick (inr h) = absurd (e (omega arith))
-
-pub not_thin : (o t p n e : ℕ) (b : Bool) → b ≡ (ltb o (n + 1) || (ltb t e || ltb p e)) → b ≡ false → (n < o) × (e ≤ t) × (e ≤ p)
-not_thin o t p n e b f g =
-    let (x, y) = or_f (ltb o (n + 1)) (ltb t e || ltb p e) (sym f ∙ g) in
-    let (z, w) = or_f (ltb t e) (ltb p e) y in
-    let h : n + 1 ≤ o = ltb-false o (n + 1) x in
-    (omega arith, ltb-false t e z, ltb-false p e w)
+pub rows_all : (t : ℕ → Bool) (f : ℕ → List Jump) → ((s : ℕ) → t s ≡ proper (f s)) → (a n : ℕ) → list_all t (range_with_len a n) ≡ all proper (map f (span a n))
+unfolding span all
+rows_all t f e a zero = refl
+rows_all t f e a (suc n) =
+    ap (λ (b : Bool). b && list_all t (range_with_len (a + 1) n)) (e a) ∙ ap (λ (b : Bool). proper (f a) && b) (ap (λ (k : ℕ). list_all t (range_with_len k n)) (add-one a) ∙ rows_all t f e (suc a) n)
 
 -- ---- the first check that fails
 

@@ -28,10 +28,7 @@ pub fn chain_refusal(
     if !all_within(least, greatest, observations, chain.states) {
         return 12;
     }
-    if chain.states > 2000 {
-        return 13;
-    }
-    if !all_proper(chain.states, offsets, targets, probs) {
+    if chain.states > 2000 || !all_proper(chain.states, offsets, targets, probs) {
         return 13;
     }
     0
