@@ -22,9 +22,6 @@ use Rattle.card_report.specs.Report.{keep, across, down, pairs, report, refusal_
 
 -- ---- a pair of the relation
 
-pub small_product : (s t : ℕ) → s ≤ 32 → t ≤ 64 → s * t ≤ 2048
-small_product s t h g = mul-le-mul h g
-
 pub square_low : (t : ℕ) → t ≤ 64 → t * t ≤ 4096
 square_low t h = mul-le-mul h h
 
@@ -42,9 +39,6 @@ pub record Putting (todo : List (List ℕ)) (all : List (List ℕ)) (out₀ : Li
   pub sized : length out ≡ length out₀
   pub place : p + 13 * length todo ≡ at + 13 * length all
   pub same : sets out p (lines todo) ≡ sets out₀ at (lines all)
-
-pub putting_starts : (all : List (List ℕ)) (out : List ℕ) (at : ℕ) → Putting all all out at out at
-putting_starts all out at = record { sized = refl; place = refl; same = refl }
 
 length_pair : (s t : ℕ) → length (line (s ∷ t ∷ [])) ≡ 13
 length_pair s t = length_line (s ∷ t ∷ [])
@@ -102,11 +96,6 @@ module _ (R : List Bool) (l r s t : ℕ) (h : t < r) where
 
   pub across_miss : related (l + r) l R s t ≡ false → across R l r s (r - t) t ≡ across R l r s (r - (t + 1)) (t + 1)
   across_miss e = across_step ∙ ap (λ (b : Bool). keep b (s ∷ t ∷ []) (across R l r s (r - (t + 1)) (t + 1))) e
-
-pub across_all : (R : List Bool) (l r s t : ℕ) → t ≡ 0 → across R l r s r 0 ≡ across R l r s (r - t) t
-across_all R l r s t e =
-    let a : r ≡ r - t = omega arith in
-    ap (λ (n : ℕ). across R l r s n 0) a ∙ ap (across R l r s (r - t)) (sym e)
 
 pub across_none : (R : List Bool) (l r s t : ℕ) → r ≤ t → across R l r s (r - t) t ≡ []
 unfolding across

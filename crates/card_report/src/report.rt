@@ -31,14 +31,11 @@ fn put_across(relation: &[u8], l: u32, r: u32, s: u32, out: &mut [u8], at: usize
     ensures { PairsPut (Report.across (relation_in relation.now (l + r)) l r s r 0) at (13 * r) out.old result out.new }
 {
     let mut p = at;
-    let mut t = 0;
-    while t < r {
+    for t in 0..r {
         if related(relation, l as usize, r as usize, s as usize, t as usize) {
-            let row = [s, t];
-            put_line(out, p, &row);
+            put_line(out, p, &[s, t]);
             p += 13;
         }
-        t += 1;
     }
     p
 }
@@ -49,10 +46,8 @@ fn put_pairs(relation: &[u8], l: u32, r: u32, out: &mut [u8], at: usize) -> usiz
     ensures { PairsPut (Report.pairs (relation_in relation.now (l + r)) l r) at (416 * l) out.old result out.new }
 {
     let mut p = at;
-    let mut s = 0;
-    while s < l {
+    for s in 0..l {
         p = put_across(relation, l, r, s, out, p);
-        s += 1;
     }
     p
 }
@@ -75,8 +70,7 @@ pub fn report_text(left: u32, right: u32, relation: &[u8], out: &mut [u8]) -> Te
         return Text::Refused(7);
     }
     let end = put_pairs(relation, left, right, out, 19);
-    let row = [left, right, ((end - 19) / 13) as u32];
-    put_line(out, 0, &row);
+    put_line(out, 0, &[left, right, ((end - 19) / 13) as u32]);
     Text::Written(end)
 }
 
@@ -87,7 +81,6 @@ pub fn refusal_text(number: u32, out: &mut [u8]) -> Text
     if out.len() < MOST_REPORT {
         return Text::Refused(7);
     }
-    let row = [number];
-    put_line(out, 0, &row);
+    put_line(out, 0, &[number]);
     Text::Written(7)
 }

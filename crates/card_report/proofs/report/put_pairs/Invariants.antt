@@ -6,7 +6,4 @@ use Rattle.card_report.proofs.report.put_pairs.Given as goal
 
 abbrev pub invariant-loop-s : goal.invariant-loop-s
 invariant-loop-s l =
-    (l.s ≤ l.l) × (l.p ≤ l.at + 416 * l.s) × Putting (down (relation_in l.relation (l.l + l.r)) l.l l.r (l.l - l.s) l.s) (pairs (relation_in l.relation (l.l + l.r)) l.l l.r) l.initial.out l.at l.out l.p
-
-abbrev pub decreases-loop-s : goal.decreases-loop-s
-decreases-loop-s l = l.l - l.s
+    (l.p ≤ l.at + 416 * l.s) × Putting (down (relation_in l.relation (l.l + l.r)) l.l l.r (l.l - l.s) l.s) (pairs (relation_in l.relation (l.l + l.r)) l.l l.r) l.initial.out l.at l.out l.p

@@ -1,7 +1,6 @@
 -- `report::report_text` meets its contract.
-use Prim.Native.Nat.{◌+◌}
 use native.Mathlib.Omega.{arith}
-use Rattle.card_report.proofs.Texts.{square_low, left_over, right_over, relation_short, store_short, reported}
+use Rattle.card_report.proofs.Texts.{left_over, right_over, relation_short, store_short, reported}
 use Rattle.card_report.proofs.report.report_text.Goals as goal
 
 pub returns-then-left-gt32 : goal.returns-then-left-gt32
@@ -14,16 +13,6 @@ returns-then-right-gt32 c =
     let b = c.args in
     right_over b.relation.now b.left b.right b.out.now (omega arith) c.if-right-gt32.true
 
-pub overflow_mul-states : goal.overflow_mul-states
-overflow_mul-states c =
-    let b = c.args in
-    omega (arith, square_low (b.left + b.right) (omega arith))
-
-pub overflow_add-states-2 : goal.overflow_add-states-2
-overflow_add-states-2 c =
-    let b = c.args in
-    omega (arith, square_low (b.left + b.right) (omega arith))
-
 pub returns-then-relation-states : goal.returns-then-relation-states
 returns-then-relation-states c =
     let b = c.args in
@@ -33,9 +22,6 @@ pub returns-then-out-lt-MOST_REPORT : goal.returns-then-out-lt-MOST_REPORT
 returns-then-out-lt-MOST_REPORT c =
     let b = c.args in
     store_short b.relation.now b.left b.right b.out.now (omega arith) (omega arith) c.if-relation-states.false c.if-out-lt-MOST_REPORT.true
-
-pub overflow_cast-row : goal.overflow_cast-row
-overflow_cast-row c = omega arith
 
 pub returns : goal.returns
 returns c =
