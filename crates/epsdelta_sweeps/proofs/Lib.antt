@@ -3,3 +3,4 @@ pub mod Turns
 pub mod Noting
 pub mod Resuming
 pub mod Reading
+pub mod Ranges

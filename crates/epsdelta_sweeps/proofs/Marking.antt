@@ -2,16 +2,20 @@
 use mathlib.Core.Path.{◌≡◌, refl, sym, ap, subst, ◌∙◌}
 use mathlib.Core.Logic.{◌≢◌, ◌⊎◌, inl, inr}
 use Prim.Native.Nat.{ℕ, zero, suc, ◌+◌, ◌-◌, ◌*◌, ◌/◌, ◌^◌, ◌≤◌, ◌<◌, min, max}
-use mathlib.Core.Bool.{Bool, true, false, ◌&&◌}
+use mathlib.Core.Bool.{Bool, true, false, not, ◌&&◌, true≢false}
 use mathlib.Core.List.{List, [], ◌∷◌, ◌++◌, append-nil}
 use native.Mathlib.Omega.{arith}
-use native.Mathlib.Nat.{mul-le-mul_right, mul-le-mul_left, suc-mul, pow-succ', mul_assoc}
+use native.Mathlib.Nat.{mul-le-mul_right, mul-le-mul_left, pow-succ', mul_assoc}
 use lib.Dec.{eqb}
 use lib.Ieee.{Float}
 use lib.ListN.{length, get_or, set, take, drop, get_or-eq_default}
 use lib.Pow.{pow_pos}
 use lib.Seq.{get_or-take, get_or-drop, drop-length}
-use borrow.Author.Tests.{ne_eqb}
+use mir.Val.{bool_byte}
+use borrow.Author.Tests.{eq-eqb, ne_eqb}
+use Rattle.std.specs.List.{list_any}
+use Rattle.std.proofs.lemmas.List.{length-take, length-drop}
+use Rattle.std.proofs.lemmas.List.Folds.{list_any_at}
 use Rattle.numbers.specs.Bits.{bits, packed}
 use Rattle.numbers.proofs.Bools.{one_if, lt_or_ge}
 use Rattle.numbers.proofs.Over.{over, over_next, over_done}
@@ -70,30 +74,6 @@ pub some : (n k : ℕ) → k < relation_bytes n → 0 < n
 some zero k h = absurd (omega arith)
 some (suc n) k h = omega arith
 
--- ---- the entry before another
-
--- an entry with others before it is not the first of the first row
-pub row_above : (n s t : ℕ) → 0 < s * n + t → t ≡ 0 → 0 < s
-row_above n zero t h z = absurd (omega arith)
-row_above n (suc s) t h z = omega arith
-
-pub column_in : (n t u : ℕ) → t < n → (t ≡ 0 → u ≡ n - 1) × (0 < t → u ≡ t - 1) → u < n
-column_in n zero u h c = let e = c.0 refl in omega arith
-column_in n (suc t) u h c = let e = c.1 (omega arith) in omega arith
-
-pub one_back : (n s t r u : ℕ) → t < n → 0 < s * n + t → (t ≡ 0 → r ≡ s - 1) × (0 < t → r ≡ s) → (t ≡ 0 → u ≡ n - 1) × (0 < t → u ≡ t - 1) → r * n + u ≡ s * n + t - 1
-one_back n zero zero r u h k a c = absurd (omega arith)
-one_back n (suc s) zero r u h k a c =
-    let e : r ≡ s = a.0 refl ∙ (omega arith) in
-    let f = c.0 refl in
-    let m : suc s * n ≡ s * n + n = suc-mul s n in
-    let g : r * n ≡ s * n = ap (λ (x : ℕ). x * n) e in
-    omega arith
-one_back n s (suc t) r u h k a c =
-    let f = c.1 (omega arith) in
-    let g : r * n ≡ s * n = ap (λ (x : ℕ). x * n) (a.1 (omega arith)) in
-    omega arith
-
 -- ---- a byte
 
 none_left : (k : ℕ) (l : List Bool) → drop k (take k l) ≡ []
@@ -113,48 +93,67 @@ bits_next (true ∷ l) zero = refl
 bits_next (false ∷ l) zero = omega arith
 bits_next (b ∷ l) (suc j) = bits_next l j
 
--- entry j - 1 goes below those read
-pub byte_next : (R : List Bool) (first j byte : ℕ) → 0 < j → j ≤ 8 → byte ≡ bits (drop j (take 8 (drop first R)))
-    → (b : Bool) → b ≡ get_or R (first + (j - 1)) false → 2 * byte + one_if b ≡ bits (drop (j - 1) (take 8 (drop first R)))
-byte_next R first j byte h k e b d =
+-- entry j goes below those read, from i on
+pub byte_next : (R : List Bool) (first i j byte : ℕ) → i ≡ suc j → j < 8 → byte ≡ bits (drop i (take 8 (drop first R)))
+    → (b : Bool) → b ≡ get_or R (first + j) false → 2 * byte + one_if b ≡ bits (drop j (take 8 (drop first R)))
+byte_next R first i j byte s k e b d =
     let l = take 8 (drop first R) in
-    let s : suc (j - 1) ≡ j = omega arith in
-    let g : get_or l (j - 1) false ≡ b = get_or-take 8 (drop first R) (j - 1) false (omega arith) ∙ get_or-drop first R (j - 1) false ∙ sym d in
-    let n = bits_next l (j - 1) in
-    let m : bits (drop (suc (j - 1)) l) ≡ byte = ap (λ (x : ℕ). bits (drop x l)) s ∙ sym e in
-    let o : one_if (get_or l (j - 1) false) ≡ one_if b = ap one_if g in
+    let g : get_or l j false ≡ b = get_or-take 8 (drop first R) j false k ∙ get_or-drop first R j false ∙ sym d in
+    let n = bits_next l j in
+    let m : bits (drop (suc j) l) ≡ byte = ap (λ (x : ℕ). bits (drop x l)) (sym s) ∙ sym e in
+    let o : one_if (get_or l j false) ≡ one_if b = ap one_if g in
     omega arith
 
-pub byte_done : (l : List Bool) {j byte : ℕ} → j ≤ 0 → byte ≡ bits (drop j l) → byte ≡ bits l
-byte_done l {j} h e = let z : j ≡ 0 = omega arith in e ∙ ap (λ (x : ℕ). bits (drop x l)) z
+pub bit_as_number : (b : Bool) → bool_byte b ≡ one_if b
+bit_as_number true = refl
+bit_as_number false = refl
 
--- an entry of states whose classes differ leaves a byte of 0 so
-pub apart_next : (Q : Task) (n s t j : ℕ) {C : List ℕ} {E : List Float} {ρ : Float} → MarksIn Q n C E ρ → s < n → 0 < j → j ≤ 8 → t + (j - 1) < n → get_or C s 0 ≢ get_or C (t + (j - 1)) 0
-    → 0 ≡ bits (drop j (take 8 (drop (s * n + t) (marks Q)))) → 0 ≡ bits (drop (j - 1) (take 8 (drop (s * n + t) (marks Q))))
-apart_next Q n s t j M hs h k ht d e =
-    let i : s * n + (t + (j - 1)) ≡ s * n + t + (j - 1) = omega arith in
-    let f = not_marked Q n s (t + (j - 1)) M hs ht d ∙ ap (λ (x : ℕ). get_or (marks Q) x false) i in
-    byte_next (marks Q) (s * n + t) j 0 h k e false f
+-- where there is none, the byte is 0
+none_bits : (l : List Bool) → ((j : ℕ) → get_or l j false ≡ false) → 0 ≡ bits l
+unfolding bits
+none_bits [] f = refl
+none_bits (true ∷ l) f = absurd (true≢false (f zero))
+none_bits (false ∷ l) f = let e = none_bits l (λ j. f (suc j)) in omega arith
 
--- a byte with j entries still to come has room for them
-pub room_next : (j byte : ℕ) → 0 < j → (byte + 1) * 2 ^ j ≤ 256 → (2 * byte + 1 + 1) * 2 ^ (j - 1) ≤ 256
-room_next zero byte h r = absurd (omega arith)
-room_next (suc i) byte h r =
-    let a : (byte + 1) * 2 ^ suc i ≡ (byte + 1) * 2 * 2 ^ i = ap (λ (x : ℕ). (byte + 1) * x) (pow-succ' 2 i) ∙ sym (mul_assoc (byte + 1) 2 (2 ^ i)) in
+-- a class that is not among eight differs from each of them
+pub not_among : (C : List ℕ) (x t : ℕ) {r : Bool} → r ≡ list_any (λ y. eqb y x) (take (t + 8 - t) (drop t C)) → not r ≡ true → t + 8 ≤ length C → (j : ℕ) → j < 8 → x ≢ get_or C (t + j) 0
+not_among C x t {r} v e h j k q =
+    let l = take (t + 8 - t) (drop t C) in
+    let g : get_or l j 0 ≡ x = get_or-take (t + 8 - t) (drop t C) j 0 (omega arith) ∙ get_or-drop t C j 0 ∙ sym q in
+    let z : j < length l = omega (arith, length-take (t + 8 - t) (drop t C), length-drop t C) in
+    let f : r ≡ true = v ∙ list_any_at (λ y. eqb y x) l j 0 z (eq-eqb _ _ g) in
+    absurd (true≢false (sym e ∙ ap not f))
+
+-- eight entries of states whose classes differ
+pub apart_byte : (Q : Task) (n s t : ℕ) {C : List ℕ} {E : List Float} {ρ : Float} → MarksIn Q n C E ρ → s < n → t + 8 ≤ n → ((j : ℕ) → j < 8 → get_or C s 0 ≢ get_or C (t + j) 0)
+    → 0 ≡ bits (take 8 (drop (s * n + t) (marks Q)))
+apart_byte Q n s t M hs ht f = none_bits (take 8 (drop (s * n + t) (marks Q))) (λ j. pick j (lt_or_ge j 8))
+  where
+    pick : (j : ℕ) → (j < 8) ⊎ (8 ≤ j) → get_or (take 8 (drop (s * n + t) (marks Q))) j false ≡ false
+    pick j (inl l) =
+        let i : s * n + (t + j) ≡ s * n + t + j = omega arith in
+        get_or-take 8 (drop (s * n + t) (marks Q)) j false l ∙ get_or-drop (s * n + t) (marks Q) j false
+        ∙ ap (λ (x : ℕ). get_or (marks Q) x false) (sym i) ∙ sym (not_marked Q n s (t + j) M hs (omega arith) (f j l))
+    pick j (inr l) = get_or-eq_default (take 8 (drop (s * n + t) (marks Q))) false (omega (arith, length-take 8 (drop (s * n + t) (marks Q))))
+
+-- a byte with i entries still to come has room for them
+pub room_next : (i j byte : ℕ) → i ≡ suc j → (byte + 1) * 2 ^ i ≤ 256 → (2 * byte + 1 + 1) * 2 ^ j ≤ 256
+room_next i j byte s r =
+    let a : (byte + 1) * 2 ^ i ≡ (byte + 1) * 2 * 2 ^ j = ap (λ (x : ℕ). (byte + 1) * 2 ^ x) s ∙ ap (λ (x : ℕ). (byte + 1) * x) (pow-succ' 2 j) ∙ sym (mul_assoc (byte + 1) 2 (2 ^ j)) in
     let b : (byte + 1) * 2 ≡ 2 * byte + 1 + 1 = omega arith in
-    let s : i ≡ suc i - 1 = omega arith in
-    subst (λ (k : ℕ). (2 * byte + 1 + 1) * 2 ^ k ≤ 256) s (subst (λ (x : ℕ). x * 2 ^ i ≤ 256) b (subst (λ (x : ℕ). x ≤ 256) a r))
+    subst (λ (x : ℕ). x * 2 ^ j ≤ 256) b (subst (λ (x : ℕ). x ≤ 256) a r)
 
-pub room_less : (j byte : ℕ) → 0 < j → (byte + 1) * 2 ^ j ≤ 256 → (2 * byte + 1) * 2 ^ (j - 1) ≤ 256
-room_less j byte h r =
-    let a = room_next j byte h r in
-    let b : (2 * byte + 1) * 2 ^ (j - 1) ≤ (2 * byte + 1 + 1) * 2 ^ (j - 1) = mul-le-mul_right (2 ^ (j - 1)) (omega arith) in
+pub room_bit : (i j byte : ℕ) (b : Bool) → i ≡ suc j → (byte + 1) * 2 ^ i ≤ 256 → (2 * byte + one_if b + 1) * 2 ^ j ≤ 256
+room_bit i j byte true s r = room_next i j byte s r
+room_bit i j byte false s r =
+    let a = room_next i j byte s r in
+    let b : (2 * byte + 0 + 1) * 2 ^ j ≤ (2 * byte + 1 + 1) * 2 ^ j = mul-le-mul_right (2 ^ j) (omega arith) in
     omega arith
 
-pub room_low : (j byte : ℕ) → 0 < j → (byte + 1) * 2 ^ j ≤ 256 → 2 * byte + 1 ≤ 255
-room_low j byte h r =
-    let a = room_next j byte h r in
-    let b : (2 * byte + 1 + 1) * 1 ≤ (2 * byte + 1 + 1) * 2 ^ (j - 1) = mul-le-mul_left (2 * byte + 1 + 1) (pow_pos (j - 1)) in
+pub room_low : (i j byte : ℕ) → i ≡ suc j → (byte + 1) * 2 ^ i ≤ 256 → 2 * byte + 1 ≤ 255
+room_low i j byte s r =
+    let a = room_next i j byte s r in
+    let b : (2 * byte + 1 + 1) * 1 ≤ (2 * byte + 1 + 1) * 2 ^ j = mul-le-mul_left (2 * byte + 1 + 1) (pow_pos j) in
     omega arith
 
 -- ---- the bytes

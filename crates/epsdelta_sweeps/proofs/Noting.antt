@@ -1,5 +1,5 @@
--- Noted strikes as code reads and writes them: places passed one by one, a sweep that is over, and what a turn leaves noted.
-use mathlib.Core.Path.{◌≡◌, sym, ap, subst, subst⁻¹, ◌∙◌}
+-- Noted strikes as code reads and writes them: a sweep that is over, and what a turn leaves noted.
+use mathlib.Core.Path.{◌≡◌, sym, ap, subst⁻¹, ◌∙◌}
 use mathlib.Core.Logic.{◌⊎◌, inl, inr, ◌≢◌}
 use mathlib.Core.Bool.{true, false, true≢false}
 use mathlib.Core.List.{List}
@@ -14,14 +14,6 @@ use Rattle.numbers.proofs.Bools.{eq_or_ne}
 use Rattle.epsdelta_theory.proofs.Pairs.{packed_holds}
 use Rattle.epsdelta_theory.proofs.TasksIn.{RowsFit}
 use Rattle.epsdelta_theory.proofs.Unchanged.{Noted, noted_next}
-
--- places c to k - 1, and now place k too
-pub one_more : (A : ℕ → Type 0) (c k : ℕ) → ((j : ℕ) → c ≤ j → j < k → A j) → A k → (j : ℕ) → c ≤ j → j < k + 1 → A j
-one_more A c k all e j h l = pick (eq_or_ne j k)
-  where
-    pick : (j ≡ k) ⊎ (j ≢ k) → A j
-    pick (inl p) = subst A (sym p) e
-    pick (inr p) = all j h (omega arith)
 
 -- the words of n states, at first
 pub first_words : (n m : ℕ) → 2 * n < m → (2 * n < length (replicate {A = ℕ} m 0)) × (get_or (replicate {A = ℕ} m 0) (2 * n) 0 ≡ 0)

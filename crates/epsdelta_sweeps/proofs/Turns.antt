@@ -1,22 +1,25 @@
 -- The flow test of two rows that stand in lists, as code makes it: of parts of the lists, against the bytes of a relation.
-use mathlib.Core.Path.{◌≡◌, sym, ap, ◌∙◌}
+use mathlib.Core.Path.{◌≡◌, refl, sym, ap, subst, ◌∙◌}
 use Prim.Native.Nat.{ℕ, zero, suc, ◌+◌, ◌-◌, ◌*◌, ◌≤◌, ◌<◌}
 use mathlib.Core.Bool.{Bool, true, false, ◌&&◌, false≢true}
 use mathlib.Core.List.{List, [], ◌∷◌}
 use native.Mathlib.Omega.{arith}
 use lib.Dec.{leb, eqb}
-use lib.Ieee.{Float}
+use lib.Ieee.{Float, nan, binary64, of_bits, of_fields, div}
 use lib.ListN.{length, get_or, take, drop}
-use lib.Seq.{take-nil, slice, length-slice}
+use lib.Seq.{get_or-take, get_or-drop, take-nil, slice, length-slice}
 use borrow.Author.Tests.{le-leb, eq-eqb}
 use Rattle.numbers.specs.Bits.{packed}
+use Rattle.numbers.specs.Real.{nought}
 use Rattle.numbers.proofs.Bools.{and_second}
 use Rattle.epsdelta_theory.specs.Jumps.{jumps_of}
 use Rattle.epsdelta_theory.specs.FlowTest.{run_between}
 use Rattle.epsdelta_theory.proofs.TasksIn.{row_in, test_in, RowsFit}
-use Rattle.flow_duality.specs.Spare.{row_most}
-use Rattle.flow_duality.proofs.Plenty.{Plenty, Between, Even, even_symmetric}
+use Rattle.epsdelta_theory.proofs.Unchanged.{Quiet}
+use Rattle.flow_duality.specs.Spare.{row_most, is_share}
+use Rattle.flow_duality.proofs.Plenty.{Formed, Light, LightRow, Plenty, Between, Even, even_symmetric}
 use Rattle.flow_links.specs.Fits.{row_fits, fits}
+use Rattle.flow_links.proofs.RowsRead.{entries}
 use Rattle.flow_links.proofs.Fitting.{all_fit, fit, few_links, Written, laid}
 use Rattle.epsdelta_theory.specs.Relation.{relation_of}
 use Rattle.flow_core.specs.Test.{flow_between}
@@ -31,7 +34,7 @@ use Rattle.flow.specs.declared.network.FlowNetwork.{FlowNetwork}
 use Rattle.flow.specs.Filled.{flow_rows}
 use Rattle.flow.proofs.FlowRows.{rows_between}
 
--- ---- a flow test
+-- ---- the part of a list that is a state's
 
 -- a part of a list as code takes it
 pub part : {A : Type 0} (a b : ℕ) (l : List A) → take (b - a) (drop a l) ≡ slice a b l
@@ -40,66 +43,87 @@ part (suc a) zero l = let e : 0 - suc a ≡ 0 = omega arith in ap (λ (k : ℕ).
 part (suc a) (suc b) [] = take-nil (suc b - suc a)
 part (suc a) (suc b) (x ∷ l) = let e : suc b - suc a ≡ b - a = omega arith in ap (λ (k : ℕ). take k (drop a l)) e ∙ part a b l
 
-abbrev part_of : {A : Type 0} → List ℕ → ℕ → List A → List A
-part_of S s l = take (get_or S (s + 1) 0 - get_or S s 0) (drop (get_or S s 0) l)
+-- entry i of a list, in the part of the state that it is of
+pub entry_at : {A : Type 0} (S : List ℕ) (l : List A) (d : A) (s i : ℕ) → get_or S s 0 ≤ i → i < get_or S (s + 1) 0 → get_or (entries S l s) (i - get_or S s 0) d ≡ get_or l i d
+entry_at S l d s i h k =
+    let a = get_or S s 0 in
+    let b = get_or S (s + 1) 0 in
+    ap (λ x. get_or x (i - a) d) (sym (part a b l)) ∙ get_or-take (b - a) (drop a l) (i - a) d (omega arith) ∙ get_or-drop a l (i - a) d ∙ ap (λ (j : ℕ). get_or l j d) (omega arith)
+
+entry_in : (S T : List ℕ) {us : List ℕ} (s i : ℕ) → us ≡ entries S T s → get_or S (s + 1) 0 ≤ length T → get_or S s 0 ≤ i → i < get_or S (s + 1) 0 → i - get_or S s 0 < length us
+entry_in S T s i x l h k = let e = ap length x in let f = length-slice (get_or S s 0) (get_or S (s + 1) 0) T l in omega arith
+
+pub light_part : {n : ℕ} (S T : List ℕ) (P : List Float) {us : List ℕ} {vs : List Float} (s : ℕ) → us ≡ entries S T s → vs ≡ entries S P s → get_or S (s + 1) 0 ≤ length T
+    → ((i : ℕ) → i < length us → Light n us vs i) → LightRow n S T P s
+light_part {n} S T P {us} {vs} s x y l f i h k =
+    let j = i - get_or S s 0 in
+    let (p, q, r) = f j (entry_in S T s i x l h k) in
+    let e : get_or us j 0 ≡ get_or T i 0 = ap (λ (u : List ℕ). get_or u j 0) x ∙ entry_at S T 0 s i h k in
+    let g : get_or vs j nan ≡ get_or P i nan = ap (λ (u : List Float). get_or u j nan) y ∙ entry_at S P nan s i h k in
+    (subst (λ (z : ℕ). z < n) e p, subst Formed g q, subst (λ (z : Float). is_share z ≡ true) g r)
+
+pub quiet_parts : (S T : List ℕ) {us vs : List ℕ} {X : ℕ → ℕ → Type 0} (s t : ℕ) → us ≡ entries S T s → vs ≡ entries S T t → get_or S (s + 1) 0 ≤ length T → get_or S (t + 1) 0 ≤ length T → 0 < length us → 0 < length vs
+    → ((i k : ℕ) → i < length us → k < length vs → X (get_or us i 0) (get_or vs k 0)) → Quiet S T X s t
+quiet_parts S T {us} {vs} {X} s t x y l m h k f =
+    let e = ap length x in
+    let g = ap length y in
+    let p = length-slice (get_or S s 0) (get_or S (s + 1) 0) T l in
+    let q = length-slice (get_or S t 0) (get_or S (t + 1) 0) T m in
+    record { some = omega arith; more = omega arith; at = at }
+  where
+    at : (i k : ℕ) → get_or S s 0 ≤ i → i < get_or S (s + 1) 0 → get_or S t 0 ≤ k → k < get_or S (t + 1) 0 → X (get_or T i 0) (get_or T k 0)
+    at i k a b c d =
+        let u : get_or us (i - get_or S s 0) 0 ≡ get_or T i 0 = ap (λ (z : List ℕ). get_or z (i - get_or S s 0) 0) x ∙ entry_at S T 0 s i a b in
+        let v : get_or vs (k - get_or S t 0) 0 ≡ get_or T k 0 = ap (λ (z : List ℕ). get_or z (k - get_or S t 0) 0) y ∙ entry_at S T 0 t k c d in
+        subst (λ (z : ℕ). X z (get_or T k 0)) u (subst (X (get_or us (i - get_or S s 0) 0)) v (f (i - get_or S s 0) (k - get_or S t 0) (entry_in S T s i x l a b) (entry_in S T t k y m c d)))
+
+-- ---- a flow test
 
 module _ {n : ℕ} {S T : List ℕ} {P : List Float} (F : RowsFit n S T P) where
-  row_fits_lem : (s : ℕ) → s < n → row_fits (slice (get_or S s 0) (get_or S (s + 1) 0) T) (slice (get_or S s 0) (get_or S (s + 1) 0) P) ≡ true
+  row_fits_lem : (s : ℕ) → s < n → row_fits (entries S T s) (entries S P s) ≡ true
   row_fits_lem s h =
       let a = get_or S s 0 in
       let b = get_or S (s + 1) 0 in
       let t = length-slice a b T (F.targets_long s h) in
       let p = length-slice a b P (F.probs_long s h) in
       let w = F.short s h in
-      let few : leb (length (slice a b T)) 31 ≡ true = le-leb (length (slice a b T)) 31 (omega arith) in
-      let same : eqb (length (slice a b P)) (length (slice a b T)) ≡ true = eq-eqb (length (slice a b P)) (length (slice a b T)) (p ∙ sym t) in
+      let few : leb (length (entries S T s)) 31 ≡ true = le-leb (length (entries S T s)) 31 (omega arith) in
+      let same : eqb (length (entries S P s)) (length (entries S T s)) ≡ true = eq-eqb (length (entries S P s)) (length (entries S T s)) (p ∙ sym t) in
       sym (and_second _ _ true few (and_second _ _ true same (sym (F.range s h))))
 
   -- two rows of the lists, and the definition's run between them
   abbrev answer_to : List Bool → ℕ → ℕ → Answer
   answer_to R s t = let x = run_between n R (row_in S T P s) (row_in S T P t) in Flow x.total (length x.phases) (all_pushes x.phases)
 
-  -- the answer of the flow test between two rows is that run's
-  answered : (R : List Bool) (s t : ℕ) → s < n → t < n
-      → flow_between (slice (get_or S s 0) (get_or S (s + 1) 0) T) (slice (get_or S s 0) (get_or S (s + 1) 0) P) (slice (get_or S t 0) (get_or S (t + 1) 0) T) (slice (get_or S t 0) (get_or S (t + 1) 0) P) n R ≡ answer_to R s t
-  answered R s t h k =
-      let us = slice (get_or S s 0) (get_or S (s + 1) 0) T in
-      let vs = slice (get_or S s 0) (get_or S (s + 1) 0) P in
-      let ts = slice (get_or S t 0) (get_or S (t + 1) 0) T in
-      let ws = slice (get_or S t 0) (get_or S (t + 1) 0) P in
-      ap (λ (b : Bool). (settled b (run_between n R (jumps_of us vs) (jumps_of ts ws)) []).answer) (all_fit us vs ts ws n F.few (row_fits_lem s h) (row_fits_lem t k))
-
-  -- the same of the parts that code takes, against the bytes of a packed relation
+  -- the answer of the flow test between two rows is that run's, against the bytes of a packed relation
   pub passed_in : (store : List ℕ) (R : List Bool) → store ≡ packed R → (s t : ℕ) → s < n → t < n
-      → flow_between (part_of S s T) (part_of S s P) (part_of S t T) (part_of S t P) n (relation_of store) ≡ answer_to R s t
+      → flow_between (entries S T s) (entries S P s) (entries S T t) (entries S P t) n (relation_of store) ≡ answer_to R s t
   passed_in store R z s t h k =
-      between_packed (part_of S s T) (part_of S s P) (part_of S t T) (part_of S t P) n store R z
-      ∙ ap (λ (l : List ℕ). flow_between l (part_of S s P) (part_of S t T) (part_of S t P) n R) (part (get_or S s 0) (get_or S (s + 1) 0) T)
-      ∙ ap (λ (l : List Float). flow_between (slice (get_or S s 0) (get_or S (s + 1) 0) T) l (part_of S t T) (part_of S t P) n R) (part (get_or S s 0) (get_or S (s + 1) 0) P)
-      ∙ ap (λ (l : List ℕ). flow_between (slice (get_or S s 0) (get_or S (s + 1) 0) T) (slice (get_or S s 0) (get_or S (s + 1) 0) P) l (part_of S t P) n R) (part (get_or S t 0) (get_or S (t + 1) 0) T)
-      ∙ ap (λ (l : List Float). flow_between (slice (get_or S s 0) (get_or S (s + 1) 0) T) (slice (get_or S s 0) (get_or S (s + 1) 0) P) (slice (get_or S t 0) (get_or S (t + 1) 0) T) l n R) (part (get_or S t 0) (get_or S (t + 1) 0) P)
-      ∙ answered R s t h k
+      let us = entries S T s in
+      let vs = entries S P s in
+      let ts = entries S T t in
+      let ws = entries S P t in
+      between_packed us vs ts ws n store R z
+      ∙ ap (λ (b : Bool). (settled b (run_between n R (jumps_of us vs) (jumps_of ts ws)) []).answer) (all_fit us vs ts ws n F.few (row_fits_lem s h) (row_fits_lem t k))
 
   -- whether it is enough is the definition's test
   pub reached_in : (need : Float) (store : List ℕ) (R : List Bool) → store ≡ packed R → (s t : ℕ) → s < n → t < n
-      → reaches (part_of S s T) (part_of S s P) (part_of S t T) (part_of S t P) n (relation_of store) need ≡ test_in n S T P need R s t
+      → reaches (entries S T s) (entries S P s) (entries S T t) (entries S P t) n (relation_of store) need ≡ test_in n S T P need R s t
   reached_in need store R z s t h k =
-      let us = part_of S s T in
-      let vs = part_of S s P in
-      let ts = part_of S t T in
-      let ws = part_of S t P in
+      let us = entries S T s in
+      let vs = entries S P s in
+      let ts = entries S T t in
+      let ws = entries S P t in
       sym (answer_reaches need (fits us vs ts ws n) (run_between n (relation_of store) (jumps_of us vs) (jumps_of ts ws))) ∙ ap (at_least need) (passed_in store R z s t h k)
 
   -- both ways
   pub reached_both : (need : Float) (store : List ℕ) (R : List Bool) → store ≡ packed R → (s t : ℕ) → s < n → t < n
-      → both_reach (part_of S s T) (part_of S s P) (part_of S t T) (part_of S t P) n (relation_of store) need ≡ (test_in n S T P need R s t && test_in n S T P need R t s)
-  reached_both need store R z s t h k =
-      ap (λ (b : Bool). b && reaches (part_of S t T) (part_of S t P) (part_of S s T) (part_of S s P) n (relation_of store) need) (reached_in need store R z s t h k)
-      ∙ ap (λ (b : Bool). test_in n S T P need R s t && b) (reached_in need store R z t s k h)
+      → both_reach (entries S T s) (entries S P s) (entries S T t) (entries S P t) n (relation_of store) need ≡ (test_in n S T P need R s t && test_in n S T P need R t s)
+  reached_both need store R z s t h k = rw (reached_in need store R z s t h k, reached_in need store R z t s k h)
 
   -- where the flow is plenty, both tests pass
   pub plenty_in : (need plenty : Float) → Plenty n S T P need plenty → (here : Float) (store : List ℕ) (R : List Bool) → store ≡ packed R → Even n store → (s t : ℕ) → Between (get_or S s 0) (get_or S (s + 1) 0) (get_or S t 0) (get_or S (t + 1) 0) plenty here → s < n → t < n
-      → reaches (part_of S s T) (part_of S s P) (part_of S t T) (part_of S t P) n (relation_of store) here ≡ true → (test_in n S T P need R s t ≡ true) × (test_in n S T P need R t s ≡ true)
+      → reaches (entries S T s) (entries S P s) (entries S T t) (entries S P t) n (relation_of store) here ≡ true → (test_in n S T P need R s t ≡ true) × (test_in n S T P need R t s ≡ true)
   plenty_in need plenty K here store R z E s t B h k p =
       let (x, y, q) = B (run_between n R (row_in S T P s) (row_in S T P t)).total (sym (reached_in here store R z s t h k) ∙ p) in
       K R (even_symmetric n store R z E) s t h k x y q
@@ -120,30 +144,22 @@ first_fails a b h = ap (λ (x : Bool). x && b) (sym h)
 -- ---- the links of a flow test in rows
 
 module _ {n : ℕ} {S T : List ℕ} {P : List Float} (F : RowsFit n S T P) where
-  fits_in : (s t : ℕ) → s < n → t < n → fits (part_of S s T) (part_of S s P) (part_of S t T) (part_of S t P) n ≡ true
-  fits_in s t h k =
-      ap (λ (l : List ℕ). fits l (part_of S s P) (part_of S t T) (part_of S t P) n) (part (get_or S s 0) (get_or S (s + 1) 0) T)
-      ∙ ap (λ (l : List Float). fits (slice (get_or S s 0) (get_or S (s + 1) 0) T) l (part_of S t T) (part_of S t P) n) (part (get_or S s 0) (get_or S (s + 1) 0) P)
-      ∙ ap (λ (l : List ℕ). fits (slice (get_or S s 0) (get_or S (s + 1) 0) T) (slice (get_or S s 0) (get_or S (s + 1) 0) P) l (part_of S t P) n) (part (get_or S t 0) (get_or S (t + 1) 0) T)
-      ∙ ap (λ (l : List Float). fits (slice (get_or S s 0) (get_or S (s + 1) 0) T) (slice (get_or S s 0) (get_or S (s + 1) 0) P) (slice (get_or S t 0) (get_or S (t + 1) 0) T) l n) (part (get_or S t 0) (get_or S (t + 1) 0) P)
-      ∙ all_fit (slice (get_or S s 0) (get_or S (s + 1) 0) T) (slice (get_or S s 0) (get_or S (s + 1) 0) P) (slice (get_or S t 0) (get_or S (t + 1) 0) T) (slice (get_or S t 0) (get_or S (t + 1) 0) P) n F.few (row_fits_lem F s h) (row_fits_lem F t k)
-
-  -- so many targets a part has
-  pub part_count : (s : ℕ) → s < n → length (part_of S s T) ≡ get_or S (s + 1) 0 - get_or S s 0
-  part_count s h = ap length (part (get_or S s 0) (get_or S (s + 1) 0) T) ∙ length-slice (get_or S s 0) (get_or S (s + 1) 0) T (F.targets_long s h)
+  -- so many targets a row has
+  pub row_count : (s : ℕ) → s < n → length (entries S T s) ≡ get_or S (s + 1) 0 - get_or S s 0
+  row_count s h = length-slice (get_or S s 0) (get_or S (s + 1) 0) T (F.targets_long s h)
 
   -- where the links of the test were written into rows with room for all, the run on a network that is filled from them is the definition's test
   pub laid_test : (store : List ℕ) (s t : ℕ) → s < n → t < n → (h : List ℕ) (c : List Float) → length h ≡ 2046 → length c ≡ 2046
-      → {d : Bool} {k : ℕ} {h' : List ℕ} {c' : List Float} → Written (part_of S s T) (part_of S s P) (part_of S t T) (part_of S t P) n (relation_of store) h c d k h' c'
-      → (x y z : ℕ) → x ≡ length (part_of S s T) + length (part_of S t T) + 2 → y ≡ length (part_of S s T) + length (part_of S t T) → z ≡ length (part_of S s T) + length (part_of S t T) + 1
+      → {d : Bool} {k : ℕ} {h' : List ℕ} {c' : List Float} → Written (entries S T s) (entries S P s) (entries S T t) (entries S P t) n (relation_of store) h c d k h' c'
+      → (x y z : ℕ) → x ≡ length (entries S T s) + length (entries S T t) + 2 → y ≡ length (entries S T s) + length (entries S T t) → z ≡ length (entries S T s) + length (entries S T t) + 1
       → (N : FlowNetwork) → length N.links ≡ 2176 → length N.list ≡ 2176 → (p : List Float) → length p ≡ 2046
       → (need : Float) (R : List Bool) → store ≡ packed R → test_in n S T P need R s t ≡ at_least need (flow_rows N h' c' p k x y z).answer
   laid_test store s t i j h c lh lc {d} {k} {h'} {c'} w x y z ex ey ez N whole places p lp need R e =
-      let us = part_of S s T in
-      let vs = part_of S s P in
-      let ts = part_of S t T in
-      let ws = part_of S t P in
-      let f = fits_in s t i j in
+      let us = entries S T s in
+      let vs = entries S P s in
+      let ts = entries S T t in
+      let ws = entries S P t in
+      let f = all_fit us vs ts ws n F.few (row_fits_lem F s i) (row_fits_lem F t j) in
       let G = fit us vs ts ws n f in
       let q = 2 * (length us + length ts + length us * length ts) in
       let few = few_links (length us) (length ts) G.left.few G.right.few in
@@ -158,3 +174,9 @@ module _ {n : ℕ} {S T : List ℕ} {P : List Float} (F : RowsFit n S T P) where
       ∙ ap (λ (v : ℕ). at_least need (flow_rows N h' c' p k (length us + length ts + 2) (length us + length ts) v).answer) ez
       ∙ ap (at_least need) (rows_between store L N whole places p (omega arith) ∙ passed_in F store R e s t i j)
       )
+
+-- ---- no flow is plenty
+
+pub no_number : div binary64 nought nought ≡ nan
+unfolding div of_bits of_fields
+no_number = refl

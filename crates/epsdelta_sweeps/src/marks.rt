@@ -33,26 +33,15 @@ fn entry(classes: &[u32], exits: &[f64], rho: f64, states: usize, s: usize, t: u
     marked(classes, exits, rho, t, s)
 }
 
-// The row of the entry before (s, t).
-fn row_before(s: usize, t: usize) -> usize
-    requires { t ≡ 0 → 0 < s }
-    ensures { (t ≡ 0 → result ≡ s - 1) × (0 < t → result ≡ s) }
+// The row and the column of the entry before (s, t).
+fn before(s: usize, t: usize, states: usize) -> (usize, usize)
+    requires { (t < states) × (0 < s * states + t) }
+    ensures { (result.0 * states + result.1 + 1 ≡ s * states + t) × (result.1 < states) }
 {
     if t == 0 {
-        return s - 1;
+        return (s - 1, states - 1);
     }
-    s
-}
-
-// The column of the entry before one in column t.
-fn column_before(t: usize, states: usize) -> usize
-    requires { 0 < states }
-    ensures { (t ≡ 0 → result ≡ states - 1) × (0 < t → result ≡ t - 1) }
-{
-    if t == 0 {
-        return states - 1;
-    }
-    t - 1
+    (s, t - 1)
 }
 
 // True only if row s has eight entries from column t on, and the states of all of them have another class than s.
@@ -60,20 +49,10 @@ fn apart(classes: &[u32], states: usize, s: usize, t: usize) -> bool
     requires { (states ≤ length classes.now) × (t < states) }
     ensures { result ≡ true → (E : List Float) (rho : Float) (Q : Task) → MarksIn Q states classes.now E rho → 0 ≡ bits (take 8 (drop (s * states + t) (Sweeps.marks Q))) }
 {
-    if states <= s {
+    if states <= s || states - t < 8 {
         return false;
     }
-    if states - t < 8 {
-        return false;
-    }
-    let mut j: usize = 8;
-    while 0 < j {
-        j -= 1;
-        if classes[s] == classes[t + j] {
-            return false;
-        }
-    }
-    true
+    !classes[t..t + 8].contains(&classes[s])
 }
 
 // The byte of the eight entries from `first` on, the last of them first.
@@ -81,18 +60,12 @@ fn byte_of(classes: &[u32], exits: &[f64], rho: f64, states: usize, first: usize
     requires { (0 < states) × (states ≤ length classes.now) × (states ≤ length exits.now) × (first ≤ 4000000) }
     ensures { (Q : Task) → MarksIn Q states classes.now exits.now rho → result ≡ bits (take 8 (drop first (Sweeps.marks Q))) }
 {
-    let mut byte: u8 = 0;
+    let mut byte = 0;
     let mut s = (first + 8) / states;
     let mut t = (first + 8) % states;
-    let mut j: usize = 8;
-    while 0 < j {
-        j -= 1;
-        s = row_before(s, t);
-        t = column_before(t, states);
-        byte = 2 * byte;
-        if entry(classes, exits, rho, states, s, t) {
-            byte += 1;
-        }
+    for _ in 0..8usize {
+        (s, t) = before(s, t, states);
+        byte = 2 * byte + u8::from(entry(classes, exits, rho, states, s, t));
     }
     byte
 }
@@ -115,9 +88,7 @@ pub(crate) fn marks(classes: &[u32], exits: &[f64], rho: f64, states: usize, rel
     requires { (states ≤ 2000) × (states ≤ length classes.now) × (states ≤ length exits.now) × (length relation.old ≡ relation_bytes states) }
     ensures { (Q : Task) → MarksIn Q states classes.now exits.now rho → relation.new ≡ packed (Sweeps.marks Q) }
 {
-    let mut k: usize = 0;
-    while k < relation.len() {
-        relation[k] = byte_at(classes, exits, rho, states, 8 * k);
-        k += 1;
+    for (k, byte) in relation.iter_mut().enumerate() {
+        *byte = byte_at(classes, exits, rho, states, 8 * k);
     }
 }

@@ -7,6 +7,7 @@ ghost use Rattle.flow.specs.declared.network.FlowNetwork.{FlowNetwork};
 ghost use Rattle.flow.specs.Filled.{flow_rows};
 ghost use Rattle.flow_direct.specs.Reaches.{at_least};
 
+use crate::rows::part;
 use crate::sweeps::{Place, settle};
 use flow::network::{FlowNetwork, new};
 use flow::rows::flow_rows;
@@ -38,25 +39,23 @@ fn lay_links(
     ensures { (N : FlowNetwork) → length N.links ≡ 2176 → length N.list ≡ 2176 → (costs : List Float) → length costs ≡ 2046 → (need : Float) (R : List Bool) → relation.now ≡ packed R
         → test_in states starts.now targets.now probs.now need R s t ≡ at_least need (flow_rows N heads.new caps.new costs result.places result.nodes result.source result.sink).answer }
 {
-    let a = starts[s] as usize;
-    let b = starts[s + 1] as usize;
-    let c = starts[t] as usize;
-    let d = starts[t + 1] as usize;
+    let us = part(starts, targets, s);
+    let ts = part(starts, targets, t);
     let w = write_links(
-        &targets[a..b],
-        &probs[a..b],
-        &targets[c..d],
-        &probs[c..d],
+        us,
+        part(starts, probs, s),
+        ts,
+        part(starts, probs, t),
         states,
         relation,
         heads,
         caps,
     );
-    let source = b - a + (d - c);
+    let source = us.len() + ts.len();
     Laid {
         places: w.places,
         nodes: source + 2,
-        source: source,
+        source,
         sink: source + 1,
     }
 }

@@ -1,27 +1,20 @@
 // How much flow is plenty: so much that the flow test back passes too.
-ghost use Rattle.std.specs.Prelude.{◌≡◌, true, ℕ, ◌≤◌, ◌<◌, length};
+ghost use Rattle.std.specs.Prelude.{◌≡◌, true, ℕ, ◌≤◌, ◌<◌, ◌+◌, length, get_or};
 ghost use Rattle.epsdelta_theory.proofs.TasksIn.{RowsFit};
 ghost use Rattle.flow_duality.proofs.Plenty.{Formed, Light, LightRow, Plenty, Between};
 
+use crate::rows::part;
 use flow_duality::{ROW_MOST, SPARE, is_share};
 
-// True only if the jumps from place a up to b are to states, with rates above 0 and at most 1.
-fn light(targets: &[u32], probs: &[f64], states: usize, a: usize, b: usize) -> bool
-    requires { (b ≤ length targets.now) × (b ≤ length probs.now) }
-    ensures { result ≡ true → (i : ℕ) → a ≤ i → i < b → Light states targets.now probs.now i }
+// True only if these jumps are to states, with rates above 0 and at most 1.
+fn light(targets: &[u32], probs: &[f64], states: usize) -> bool
+    requires { length targets.now ≡ length probs.now }
+    ensures { result ≡ true → (i : ℕ) → i < length targets.now → Light states targets.now probs.now i }
 {
-    let mut i = a;
-    while i < b {
-        let u = targets[i] as usize;
-        if states <= u {
-            return false;
-        }
-        if !is_share(probs[i]) {
-            return false;
-        }
-        i += 1;
-    }
-    true
+    targets
+        .iter()
+        .zip(probs)
+        .all(|(u, p)| (*u as usize) < states && is_share(*p))
 }
 
 // True only if these are the jumps of s.
@@ -29,9 +22,19 @@ fn light_row(starts: &[u32], targets: &[u32], probs: &[f64], states: usize, s: u
     requires { RowsFit states starts.now targets.now probs.now × (s < states) }
     ensures { result ≡ true → LightRow states starts.now targets.now probs.now s }
 {
-    let a = starts[s] as usize;
-    let b = starts[s + 1] as usize;
-    light(targets, probs, states, a, b)
+    light(part(starts, targets, s), part(starts, probs, s), states)
+}
+
+// True only if these are the jumps of all states.
+fn all_light(starts: &[u32], targets: &[u32], probs: &[f64], states: usize) -> bool
+    requires { RowsFit states starts.now targets.now probs.now }
+    ensures { result ≡ true → (s : ℕ) → s < states → LightRow states starts.now targets.now probs.now s }
+{
+    (0..states).all(
+        |s|
+            requires { RowsFit states starts.now targets.now probs.now × (s < states) }
+        { light_row(starts, targets, probs, states, s) },
+    )
 }
 
 // SPARE more than what is needed, where all rows are such; else no flow is plenty.
@@ -45,21 +48,21 @@ pub(crate) fn plenty_of(
     requires { RowsFit states starts.now targets.now probs.now × Formed need }
     ensures { Plenty states starts.now targets.now probs.now need result }
 {
-    let mut s: usize = 0;
-    while s < states {
-        if !light_row(starts, targets, probs, states, s) {
-            return 0.0 / 0.0;
-        }
-        s += 1;
+    if !all_light(starts, targets, probs, states) {
+        return 0.0 / 0.0;
     }
     need + SPARE
 }
 
-// Plenty, where rows a..b and c..d have at most ROW_MOST jumps each; else no flow is.
-pub(crate) fn plenty_between(a: usize, b: usize, c: usize, d: usize, plenty: f64) -> f64
-    requires { (a ≤ b) × (c ≤ d) }
-    ensures { Between a b c d plenty result }
+// Plenty, where the rows of s and t have at most ROW_MOST jumps each; else no flow is.
+pub(crate) fn plenty_between(starts: &[u32], s: usize, t: usize, plenty: f64) -> f64
+    requires { (s + 1 < length starts.now) × (t + 1 < length starts.now) × (get_or starts.now s 0 ≤ get_or starts.now (s + 1) 0) × (get_or starts.now t 0 ≤ get_or starts.now (t + 1) 0) }
+    ensures { Between (get_or starts.now s 0) (get_or starts.now (s + 1) 0) (get_or starts.now t 0) (get_or starts.now (t + 1) 0) plenty result }
 {
+    let a = starts[s] as usize;
+    let b = starts[s + 1] as usize;
+    let c = starts[t] as usize;
+    let d = starts[t + 1] as usize;
     if b - a <= ROW_MOST {
         if d - c <= ROW_MOST {
             return plenty;

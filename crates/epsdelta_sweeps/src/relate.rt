@@ -70,7 +70,7 @@ pub fn relate(
     if !all_stand(starts, targets, probs, states) {
         return false;
     }
-    let bytes = (states * states + 7) / 8;
+    let bytes = (states * states).div_ceil(8);
     make(
         states,
         classes,

@@ -7,8 +7,8 @@ ghost use Rattle.flow_duality.proofs.Plenty.{Plenty, Even};
 use crate::network::with_rows;
 use crate::sweeps::advance;
 
-// Sweeps until one without a strike, with words for the strikes of 64 states, which are enough for a card.
-fn run_small(
+// Sweeps until one without a strike, with N words for the strikes.
+fn run_in<const N: usize>(
     exits: &[f64],
     starts: &[u32],
     targets: &[u32],
@@ -18,57 +18,12 @@ fn run_small(
     plenty: f64,
     relation: &mut [u8],
 )
-    requires states_bound { (states ≤ 64) × RowsFit states starts.now targets.now probs.now × (states ≤ length exits.now) × Plenty states starts.now targets.now probs.now need plenty × Even states relation.old }
-    requires relation_value { (R : List Bool) × (relation.old ≡ packed R) × (length R ≡ states * states) }
-    ensures { RunsTo states exits.now starts.now targets.now probs.now need relation.old relation.new }
-{
-    let mut changed = [0u64; 129];
-    let p = advance(
-        exits,
-        starts,
-        targets,
-        probs,
-        states,
-        need,
-        plenty,
-        relation,
-        &mut changed,
-        0,
-        1,
-        false,
-    );
-    if p.asks {
-        with_rows(
-            exits,
-            starts,
-            targets,
-            probs,
-            states,
-            need,
-            plenty,
-            relation,
-            &mut changed,
-            p,
-        );
-    }
-}
-
-// The same with words for 2,000 states.
-fn run_large(
-    exits: &[f64],
-    starts: &[u32],
-    targets: &[u32],
-    probs: &[f64],
-    states: usize,
-    need: f64,
-    plenty: f64,
-    relation: &mut [u8],
-)
+    requires words { (2 * states < N) × (N ≤ 4001) }
     requires rows_fit { RowsFit states starts.now targets.now probs.now × (states ≤ length exits.now) × Plenty states starts.now targets.now probs.now need plenty × Even states relation.old }
     requires relation_value { (R : List Bool) × (relation.old ≡ packed R) × (length R ≡ states * states) }
     ensures { RunsTo states exits.now starts.now targets.now probs.now need relation.old relation.new }
 {
-    let mut changed = [0u64; 4001];
+    let mut changed = [0u64; N];
     let p = advance(
         exits,
         starts,
@@ -99,7 +54,7 @@ fn run_large(
     }
 }
 
-// The same with words for as many states as there are.
+// The same with words for as many states as there are; those for 64 states are enough for a card.
 pub(crate) fn run(
     exits: &[f64],
     starts: &[u32],
@@ -115,12 +70,12 @@ pub(crate) fn run(
     ensures { RunsTo states exits.now starts.now targets.now probs.now need relation.old relation.new }
 {
     if states <= 64 {
-        run_small(
+        run_in::<129>(
             exits, starts, targets, probs, states, need, plenty, relation,
         );
         return;
     }
-    run_large(
+    run_in::<4001>(
         exits, starts, targets, probs, states, need, plenty, relation,
     );
 }

@@ -9,6 +9,7 @@ ghost use Rattle.flow_direct.specs.Reaches.{at_least};
 
 use crate::changes::{fade, strike, unchanged};
 use crate::plenty::plenty_between;
+use crate::rows::part;
 use flow_core::rows::Answer;
 use flow_direct::reach::{Ways, both_ways, enough, verdict};
 use flow_direct::settle::Verdict;
@@ -38,15 +39,11 @@ fn judge(
     requires { RowsFit states starts.now targets.now probs.now × (s < states) × (t < states) }
     ensures { result.known ≡ true → (R : List Bool) → relation.now ≡ packed R → test_in states starts.now targets.now probs.now need R s t ≡ result.passes }
 {
-    let a = starts[s] as usize;
-    let b = starts[s + 1] as usize;
-    let c = starts[t] as usize;
-    let d = starts[t + 1] as usize;
     verdict(
-        &targets[a..b],
-        &probs[a..b],
-        &targets[c..d],
-        &probs[c..d],
+        part(starts, targets, s),
+        part(starts, probs, s),
+        part(starts, targets, t),
+        part(starts, probs, t),
         states,
         relation,
         need,
@@ -70,16 +67,12 @@ fn judge_both(
         × (result.back ≡ true → (R : List Bool) → relation.now ≡ packed R → test_in states starts.now targets.now probs.now need R s t ≡ true)
         × (result.plenty ≡ true → (R : List Bool) → relation.now ≡ packed R → (test_in states starts.now targets.now probs.now need R s t ≡ true) × (test_in states starts.now targets.now probs.now need R t s ≡ true)) }
 {
-    let a = starts[s] as usize;
-    let b = starts[s + 1] as usize;
-    let c = starts[t] as usize;
-    let d = starts[t + 1] as usize;
-    let here = plenty_between(a, b, c, d, plenty);
+    let here = plenty_between(starts, s, t, plenty);
     both_ways(
-        &targets[a..b],
-        &probs[a..b],
-        &targets[c..d],
-        &probs[c..d],
+        part(starts, targets, s),
+        part(starts, probs, s),
+        part(starts, targets, t),
+        part(starts, probs, t),
         states,
         relation,
         need,
@@ -105,16 +98,16 @@ fn tested_back(
 {
     if passes {
         return Place {
-            s: s,
+            s,
             t: t + 1,
             back: false,
-            struck: struck,
+            struck,
             asks: false,
         };
     }
     strike(states, relation, changed, s, t);
     Place {
-        s: s,
+        s,
         t: t + 1,
         back: false,
         struck: true,
@@ -145,7 +138,7 @@ fn tested_forth(
     if !passes {
         strike(states, relation, changed, s, t);
         return Place {
-            s: s,
+            s,
             t: t + 1,
             back: false,
             struck: true,
@@ -155,10 +148,10 @@ fn tested_forth(
     let v = judge(starts, targets, probs, states, need, relation, t, s);
     if !v.known {
         return Place {
-            s: s,
-            t: t,
+            s,
+            t,
             back: true,
-            struck: struck,
+            struck,
             asks: true,
         };
     }
@@ -184,10 +177,10 @@ fn turn(
     ensures { Moves states exits.now starts.now targets.now probs.now need plenty relation.old s t false struck false (weight states relation.old s t false struck + 1) relation.new changed.new result.s result.t result.back result.struck result.asks × (result.asks ≡ false → (result.s ≡ s) × (result.t ≡ t + 1) × (result.back ≡ false)) }
 {
     let next = Place {
-        s: s,
+        s,
         t: t + 1,
         back: false,
-        struck: struck,
+        struck,
         asks: false,
     };
     if !bit(relation, s * states + t) {
@@ -205,10 +198,10 @@ fn turn(
     }
     if !v.known {
         return Place {
-            s: s,
-            t: t,
+            s,
+            t,
             back: v.back,
-            struck: struck,
+            struck,
             asks: true,
         };
     }
@@ -217,11 +210,8 @@ fn turn(
     }
     strike(states, relation, changed, s, t);
     Place {
-        s: s,
-        t: t + 1,
-        back: false,
         struck: true,
-        asks: false,
+        ..next
     }
 }
 
@@ -244,8 +234,7 @@ fn sweep_row(
     ensures { Moves states exits.now starts.now targets.now probs.now need plenty relation.old s from false before false (weight states relation.old s from false before + 1) relation.new changed.new result.s result.t result.back result.struck result.asks × (result.asks ≡ false → (result.s ≡ s + 1) × (result.t ≡ s + 1 + 1) × (result.back ≡ false)) }
 {
     let mut struck = before;
-    let mut t = from;
-    while t < states {
+    for t in from..states {
         let p = turn(
             exits, starts, targets, probs, states, need, plenty, relation, changed, s, t, struck,
         );
@@ -253,13 +242,13 @@ fn sweep_row(
             return p;
         }
         struck = p.struck;
-        t += 1;
     }
+    let next = s + 1;
     Place {
-        s: s + 1,
-        t: s + 1 + 1,
+        s: next,
+        t: next + 1,
         back: false,
-        struck: struck,
+        struck,
         asks: false,
     }
 }
@@ -279,13 +268,12 @@ fn sweep(
     from: usize,
     before: bool,
 ) -> Place
-    requires { RowsFit states starts.now targets.now probs.now × (states ≤ length exits.now) × (first < from) × (first < states → from ≤ states) × Held states exits.now starts.now targets.now probs.now need plenty relation.old changed.old first from false false }
+    requires { RowsFit states starts.now targets.now probs.now × (states ≤ length exits.now) × (first < from) × (first ≤ states) × (first < states → from ≤ states) × Held states exits.now starts.now targets.now probs.now need plenty relation.old changed.old first from false false }
     ensures { Moves states exits.now starts.now targets.now probs.now need plenty relation.old first from false before false (weight states relation.old first from false before + 1) relation.new changed.new result.s result.t result.back result.struck result.asks × (result.asks ≡ false → (states ≤ result.s) × (states ≤ result.t) × (result.back ≡ false)) }
 {
     let mut struck = before;
-    let mut s = first;
     let mut t = from;
-    while s < states {
+    for s in first..states {
         let p = sweep_row(
             exits, starts, targets, probs, states, need, plenty, relation, changed, s, t, struck,
         );
@@ -293,14 +281,13 @@ fn sweep(
             return p;
         }
         struck = p.struck;
-        s += 1;
-        t = s + 1;
+        t = p.t;
     }
     Place {
-        s: s,
-        t: t,
+        s: states,
+        t,
         back: false,
-        struck: struck,
+        struck,
         asks: false,
     }
 }
@@ -320,7 +307,7 @@ pub(crate) fn advance(
     t: usize,
     struck: bool,
 ) -> Place
-    requires { RowsFit states starts.now targets.now probs.now × (states ≤ length exits.now) × (s < t) × (s < states → t ≤ states) × Held states exits.now starts.now targets.now probs.now need plenty relation.old changed.old s t false false }
+    requires { RowsFit states starts.now targets.now probs.now × (states ≤ length exits.now) × (s < t) × (s ≤ states) × (s < states → t ≤ states) × Held states exits.now starts.now targets.now probs.now need plenty relation.old changed.old s t false false }
     ensures { Moves states exits.now starts.now targets.now probs.now need plenty relation.old s t false struck false (weight states relation.old s t false struck + 1) relation.new changed.new result.s result.t result.back result.struck result.asks × (result.asks ≡ false → (result.struck ≡ false) × (states ≤ result.s) × (states ≤ result.t)) }
 {
     let mut p = sweep(
@@ -343,11 +330,7 @@ fn ample(starts: &[u32], plenty: f64, s: usize, t: usize, answer: Answer) -> boo
     requires { (s + 1 < length starts.now) × (t + 1 < length starts.now) × (get_or starts.now s 0 ≤ get_or starts.now (s + 1) 0) × (get_or starts.now t 0 ≤ get_or starts.now (t + 1) 0) }
     ensures { result ≡ true → (get_or starts.now (s + 1) 0 ≤ get_or starts.now s 0 + row_most) × (get_or starts.now (t + 1) 0 ≤ get_or starts.now t 0 + row_most) × (at_least plenty answer ≡ true) }
 {
-    let a = starts[s] as usize;
-    let b = starts[s + 1] as usize;
-    let c = starts[t] as usize;
-    let d = starts[t + 1] as usize;
-    enough(answer, plenty_between(a, b, c, d, plenty))
+    enough(answer, plenty_between(starts, s, t, plenty))
 }
 
 // How the test that a place asks for ended; with `both` the test back passes too.
@@ -378,10 +361,10 @@ fn tested(
     }
     if both {
         return Place {
-            s: s,
+            s,
             t: t + 1,
             back: false,
-            struck: struck,
+            struck,
             asks: false,
         };
     }

@@ -1,11 +1,7 @@
--- The invariant: the words say of the targets passed what is noted of them. The measure is what is left.
-use Prim.Native.Nat.{ℕ, ◌-◌, ◌≤◌, ◌<◌}
-use lib.ListN.{get_or}
+-- The invariant: the words hold the strikes of the targets passed.
+use Rattle.std.proofs.Common.{ℕ, ◌<◌, get_or}
 use Rattle.epsdelta_theory.proofs.Unchanged.{Told}
 use Rattle.epsdelta_sweeps.proofs.changes.strikes_of.Given as goal
 
-abbrev pub invariant-loop-i : goal.invariant-loop-i
-invariant-loop-i l = (l.a ≤ l.i) × ((j : ℕ) → l.a ≤ j → j < l.i → Told l.states l.changed l.s (get_or l.targets j 0) l.recent l.before)
-
-abbrev pub decreases-loop-i : goal.decreases-loop-i
-decreases-loop-i l = l.b - l.i
+abbrev pub invariant-loop-u : goal.invariant-loop-u
+invariant-loop-u l = (j : ℕ) → j < l.u-index → Told l.states l.changed l.s (get_or l.row j 0) l.recent l.before

@@ -1,17 +1,11 @@
 -- `marks::byte_at` meets its contract: a byte whose entries share no class with their row is 0.
 use mathlib.Core.Path.{ap, ◌∙◌}
 use Prim.Native.Nat.{ℕ}
-use native.Mathlib.Nat.{mod-lt, div-add-mod'}
+use native.Mathlib.Nat.{div-add-mod'}
 use lib.ListN.{take, drop}
 use Rattle.numbers.specs.Bits.{bits}
 use Rattle.epsdelta_theory.specs.Sweeps.{marks}
 use Rattle.epsdelta_sweeps.proofs.marks.byte_at.Goals as goal
 
-pub apart-requires : goal.apart-requires
-apart-requires c = (c.requires.1, mod-lt c.args.first c.requires.0)
-
 pub returns-then-apart : goal.returns-then-apart
 returns-then-apart c = let a = c.args in λ Q M. c.apart.ensures c.if-apart.true a.exits.now a.rho Q M ∙ ap (λ (x : ℕ). bits (take 8 (drop x (marks Q)))) (div-add-mod' a.first a.states)
-
-pub byte_of-requires : goal.byte_of-requires
-byte_of-requires c = c.requires

@@ -1,9 +1,6 @@
 -- `relate::make` meets its contract: from the marks of the task the run is the one of the definition (Reading).
-use Rattle.epsdelta_sweeps.proofs.Reading.{marks_bytes, marks_even, needed_formed, related}
+use Rattle.epsdelta_sweeps.proofs.Reading.{marks_bytes, marks_even, related}
 use Rattle.epsdelta_sweeps.proofs.relate.make.Goals as goal
-
-pub plenty_of-plenty-requires : goal.plenty_of-plenty-requires
-plenty_of-plenty-requires c = (c.requires.0, needed_formed c.args.epsilon c.needed-need.ensures)
 
 pub run-requires : goal.run-requires
 run-requires c =

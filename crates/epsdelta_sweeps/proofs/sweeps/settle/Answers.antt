@@ -6,24 +6,6 @@ use Rattle.epsdelta_sweeps.proofs.Resuming.{moves_then, resting}
 use Rattle.epsdelta_sweeps.proofs.Turns.{ample_in}
 use Rattle.epsdelta_sweeps.proofs.sweeps.settle.Goals as goal
 
-pub ample-requires : goal.ample-requires
-ample-requires c =
-    let p = c.requires in
-    let a = c.args in
-    let A = p.2.asked refl in
-    let l = A.apart in
-    let k = A.inside in
-    let n = p.0.starts_long in
-    (omega arith, omega arith, p.0.rise a.p.s (omega arith), p.0.rise a.p.t k)
-
-pub tested-q-requires : goal.tested-q-requires
-tested-q-requires c =
-    let p = c.requires in
-    let A = p.2.asked refl in
-    let l = A.apart in
-    let k = A.inside in
-    (p.0, p.2.noted.long, omega arith, k)
-
 pub returns-then-q : goal.returns-then-q
 returns-then-q c =
     let p = c.requires in
@@ -44,7 +26,7 @@ advance-requires c =
     let x = t.0 in
     let y = t.1 in
     let M = c.tested-q.ensures.0 a.exits.now a.plenty p.2 (λ R e. let q = p.3 a.need R e in (λ b. q.0 b ∙ sym c.enough.ensures, λ b. q.1 b ∙ sym c.enough.ensures)) (λ z b R e. ample_in p.0 a.need a.plenty p.2.enough a.relation.now R e p.2.even a.p.s a.p.t a.answer (omega arith) k (c.ample.ensures z) ((p.3 a.plenty R e).0 b)) in
-    (p.0, p.1, omega arith, (λ h. omega arith), (resting M c.if-q.false (refl, refl, t.2)).held)
+    (p.0, p.1, omega arith, omega arith, (λ h. omega arith), (resting M c.if-q.false (refl, refl, t.2)).held)
 
 pub returns : goal.returns
 returns c =

@@ -1,13 +1,10 @@
 -- `sweeps::sweep` meets its contract. The loop's invariant: the definition comes from the turn of (s, t) to where it comes from the first (Resuming).
 use mathlib.Core.Path.{◌≡◌}
 use mathlib.Core.Bool.{false}
-use Prim.Native.Nat.{◌+◌, ◌-◌, ◌≤◌, ◌<◌}
+use Prim.Native.Nat.{◌+◌, ◌≤◌, ◌<◌}
 use lib.ListN.{length}
 use Rattle.flow_duality.proofs.Places.{Moves, weight}
 use Rattle.epsdelta_sweeps.proofs.sweeps.sweep.Given as goal
 
 abbrev pub invariant-loop-s : goal.invariant-loop-s
 invariant-loop-s l = (length l.relation ≡ length l.initial.relation) × (length l.changed ≡ length l.initial.changed) × (l.s < l.t) × (l.s < l.states → l.t ≤ l.states) × Moves l.states l.exits l.starts l.targets l.probs l.need l.plenty l.initial.relation l.first l.from false l.before false (weight l.states l.initial.relation l.first l.from false l.before + 1) l.relation l.changed l.s l.t false l.struck false
-
-abbrev pub decreases-loop-s : goal.decreases-loop-s
-decreases-loop-s l = l.states - l.s

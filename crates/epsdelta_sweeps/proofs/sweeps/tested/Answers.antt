@@ -1,11 +1,7 @@
 -- `sweeps::tested` meets its contract: the test back or the other, by what the place says, or the pair's turn is over where both pass (Resuming).
 use mathlib.Core.Path.{refl}
-use native.Mathlib.Omega.{arith}
 use Rattle.epsdelta_sweeps.proofs.Resuming.{by_back, both_pass}
 use Rattle.epsdelta_sweeps.proofs.sweeps.tested.Goals as goal
-
-pub tested_back-requires : goal.tested_back-requires
-tested_back-requires c = let p = c.requires in (p.0.few, p.1, p.2, p.3)
 
 pub returns-then-p : goal.returns-then-p
 returns-then-p c = (
@@ -13,14 +9,8 @@ returns-then-p c = (
   λ _. (c.tested_back.ensures.1, c.tested_back.ensures.2, c.tested_back.ensures.3),
 )
 
-pub overflow_add-result : goal.overflow_add-result
-overflow_add-result c = let f = c.requires.0.few in let h = c.requires.3 in omega arith
-
 pub returns-then-both : goal.returns-then-both
 returns-then-both c = (λ E plenty H f g. by_back c.if-p.false (λ G. both_pass c.requires.0 c.args.p.struck G (g c.if-both.true c.if-p.false)) H, λ _. (refl, refl, refl))
-
-pub tested_forth-requires : goal.tested_forth-requires
-tested_forth-requires c = let p = c.requires in (p.0, p.1, p.2, p.3)
 
 pub returns : goal.returns
 returns c = (λ E plenty H f g. by_back c.if-p.false (λ G. c.tested_forth.ensures.0 E plenty G (λ R e. (f R e).0 c.if-p.false)) H, c.tested_forth.ensures.1)

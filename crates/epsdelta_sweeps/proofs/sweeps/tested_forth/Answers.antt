@@ -6,23 +6,11 @@ use borrow.Author.Tests.{not-false}
 use Rattle.epsdelta_sweeps.proofs.Resuming.{forth_passes, forth_fails, moves_then}
 use Rattle.epsdelta_sweeps.proofs.sweeps.tested_forth.Goals as goal
 
-pub strike-requires : goal.strike-requires
-strike-requires c = let p = c.requires in (p.0.few, p.1, p.2, p.3)
-
-pub overflow_add-result : goal.overflow_add-result
-overflow_add-result c = let f = c.requires.0.few in let h = c.requires.3 in omega arith
-
 pub returns-then-not-passes : goal.returns-then-not-passes
 returns-then-not-passes c = (λ E plenty H f. forth_fails c.requires.0 c.args.struck H (λ R e. f R e ∙ c.if-not-passes.true) c.strike.ensures.0 c.strike.ensures.1, λ _. (refl, refl, refl))
 
-pub judge-v-requires : goal.judge-v-requires
-judge-v-requires c = let p = c.requires in (p.0, p.3, p.2)
-
 pub returns-then-not-v : goal.returns-then-not-v
 returns-then-not-v c = (λ E plenty H f. forth_passes c.requires.0 c.args.struck H (λ R e. f R e ∙ c.if-not-passes.false), λ q. absurd (true≢false q))
-
-pub tested_back-requires : goal.tested_back-requires
-tested_back-requires c = let p = c.requires in (p.0.few, p.1, p.2, p.3)
 
 pub returns : goal.returns
 returns c = (

@@ -1,38 +1,12 @@
 -- `sweeps::turn` meets its contract, test by test (Resuming).
 use mathlib.Core.Path.{refl, sym, ◌∙◌}
 use mathlib.Core.Bool.{true≢false}
-use Prim.Native.Nat.{◌<◌}
 use native.Mathlib.Omega.{arith}
 use borrow.Author.Tests.{not-false}
 use Rattle.numbers.proofs.Bools.{and_t}
-use Rattle.epsdelta_theory.proofs.Pairs.{entry_in}
 use Rattle.epsdelta_theory.proofs.Unchanged.{still_passes}
-use Rattle.epsdelta_sweeps.proofs.Marking.{square_low}
 use Rattle.epsdelta_sweeps.proofs.Resuming.{turn_absent, turn_no_exit, turn_quiet, turn_waits, turn_fails}
 use Rattle.epsdelta_sweeps.proofs.sweeps.turn.Goals as goal
-
-pub overflow_add-next : goal.overflow_add-next
-overflow_add-next c = let f = c.requires.0.few in let h = c.requires.3 in omega arith
-
-pub overflow_mul-s : goal.overflow_mul-s
-overflow_mul-s c =
-    let a = c.args in
-    let p = c.requires in
-    let l = p.2 in
-    let k = p.3 in
-    let h = square_low a.states p.0.few in
-    let e = entry_in a.states a.s a.t (omega arith) k in
-    omega arith
-
-pub overflow_add-s : goal.overflow_add-s
-overflow_add-s c =
-    let a = c.args in
-    let p = c.requires in
-    let l = p.2 in
-    let k = p.3 in
-    let h = square_low a.states p.0.few in
-    let e = entry_in a.states a.s a.t (omega arith) k in
-    omega arith
 
 pub returns-then-not-bit : goal.returns-then-not-bit
 returns-then-not-bit c =
@@ -41,25 +15,12 @@ returns-then-not-bit c =
     let k = p.3 in
     (turn_absent p.0 c.args.struck (omega arith) k p.4 (sym c.bit.ensures ∙ c.if-not-bit.true), λ _. (refl, refl, refl))
 
-pub bounds-exits-s : goal.bounds-exits-s
-bounds-exits-s c = let p = c.requires in let l = p.1 in let h = p.2 in let k = p.3 in omega arith
-
 pub returns-then-exits-s : goal.returns-then-exits-s
 returns-then-exits-s c =
     let p = c.requires in
     let l = p.2 in
     let k = p.3 in
     (turn_no_exit p.0 c.args.struck (omega arith) k p.4 c.if-exits-s.true, λ _. (refl, refl, refl))
-
-pub unchanged-requires : goal.unchanged-requires
-unchanged-requires c =
-    let a = c.args in
-    let p = c.requires in
-    let F = p.0 in
-    let l = p.2 in
-    let k = p.3 in
-    let h : a.s < a.states = omega arith in
-    (F.few, p.4.noted.long, F.starts_long, h, k, F.targets_long a.s h, F.targets_long a.t k)
 
 pub returns-then-unchanged : goal.returns-then-unchanged
 returns-then-unchanged c =
@@ -68,9 +29,6 @@ returns-then-unchanged c =
     let z = c.if-exits-s.false in
     let b = sym c.bit.ensures ∙ c.if-not-bit.false in
     (turn_quiet p.0 a.struck p.2 p.3 p.4 z b (λ R e. still_passes p.0 p.4.noted a.s a.t p.2 p.3 z b R e (c.unchanged.ensures c.if-unchanged.true)), λ _. (refl, refl, refl))
-
-pub judge_both-v-requires : goal.judge_both-v-requires
-judge_both-v-requires c = let p = c.requires in let l = p.2 in let k = p.3 in (p.0, omega arith, k, p.4.enough, p.4.even)
 
 pub returns-then-v : goal.returns-then-v
 returns-then-v c =
@@ -87,12 +45,6 @@ returns-then-v-2 c =
     let p = c.requires in
     let f = c.judge_both-v.ensures.0 (not-false _ c.if-not-v.false) in
     (turn_quiet p.0 c.args.struck p.2 p.3 p.4 c.if-exits-s.false (sym c.bit.ensures ∙ c.if-not-bit.false) (λ R e. and_t _ _ (f R e ∙ c.if-v-2.true)), λ _. (refl, refl, refl))
-
-pub strike-requires : goal.strike-requires
-strike-requires c = let p = c.requires in let l = p.2 in let k = p.3 in (p.0.few, p.4.noted.long, omega arith, k)
-
-pub overflow_add-result : goal.overflow_add-result
-overflow_add-result c = let f = c.requires.0.few in let h = c.requires.3 in omega arith
 
 pub returns : goal.returns
 returns c =
