@@ -9,40 +9,22 @@ ghost use Rattle.bisim_core.specs.Model;
 ghost use Rattle.build_theory.specs.Checks;
 
 use bisim_core::wlts::{Initial, starts_outside};
-use numbers::{GREATEST_WEIGHT, LEAST_WEIGHT, lesser};
-
-fn wide(x: u32) -> usize
-    ensures { result ≡ x }
-{
-    x as usize
-}
+use numbers::{GREATEST_WEIGHT, LEAST_WEIGHT};
 
 // Whether the first entries of a column, up to the count given, are below a bound.
 fn all_below(column: &[u32], given: usize, bound: usize) -> bool
     ensures { result ≡ all (λ x. ltb x bound) (take given column.now) }
 {
-    let n = lesser(given, column.len());
-    let mut i = 0;
-    while i < n {
-        if wide(column[i]) >= bound {
-            return false;
-        }
-        i += 1;
-    }
-    true
+    column.iter().take(given).all(|x| (*x as usize) < bound)
 }
 
 // 4: a state number that is not below the state count.
 fn outside(states: usize, initial: Initial, sources: &[u32], targets: &[u32], given: usize) -> bool
     ensures { result ≡ Checks.outside states initial (transitions sources.now [] targets.now []) given }
 {
-    if starts_outside(initial, states) {
-        return true;
-    }
-    if !all_below(sources, given, states) {
-        return true;
-    }
-    !all_below(targets, given, states)
+    starts_outside(initial, states)
+        || !all_below(sources, given, states)
+        || !all_below(targets, given, states)
 }
 
 fn weighs(w: f64) -> bool
@@ -55,15 +37,7 @@ fn weighs(w: f64) -> bool
 fn all_weigh(weights: &[f64], given: usize) -> bool
     ensures { result ≡ all Model.weighs (take given weights.now) }
 {
-    let n = lesser(given, weights.len());
-    let mut i = 0;
-    while i < n {
-        if !weighs(weights[i]) {
-            return false;
-        }
-        i += 1;
-    }
-    true
+    weights.iter().take(given).all(|w| weighs(*w))
 }
 
 // 4 or 5, the first of the two that fails; 0 if none does.
