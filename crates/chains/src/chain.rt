@@ -83,18 +83,6 @@ pub fn common_rate(
     Rated::Rate(or_one(larger(q, p)))
 }
 
-// The first n numbers of a list, over another.
-fn copy(from: &[f64], n: usize, to: &mut [f64])
-    requires { (n ≤ length from.now) × (n ≤ length to.old) }
-    ensures { to.new ≡ over (take n from.now) to.old }
-{
-    let mut i = 0;
-    while i < n {
-        to[i] = from[i];
-        i += 1;
-    }
-}
-
 // The rows of a model at a rate, and an observation of each state, in lists that are long enough.
 fn lay(
     states: usize,
@@ -125,7 +113,7 @@ fn lay(
         chain_targets,
         chain_probs,
     );
-    copy(observations, states, chain_seen);
+    chain_seen[..states].copy_from_slice(&observations[..states]);
     ChainShape {
         states,
         entries,

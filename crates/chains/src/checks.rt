@@ -14,10 +14,7 @@ use parts::starts::absent;
 fn below_sum(n: usize, a: usize, b: usize) -> bool
     ensures { result ≡ ltb n (a + b) }
 {
-    if n < a {
-        return true;
-    }
-    n - a < b
+    n < a || n - a < b
 }
 
 // Whether there are fewer observations than states, or a list lent for the chain is short.
@@ -33,9 +30,10 @@ pub fn cramped(
     ensures { result ≡ Check.cramped states edges (length observations.now) (chain_columns offsets.now targets.now probs.now seen.now) }
 {
     observations.len() < states
-        || (offsets.len() <= states
-            || (below_sum(targets.len(), edges, states)
-                || (below_sum(probs.len(), edges, states) || seen.len() < states)))
+        || offsets.len() <= states
+        || below_sum(targets.len(), edges, states)
+        || below_sum(probs.len(), edges, states)
+        || seen.len() < states
 }
 
 // The first check that fails, 0 if none does.
@@ -77,8 +75,7 @@ pub(crate) fn uniformise_refusal(
     ) {
         return 7;
     }
-    let initial = shape.initial;
-    if absent(initial) {
+    if absent(shape.initial) {
         return 8;
     }
     if !within(LEAST_WEIGHT, GREATEST_RATE, rate) {

@@ -9,12 +9,6 @@ ghost use Rattle.chain_theory.specs.Chain.{exit_rate, greatest_from};
 
 use numbers::larger;
 
-pub(crate) fn wide(x: u32) -> usize
-    ensures { result ≡ x }
-{
-    x as usize
-}
-
 // The exit rate of state s, whose edges are from..to.
 pub(crate) fn exit_rate(
     edge_targets: &[u32],
@@ -27,12 +21,10 @@ pub(crate) fn exit_rate(
     ensures { (D O L : List ℕ) → result ≡ exit_rate (map (edge_at (columns D O L edge_targets.now edge_weights.now) s) (span from (to - from))) }
 {
     let mut total = 0.0;
-    let mut i = from;
-    while i < to {
-        if wide(edge_targets[i]) != s {
-            total = total + edge_weights[i];
+    for i in from..to {
+        if edge_targets[i] as usize != s {
+            total += edge_weights[i];
         }
-        i += 1;
     }
     total
 }
@@ -48,13 +40,11 @@ pub(crate) fn greatest_exit(
     ensures { (D L : List ℕ) → result ≡ greatest_from nought (map (λ (s : ℕ). exit_rate (row (columns D offsets.now L edge_targets.now edge_weights.now) s)) (span 0 states)) }
 {
     let mut greatest = 0.0;
-    let mut s = 0;
-    while s < states {
-        let from = wide(offsets[s]);
-        let to = wide(offsets[s + 1]);
+    for s in 0..states {
+        let from = offsets[s] as usize;
+        let to = offsets[s + 1] as usize;
         let exit = exit_rate(edge_targets, edge_weights, from, to, s);
         greatest = larger(greatest, exit);
-        s += 1;
     }
     greatest
 }

@@ -10,7 +10,7 @@ ghost use Rattle.epsdelta_theory.proofs.RowsIn.{Readable, LaidJumps};
 ghost use Rattle.chain_theory.specs.Chain.{divided_edge, chain_row};
 ghost use Rattle.chain_theory.specs.Columns.{starts_from, joined};
 
-use crate::rates::{exit_rate, wide};
+use crate::rates::exit_rate;
 use numbers::MARGIN;
 use parts::rates::add_rate;
 
@@ -29,13 +29,11 @@ fn add_edges(
     ensures { (result ≤ to - from) × (((D O L : List ℕ) → LaidJumps (add_edges 0 (map (divided_edge rate) (map (edge_at (columns D O L edge_targets.now edge_weights.now) s) (span from (to - from)))) []) result targets.old probs.old targets.new probs.new)) }
 {
     let mut m = 0;
-    let mut i = from;
-    while i < to {
+    for i in from..to {
         let t = edge_targets[i];
-        if wide(t) != s {
+        if t as usize != s {
             m = add_rate(targets, probs, m, t, edge_weights[i] / rate);
         }
-        i += 1;
     }
     m
 }
@@ -88,10 +86,9 @@ pub(crate) fn make_rows(
 {
     starts[0] = 0;
     let mut end = 0;
-    let mut s = 0;
-    while s < states {
-        let from = wide(offsets[s]);
-        let to = wide(offsets[s + 1]);
+    for s in 0..states {
+        let from = offsets[s] as usize;
+        let to = offsets[s + 1] as usize;
         let m = make_row(
             edge_targets,
             edge_weights,
@@ -104,7 +101,6 @@ pub(crate) fn make_rows(
         );
         end += m;
         starts[s + 1] = end as u32;
-        s += 1;
     }
     end
 }

@@ -1,16 +1,12 @@
 -- By the test.
 use native.Mathlib.Omega.{arith}
 use mathlib.Core.Path.{◌≡◌, sym, ◌∙◌}
-use mathlib.Core.Bool.{true}
 use mathlib.Core.Logic.{◌⊎◌, inl, inr}
 use Prim.Native.Nat.{ℕ, ◌+◌, ◌-◌, ◌≤◌, ◌<◌}
 use lib.Dec.{ltb}
 use borrow.Author.Tests.{lt-ltb, le-ltb}
 use Rattle.numbers.proofs.Bools.{lt_or_ge}
 use Rattle.chains.proofs.checks.below_sum.Goals as goal
-
-early : (n a b : ℕ) → n < a → true ≡ ltb n (a + b)
-early n a b h = sym (lt-ltb n (a + b) (omega arith))
 
 moved : (n a b : ℕ) → a ≤ n → ltb (n - a) b ≡ ltb n (a + b)
 moved n a b h = pick (lt_or_ge (n - a) b)
@@ -19,8 +15,5 @@ moved n a b h = pick (lt_or_ge (n - a) b)
     pick (inl p) = lt-ltb _ _ p ∙ sym (lt-ltb n (a + b) (omega arith))
     pick (inr p) = le-ltb _ _ p ∙ sym (le-ltb n (a + b) (omega arith))
 
-pub returns-then-n-a : goal.returns-then-n-a
-returns-then-n-a c = early _ _ _ c.if-n-a.true
-
-pub returns : goal.returns
-returns c = moved _ _ _ c.if-n-a.false
+pub returns-else-n-a : goal.returns-else-n-a
+returns-else-n-a c = moved _ _ _ c.if-n-a.false

@@ -12,6 +12,3 @@ use Rattle.chains.proofs.rates.exit_rate.Given as goal
 
 abbrev pub invariant-loop-i : goal.invariant-loop-i
 invariant-loop-i l = (l.from ≤ l.i) × (l.i ≤ l.to) × ((D O L : List ℕ) → sum_from l.total (Left (columns D O L l.edge_targets l.edge_weights) l.s l.i l.to) ≡ exit_rate (map (edge_at (columns D O L l.edge_targets l.edge_weights) l.s) (span l.from (l.to - l.from))))
-
-abbrev pub decreases-loop-i : goal.decreases-loop-i
-decreases-loop-i l = l.to - l.i

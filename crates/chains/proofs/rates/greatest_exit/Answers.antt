@@ -1,17 +1,16 @@
-use mathlib.Core.Path.{◌≡◌, ap, ◌∙◌}
+use mathlib.Core.Path.{◌≡◌, refl, ap, ◌∙◌}
 use mathlib.Core.List.{List, map}
 use Prim.Native.Nat.{ℕ, ◌+◌, ◌-◌, ◌≤◌, ◌<◌}
 use native.Mathlib.Omega.{arith}
 use lib.Ieee.{Float}
 use lib.ListN.{length, get_or}
-use Rattle.numbers.specs.Real.{nought}
 use Rattle.numbers.specs.Lists.{span}
 use Rattle.numbers.specs.Choice.{larger}
 use Rattle.bisim_core.specs.Data.{columns}
 use Rattle.bisim_core.specs.Model.{edge_at, row}
 use Rattle.epsdelta_theory.proofs.RowsIn.{Readable}
 use Rattle.epsdelta_theory.proofs.RowReads.{starts_up}
-use Rattle.chain_theory.specs.Chain.{exit_rate, greatest_from}
+use Rattle.chain_theory.specs.Chain.{exit_rate}
 use Rattle.chains.proofs.Exits.{Most, most_next, most_end}
 use Rattle.chains.proofs.rates.greatest_exit.Invariants.{exit_at}
 use Rattle.chains.proofs.rates.greatest_exit.Goals as goal
@@ -29,26 +28,18 @@ exit_at_lem : (D O L ET : List ℕ) (EW : List Float) (s a b : ℕ) → a ≡ ge
 unfolding row
 exit_at_lem D O L ET EW s a b p q = rw (p, q)
 
-pub loop-s-init : goal.loop-s-init
-loop-s-init c =
-    let a = c.args in
-    let z : a.states - 0 ≡ a.states = omega arith in
-    (omega arith, λ D L. ap (λ (k : ℕ). greatest_from nought (map (exit_at D a.offsets.now L a.edge_targets.now a.edge_weights.now) (span 0 k))) z)
-
 pub exit_rate-exit-requires : goal.exit_rate-exit-requires
 exit_rate-exit-requires c =
-    inside c.requires c.loop-s.s c.loop-s-test.true _ _ c.wide-from.ensures c.wide-to.ensures
+    inside c.requires c.loop-s.s c.loop-s-test.true _ _ refl refl
 
 pub loop-s-preserved : goal.loop-s-preserved
 loop-s-preserved c =
     let a = c.args in
-    let h = c.loop-s-test.true in
-    let e = c.wide-from.ensures in
-    let f = c.wide-to.ensures in (
+    let h = c.loop-s-test.true in (
       omega arith,
       λ D L.
           let at = exit_at D a.offsets.now L a.edge_targets.now a.edge_weights.now in
-          ap (λ (x : Float). Most at x (c.loop-s.s + 1) a.states) (c.larger-greatest.ensures ∙ ap (larger c.loop-s.greatest) (c.exit_rate-exit.ensures D a.offsets.now L ∙ exit_at_lem D a.offsets.now L a.edge_targets.now a.edge_weights.now c.loop-s.s _ _ e f))
+          ap (λ (x : Float). Most at x (c.loop-s.s + 1) a.states) (c.larger-greatest.ensures ∙ ap (larger c.loop-s.greatest) (c.exit_rate-exit.ensures D a.offsets.now L ∙ exit_at_lem D a.offsets.now L a.edge_targets.now a.edge_weights.now c.loop-s.s _ _ refl refl))
           ∙ most_next at c.loop-s.greatest c.loop-s.s a.states h ∙ c.loop-s.invariant.1 D L,
     )
 
