@@ -1,7 +1,7 @@
 // One path along links to the next level, and the push along it.
 ghost use Rattle.flow_theory.specs.Rows.{network};
 ghost use Rattle.flow_theory.proofs.PathRows.{Seekable, Sought, Walkable, Placed, Routed};
-ghost use Rattle.std.specs.Prelude.{◌≡◌, ◌≤◌, [], length, take, false};
+ghost use Rattle.std.specs.Prelude.{◌≡◌, ◌≤◌, [], length, false};
 ghost use Rattle.std.specs.Float.{inf};
 ghost use Rattle.flow_theory.specs.Augment;
 ghost use Rattle.flow_theory.specs.Augment.{walk_fuel, Pushed};
@@ -21,16 +21,14 @@ fn seek(
     requires { Seekable heads.now list.now caps.now level.now at to }
     ensures { Sought heads.now list.now caps.now level.now want at to result }
 {
-    let mut j = at;
-    while j < to {
+    for j in at..to {
         let e = list[j] as usize;
         let v = heads[e] as usize;
         if caps[e] > EPS && level[v] == want {
             return j;
         }
-        j += 1;
     }
-    j
+    to
 }
 
 // Finds a path from the source along links to the next level, each node from its mark on, and gives its length; 0 where there is none.
@@ -77,34 +75,29 @@ fn walk(
     len
 }
 
-// The least capacity on the first n links of the path.
-fn least(caps: &[f64], path: &[usize], n: usize) -> f64
-    requires { Placed caps.now path.now n }
-    ensures { result ≡ Augment.least caps.now (inf false) (take n path.now) }
+// The least capacity on the path.
+fn least(caps: &[f64], path: &[usize]) -> f64
+    requires { Placed caps.now path.now }
+    ensures { result ≡ Augment.least caps.now (inf false) path.now }
 {
     let mut x = infinity();
-    let mut i: usize = 0;
-    while i < n {
-        let c = caps[path[i]];
+    for e in path {
+        let c = caps[*e];
         if c < x {
             x = c;
         }
-        i += 1;
     }
     x
 }
 
-// Takes x off each of the first n links of the path, and gives it to its reverse.
-fn push_path(caps: &mut [f64], path: &[usize], n: usize, x: f64)
-    requires { Placed caps.old path.now n }
-    ensures { caps.new ≡ Augment.push_path x (take n path.now) caps.old }
+// Takes x off each link of the path, and gives it to its reverse.
+fn push_path(caps: &mut [f64], path: &[usize], x: f64)
+    requires { Placed caps.old path.now }
+    ensures { caps.new ≡ Augment.push_path x path.now caps.old }
 {
-    let mut i: usize = 0;
-    while i < n {
-        let e = path[i];
-        caps[e] = caps[e] - x;
-        caps[e ^ 1] = caps[e ^ 1] + x;
-        i += 1;
+    for e in path {
+        caps[*e] -= x;
+        caps[*e ^ 1] += x;
     }
 }
 
@@ -129,7 +122,7 @@ pub(crate) fn augment(
     if n == 0 {
         return 0.0;
     }
-    let x = least(caps, &path, n);
-    push_path(caps, &path, n, x);
+    let x = least(caps, &path[..n]);
+    push_path(caps, &path[..n], x);
     x
 }

@@ -26,9 +26,8 @@ fn scan(
     requires { Scannable heads.now list.now caps.now from to u level.old queue.old tail }
     ensures { Scanned heads.now list.now caps.now from to u level.old queue.old level.new queue.new tail result }
 {
-    let mut j = from;
     let mut t = tail;
-    while j < to {
+    for j in from..to {
         let e = list[j] as usize;
         let v = heads[e] as usize;
         if caps[e] > EPS && level[v] == UNSET {
@@ -36,7 +35,6 @@ fn scan(
             queue[t] = v;
             t += 1;
         }
-        j += 1;
     }
     t
 }

@@ -53,7 +53,7 @@ fn blocking_flow(
         if x <= EPS {
             return Pushes { flow, count };
         }
-        flow = flow + x;
+        flow += x;
         count += 1;
     }
 }

@@ -4,9 +4,7 @@ use Prim.Native.Nat.{ℕ, zero, suc, ◌≤◌, ◌<◌}
 use mathlib.Core.Bool.{true, false}
 use mathlib.Core.Logic.{◌≢◌, inl, inr}
 use mathlib.Core.List.{List, [], ◌∷◌, reverse, reverse-reverse}
-use native.Mathlib.Omega.{arith}
 use lib.ListN.{length, get_or, take}
-use lib.Seq.{length-take-le, get_or-take}
 use lib.Ieee.{Float, of_bits, binary64, inf}
 use Rattle.flow_theory.specs.Network.{Net, tail, residual}
 use Rattle.flow_theory.specs.Augment.{reached, Pushed, push, least, push_path, augment, walk_fuel}
@@ -49,19 +47,15 @@ module _ {N : Net} {starts list : List ℕ} {c : List Float} {L nx : List ℕ} (
       path : Path N c L nx' (reverse (take n p)) N.sink
       path = (subst (Ended N c L) (sym same) ended).2
 
-      known : (i : ℕ) → i < n → get_or p i 0 < length c
+      known : (i : ℕ) → i < length (take n p) → get_or (take n p) i 0 < length c
       known i h =
-          let l : length (take n p) ≡ n = length-take-le n p there in
-          let j : In (get_or (take n p) i 0) (take n p) = in_at (take n p) i 0 (omega arith) in
-          let k : In (get_or p i 0) (take n p) = subst (λ (x : ℕ). In x (take n p)) (get_or-take n p i 0 h) j in
-          on_path N c L nx' (reverse (take n p)) N.sink (get_or p i 0) path
-          (in_reverse (get_or p i 0) (reverse (take n p)) (subst (In (get_or p i 0)) (sym (reverse-reverse (take n p))) k))
+          let e = get_or (take n p) i 0 in
+          on_path N c L nx' (reverse (take n p)) N.sink e path (in_reverse e (reverse (take n p)) (subst (In e) (sym (reverse-reverse (take n p))) (in_at (take n p) i 0 h)))
 
-      pub placed : Placed c p n
+      pub placed : Placed c (take n p)
       placed = record {
-        within = there;
         link_in = known;
-        rev_in = λ i h. let q = W.caps.size ∙ W.good.pairs in rw q (rev_in (get_or p i 0) W.good.added (rw (← q) (known i h)));
+        rev_in = λ i h. let q = W.caps.size ∙ W.good.pairs in rw q (rev_in (get_or (take n p) i 0) W.good.added (rw (← q) (known i h)));
       }
 
       pub reached_push : (x : Float) (d : List Float) → x ≡ least c (inf false) (take n p) → d ≡ push_path x (take n p) c

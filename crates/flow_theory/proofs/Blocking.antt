@@ -14,7 +14,6 @@ use Rattle.flow_theory.specs.Augment.{Pushed, augment}
 use Rattle.flow_theory.specs.Run.{PhaseState, push_counted, no_push, blocking_flow, phase}
 use Rattle.flow_theory.proofs.Links.{WellFormed}
 use Rattle.flow_theory.proofs.Phases.{Phasing, Augmented, opened, augmented, gained, blocking_flow_more, blocking_flow_end}
-use Rattle.flow_theory.proofs.PathRows.{Walkable}
 use Rattle.flow_theory.proofs.RunRows.{PhaseReady, PhaseRan, phase_from}
 
 -- the code's test of 1e-12
@@ -43,17 +42,6 @@ module _ {N : Net} {starts list : List ℕ} {c₀ : List Float} {L nx₀ : List 
   })
 
   module _ {c : List Float} {nx : List ℕ} {flow : Float} {count : ℕ} (I : PhaseGoing N c₀ L t c nx flow count) where
-    pub walkable : Walkable N starts list c L nx
-    walkable = record {
-      good = I.good;
-      laid = D.base.laid;
-      caps = I.phasing.caps;
-      began = c₀;
-      levels = D.levels;
-      size = I.phasing.size;
-      dead = I.phasing.dead;
-    }
-
     spare : (k : ℕ) × Phasing N I.good c₀ L (phase_now flow c nx count) (suc k) × (blocking_flow N L (suc k) (phase_now flow c nx count) ≡ phase_from N L t c₀)
     spare = pick I.fuel I.phasing I.same
       where

@@ -43,11 +43,10 @@ pub record Sought (H list : List ℕ) (c : List Float) (L : List ℕ) (want at t
   pub passed : (j : ℕ) → at ≤ j → j < r → Idle H c L want (get_or list j 0)
   pub found : r < to → Leads H c L want (get_or list r 0)
 
--- the first n links of a path, and their reverses, have capacities
-pub record Placed (c : List Float) (p : List ℕ) (n : ℕ) : Type 0 where
-  pub within : n ≤ length p
-  pub link_in : (i : ℕ) → i < n → get_or p i 0 < length c
-  pub rev_in : (i : ℕ) → i < n → rev (get_or p i 0) < length c
+-- the links of a path, and their reverses, have capacities
+pub record Placed (c : List Float) (p : List ℕ) : Type 0 where
+  pub link_in : (i : ℕ) → i < length p → get_or p i 0 < length c
+  pub rev_in : (i : ℕ) → i < length p → rev (get_or p i 0) < length c
 
 -- how the code's walk ended: so many links on the path, none where there is none; the definition's path has the last link first
 abbrev pub routed : ℕ → List ℕ → List ℕ → Walked

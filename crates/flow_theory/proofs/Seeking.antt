@@ -22,9 +22,6 @@ pub record Seeking (H list : List ℕ) (c : List Float) (L : List ℕ) (want at 
   pub passed : (i : ℕ) → at ≤ i → i < j → Idle H c L want (get_or list i 0)
 
 module _ {H list : List ℕ} {c : List Float} {L : List ℕ} {want at to : ℕ} where
-  pub seek_begins : at ≤ to → Seeking H list c L want at to at
-  seek_begins h = record { begun = omega arith; ends = h; passed = λ i a b. absurd (omega arith) }
-
   module _ {j : ℕ} (I : Seeking H list c L want at to j) where
     pub seek_on : j < to → Idle H c L want (get_or list j 0) → Seeking H list c L want at to (j + 1)
     seek_on h idle = record { begun = let b = I.begun in omega arith; ends = omega arith; passed = λ i a b. pick i a b (eq_or_ne i j) }
@@ -35,9 +32,6 @@ module _ {H list : List ℕ} {c : List Float} {L : List ℕ} {want at to : ℕ} 
 
     pub seek_found : Leads H c L want (get_or list j 0) → Sought H list c L want at to j
     seek_found leads = record { begun = I.begun; ends = I.ends; passed = I.passed; found = λ h. leads }
-
-    pub seek_none : to ≤ j → Sought H list c L want at to j
-    seek_none h = record { begun = I.begun; ends = I.ends; passed = I.passed; found = λ l. absurd (omega arith) }
 
 module _ {N : Net} {starts list : List ℕ} {c : List Float} {L nx₀ p₀ : List ℕ} (W : Walkable N starts list c L nx₀) (room : length nx₀ ≤ length p₀) {u len : ℕ} {p nx : List ℕ} (I : Walking N c L nx₀ p₀ u len p nx) (off : u ≢ N.sink) where
   abbrev from : ℕ

@@ -131,9 +131,6 @@ module _ {N : Net} {starts list : List ℕ} {c : List Float} {L nx₀ p₀ : Lis
     pub u_next : u < length nx
     u_next = let i = u_in in let l = I.next_length in let s = W.size in omega arith
 
-    pub u_level : u < length L
-    u_level = level_in L u low
-
     pub depth_low : len < nodes N
     depth_low = let b = W.levels.bnd u low in let d = I.depth in omega arith
 

@@ -14,9 +14,6 @@ offset_bounds-starts-u c = omega (arith, u_low c.requires.walkable c.requires.ne
 pub bounds-starts-u : goal.bounds-starts-u
 bounds-starts-u c = omega (arith, u_low c.requires.walkable c.requires.next_in_bounds c.loop-u.invariant)
 
-pub overflow_cast-from : goal.overflow_cast-from
-overflow_cast-from c = let r = row_in c.requires.walkable c.requires.next_in_bounds c.loop-u.invariant in record { fits = omega (arith, c.well_formed.1.1.1.0.0) }
-
 pub overflow_add-to : goal.overflow_add-to
 overflow_add-to c = omega (arith, u_low c.requires.walkable c.requires.next_in_bounds c.loop-u.invariant)
 
@@ -25,9 +22,6 @@ offset_bounds-starts-u-in-loop-u c = omega (arith, u_low c.requires.walkable c.r
 
 pub bounds-starts-u-in-loop-u : goal.bounds-starts-u-in-loop-u
 bounds-starts-u-in-loop-u c = omega (arith, u_low c.requires.walkable c.requires.next_in_bounds c.loop-u.invariant)
-
-pub overflow_cast-to : goal.overflow_cast-to
-overflow_cast-to c = let r = row_in c.requires.walkable c.requires.next_in_bounds c.loop-u.invariant in record { fits = omega (arith, c.well_formed.1.1.1.0.0) }
 
 pub offset_bounds-next-u : goal.offset_bounds-next-u
 offset_bounds-next-u c = omega (arith, u_next c.requires.walkable c.requires.next_in_bounds c.loop-u.invariant)
@@ -38,43 +32,14 @@ bounds-next-u c = omega (arith, u_next c.requires.walkable c.requires.next_in_bo
 pub overflow_sub-to : goal.overflow_sub-to
 overflow_sub-to c = omega (arith, row_in c.requires.walkable c.requires.next_in_bounds c.loop-u.invariant)
 
-pub overflow_add-from : goal.overflow_add-from
-overflow_add-from c = omega (arith, row_in c.requires.walkable c.requires.next_in_bounds c.loop-u.invariant, c.well_formed.1.1.1.0.0)
-
-pub overflow_add-len : goal.overflow_add-len
-overflow_add-len c = let l = c.loop-u.invariant.path_length in omega (arith, path_room c.requires.walkable c.requires.next_in_bounds c.loop-u.invariant, c.well_formed.1.1.1.1.1.1.1.1.0.0, c.well_formed.1.1.1.1.1.1.1.1.0.1)
-
 pub seek-j-requires : goal.seek-j-requires
 seek-j-requires c = seekable c.requires.walkable c.requires.next_in_bounds c.loop-u.invariant c.loop-u-test.true c.if-at-to.true
-
-pub overflow_sub-next : goal.overflow_sub-next
-overflow_sub-next c = let b = c.seek-j.ensures.begun in omega arith
-
-pub offset_bounds-next-u-then-at-to : goal.offset_bounds-next-u-then-at-to
-offset_bounds-next-u-then-at-to c = omega (arith, u_next c.requires.walkable c.requires.next_in_bounds c.loop-u.invariant)
 
 pub bounds-next-u-then-at-to : goal.bounds-next-u-then-at-to
 bounds-next-u-then-at-to c = omega (arith, u_next c.requires.walkable c.requires.next_in_bounds c.loop-u.invariant)
 
-pub offset_bounds-list-j : goal.offset_bounds-list-j
-offset_bounds-list-j c = let t = c.if-j-to.true in omega (arith, row_in c.requires.walkable c.requires.next_in_bounds c.loop-u.invariant, c.well_formed.1.1.1.0.0)
-
 pub bounds-list-j : goal.bounds-list-j
 bounds-list-j c = let t = c.if-j-to.true in omega (arith, row_in c.requires.walkable c.requires.next_in_bounds c.loop-u.invariant)
-
-pub offset_bounds-path-len : goal.offset_bounds-path-len
-offset_bounds-path-len c = let l = c.loop-u.invariant.path_length in omega (arith, path_room c.requires.walkable c.requires.next_in_bounds c.loop-u.invariant, c.well_formed.1.1.1.1.1.1.1.1.0.0, c.well_formed.1.1.1.1.1.1.1.1.0.1)
-
-pub bounds-path-len : goal.bounds-path-len
-bounds-path-len c = let l = c.loop-u.invariant.path_length in omega (arith, path_room c.requires.walkable c.requires.next_in_bounds c.loop-u.invariant, c.well_formed.1.1.1.1.1.1.1.1.0.0, c.well_formed.1.1.1.1.1.1.1.1.0.1)
-
-pub overflow_add-len-then-j-to : goal.overflow_add-len-then-j-to
-overflow_add-len-then-j-to c = let l = c.loop-u.invariant.path_length in omega (arith, path_room c.requires.walkable c.requires.next_in_bounds c.loop-u.invariant, c.well_formed.1.1.1.1.1.1.1.1.0.0, c.well_formed.1.1.1.1.1.1.1.1.0.1)
-
-pub offset_bounds-heads-e : goal.offset_bounds-heads-e
-offset_bounds-heads-e c =
-    let link : (get_or c.args.list.now c.seek-j.result 0 < length c.args.heads.now) × (get_or c.args.list.now c.seek-j.result 0 < length c.args.caps.now) × (get_or c.args.heads.now (get_or c.args.list.now c.seek-j.result 0) 0 < length c.args.level.now) = (seekable c.requires.walkable c.requires.next_in_bounds c.loop-u.invariant c.loop-u-test.true c.if-at-to.true).links_in c.seek-j.result c.seek-j.ensures.begun c.if-j-to.true in
-    omega (arith, link.0)
 
 pub bounds-heads-e : goal.bounds-heads-e
 bounds-heads-e c =
@@ -96,29 +61,17 @@ loop-u-preserved-else-j-to c = sought_none c.requires.walkable c.requires.next_i
 pub returns-then-len-eq0 : goal.returns-then-len-eq0
 returns-then-len-eq0 c = record { within = omega arith; same = blocked_ends c.requires.walkable c.requires.next_in_bounds c.loop-u.invariant c.loop-u-test.true c.if-at-to.false c.if-len-eq0.true }
 
-pub offset_bounds-path-len-else-at-to : goal.offset_bounds-path-len-else-at-to
-offset_bounds-path-len-else-at-to c = let l = c.loop-u.invariant.path_length in omega (arith, path_room c.requires.walkable c.requires.next_in_bounds c.loop-u.invariant, c.well_formed.1.1.1.1.1.1.1.1.0.1)
-
-pub bounds-path-len-else-at-to : goal.bounds-path-len-else-at-to
-bounds-path-len-else-at-to c = let l = c.loop-u.invariant.path_length in omega (arith, path_room c.requires.walkable c.requires.next_in_bounds c.loop-u.invariant, c.well_formed.1.1.1.1.1.1.1.1.0.1)
-
 pub offset_bounds-heads-e-else-at-to : goal.offset_bounds-heads-e-else-at-to
 offset_bounds-heads-e-else-at-to c = omega (arith, back_in c.requires.walkable c.requires.next_in_bounds c.loop-u.invariant c.loop-u-test.true c.if-at-to.false c.if-len-eq0.false)
 
 pub bounds-heads-e-else-at-to : goal.bounds-heads-e-else-at-to
 bounds-heads-e-else-at-to c = omega (arith, back_in c.requires.walkable c.requires.next_in_bounds c.loop-u.invariant c.loop-u-test.true c.if-at-to.false c.if-len-eq0.false)
 
-pub offset_bounds-next-u-else-at-to : goal.offset_bounds-next-u-else-at-to
-offset_bounds-next-u-else-at-to c = let l = c.loop-u.invariant.next_length in omega (arith, from_next c.requires.walkable c.requires.next_in_bounds c.loop-u.invariant c.loop-u-test.true c.if-at-to.false c.if-len-eq0.false, c.well_formed.1.1.1.1.1.1.1.0.1)
-
 pub bounds-next-u-else-at-to : goal.bounds-next-u-else-at-to
 bounds-next-u-else-at-to c = let l = c.loop-u.invariant.next_length in omega (arith, from_next c.requires.walkable c.requires.next_in_bounds c.loop-u.invariant c.loop-u-test.true c.if-at-to.false c.if-len-eq0.false, c.well_formed.1.1.1.1.1.1.1.0.1)
 
 pub overflow_add-next : goal.overflow_add-next
 overflow_add-next c = record { fits = omega (arith, from_mark c.requires.walkable c.requires.next_in_bounds c.loop-u.invariant c.loop-u-test.true c.if-at-to.false c.if-len-eq0.false, c.well_formed.1.1.1.0.0) }
-
-pub offset_bounds-next-u-else-at-to-2 : goal.offset_bounds-next-u-else-at-to-2
-offset_bounds-next-u-else-at-to-2 c = let l = c.loop-u.invariant.next_length in omega (arith, from_next c.requires.walkable c.requires.next_in_bounds c.loop-u.invariant c.loop-u-test.true c.if-at-to.false c.if-len-eq0.false, c.well_formed.1.1.1.1.1.1.1.0.1)
 
 pub bounds-next-u-else-at-to-2 : goal.bounds-next-u-else-at-to-2
 bounds-next-u-else-at-to-2 c = let l = c.loop-u.invariant.next_length in omega (arith, from_next c.requires.walkable c.requires.next_in_bounds c.loop-u.invariant c.loop-u-test.true c.if-at-to.false c.if-len-eq0.false, c.well_formed.1.1.1.1.1.1.1.0.1)

@@ -1,4 +1,4 @@
-use mathlib.Core.Path.{◌≡◌, subst, subst⁻¹, ◌∙◌}
+use mathlib.Core.Path.{◌≡◌, subst, ◌∙◌}
 use Prim.Native.Nat.{ℕ}
 use native.Mathlib.Omega.{arith}
 use lib.Ieee.{Float}
@@ -6,9 +6,8 @@ use mathlib.Core.List.{List}
 use Rattle.flow_theory.specs.Augment.{Pushed}
 use Rattle.flow_theory.specs.Augment
 use Rattle.flow_theory.specs.Rows.{network}
-use Rattle.flow_theory.proofs.PathRows.{Walkable}
 use Rattle.flow_theory.proofs.Outs.{network_nodes}
-use Rattle.flow_theory.proofs.Blocking.{phase_begins, walkable, phase_ends, phase_again, push_room}
+use Rattle.flow_theory.proofs.Blocking.{phase_begins, phase_ends, phase_again, push_room}
 use Rattle.flow_core.proofs.run.blocking_flow.Goals as goal
 
 -- what a push came to, on the network of n nodes
@@ -18,20 +17,8 @@ Answered H s t c level next x d next' n = ◌≡◌ {A = Pushed} (record { amoun
 pub loop-source-init : goal.loop-source-init
 loop-source-init c = phase_begins c.requires
 
-pub augment-x-requires : goal.augment-x-requires
-augment-x-requires c = subst⁻¹ (λ (n : ℕ). Walkable (network c.args.heads.now n c.args.source c.args.sink) c.args.starts.now c.args.list.now c.loop-source.caps c.args.level.now c.loop-source.next) (c.loop-source.invariant.phasing.size ∙ network_nodes _ _) (walkable c.requires c.loop-source.invariant)
-
-pub shape_of-caps-then-x : goal.shape_of-caps-then-x
-shape_of-caps-then-x c = omega (arith, c.augment-x.auto.caps, c.loop-source.invariant.phasing.caps.size, c.requires.base.caps.size)
-
-pub shape_of-next-then-x : goal.shape_of-next-then-x
-shape_of-next-then-x c = omega (arith, c.augment-x.auto.next, (c.loop-source.invariant.phasing.size ∙ network_nodes _ _))
-
 pub returns-then-x : goal.returns-then-x
 returns-then-x c = phase_ends c.requires c.loop-source.invariant (subst (Answered c.args.heads.now c.args.source c.args.sink c.loop-source.caps c.args.level.now c.loop-source.next c.augment-x.result c.augment-x.new.caps c.augment-x.new.next) (c.loop-source.invariant.phasing.size ∙ network_nodes _ _) c.augment-x.ensures) c.if-x.true
-
-pub overflow_add-count : goal.overflow_add-count
-overflow_add-count c = let r = push_room c.requires c.loop-source.invariant (subst (Answered c.args.heads.now c.args.source c.args.sink c.loop-source.caps c.args.level.now c.loop-source.next c.augment-x.result c.augment-x.new.caps c.augment-x.new.next) (c.loop-source.invariant.phasing.size ∙ network_nodes _ _) c.augment-x.ensures) c.if-x.false in omega (arith, c.well_formed.0.0)
 
 pub loop-source-smaller : goal.loop-source-smaller
 loop-source-smaller c = let r = push_room c.requires c.loop-source.invariant (subst (Answered c.args.heads.now c.args.source c.args.sink c.loop-source.caps c.args.level.now c.loop-source.next c.augment-x.result c.augment-x.new.caps c.augment-x.new.next) (c.loop-source.invariant.phasing.size ∙ network_nodes _ _) c.augment-x.ensures) c.if-x.false in omega (arith, c.well_formed.0.0)

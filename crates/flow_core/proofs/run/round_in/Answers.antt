@@ -1,9 +1,6 @@
 -- `run::round_in` meets its contract: the sink's level decides (Rounds.round-cut, round-phase).
-use Rattle.flow_theory.proofs.Rounds.{sink_level_lem, round_cut, phase_ready, round_phase}
+use Rattle.flow_theory.proofs.Rounds.{round_cut, phase_ready, round_phase}
 use Rattle.flow_core.proofs.run.round_in.Goals as goal
-
-pub bounds-level-sink : goal.bounds-level-sink
-bounds-level-sink c = sink_level_lem c.requires c.levels.ensures
 
 pub returns-then-level-sink : goal.returns-then-level-sink
 returns-then-level-sink c = round_cut c.requires c.levels.ensures c.args.before c.args.before 0 c.if-level-sink.true

@@ -9,7 +9,7 @@ use Rattle.flow_theory.specs.Rows.{network}
 use Rattle.flow_theory.proofs.RunRows.{RoundRan}
 use Rattle.flow_theory.proofs.Outs.{network_nodes}
 use Rattle.flow_theory.proofs.Rounds.{nodes_few}
-use Rattle.flow_theory.proofs.Running.{run_begins, runnable, run_ends, run_again, counts_few}
+use Rattle.flow_theory.proofs.Running.{run_begins, run_ends, run_again, counts_few}
 use Rattle.flow_core.proofs.run.run.Goals as goal
 
 -- what the round came to
@@ -18,12 +18,6 @@ Outcome H n s t before c flow count d b = RoundRan (network H n s t) before c b 
 
 pub loop-r-init : goal.loop-r-init
 loop-r-init c = run_begins c.requires
-
-pub one_round-r-requires : goal.one_round-r-requires
-one_round-r-requires c = runnable c.requires c.loop-r.invariant
-
-pub shape_of-caps-then-not-r : goal.shape_of-caps-then-not-r
-shape_of-caps-then-not-r c = omega (arith, c.one_round-r.auto.caps, c.loop-r.invariant.running.caps.size, c.requires.caps.size)
 
 pub returns-then-not-r : goal.returns-then-not-r
 returns-then-not-r c = run_ends c.requires c.loop-r.invariant c.one_round-r.result.flow c.one_round-r.result.pushes (subst (Outcome c.args.heads.now c.args.nodes c.args.source c.args.sink c.loop-r.flow c.loop-r.caps c.one_round-r.result.flow c.one_round-r.result.pushes c.one_round-r.new.caps) (not-true c.one_round-r.result.reached c.if-not-r.true) c.one_round-r.ensures)
