@@ -2,16 +2,15 @@
 use mathlib.Core.Path.{◌≡◌, refl, sym, ap, ◌∙◌}
 use mathlib.Core.Bool.{Bool}
 use Prim.Native.Nat.{ℕ, suc, ◌+◌, ◌-◌, ◌≤◌, ◌<◌}
-use mathlib.Core.List.{List, [], ◌++◌, map}
+use mathlib.Core.List.{List, [], map}
 use native.Mathlib.Omega.{arith}
 use native.Mathlib.Numerals.{add-one}
 use lib.Dec.{eqb}
 use lib.Ieee.{Float, binary64, div, nan}
-use lib.ListN.{length, get_or, take, drop, set, length-map, get_or-map}
-use lib.Seq.{get_or-drop, drop-drop, length-take-le, get_or-append-add}
+use lib.ListN.{length, get_or, take, drop, length-map}
+use lib.Seq.{drop-drop, length-take-le}
 use borrow.Author.Tests.{eq-eqb, ne_eqb}
 use Rattle.numbers.specs.Lists.{span}
-use Rattle.numbers.proofs.Over.{over, over_next}
 use Rattle.bisim_core.specs.Data.{Columns, columns}
 use Rattle.bisim_core.specs.Model.{edge_at}
 use Rattle.epsdelta_theory.proofs.RowsIn.{LaidJumps}
@@ -54,21 +53,6 @@ quotients x m d = map (λ (p : Float). div binary64 p x) (take m d)
 
 pub quotients_length : (x : Float) (m : ℕ) (d : List Float) → m ≤ length d → length (quotients x m d) ≡ m
 quotients_length x m d h = length-map (take m d) (λ (p : Float). div binary64 p x) ∙ length-take-le m d h
-
--- a turn that maps the next entry in its place
-pub map_next : {A : Type 0} (f : A → A) (d out : List A) (i : ℕ) (z : A) → i < length d → out ≡ over (map f d) i d → set out i (f (get_or out i z)) ≡ over (map f d) (i + 1) d
-map_next {A} f d out i z h e =
-    over_next (map f d) d out i (f z) (f (get_or out i z)) e
-    (ap f (ap (λ (o : List A). get_or o i z) e ∙ at) ∙ sym (get_or-map f d i z))
-    (let n = length-map d f in omega arith) h
-  where
-    at : get_or (over (map f d) i d) i z ≡ get_or d i z
-    at =
-        let q = take i (map f d) in
-        let n : length q ≡ i = length-take-le i (map f d) (let l = length-map d f in omega arith) in
-        let k : length q + 0 ≡ i = omega arith in
-        let y : i + 0 ≡ i = omega arith in
-        ap (λ (j : ℕ). get_or (q ++ drop i d) j z) (sym k) ∙ get_or-append-add q (drop i d) 0 z ∙ get_or-drop i d 0 z ∙ ap (λ (j : ℕ). get_or d j z) y
 
 -- ---- the loop over the edges a up to b of state s, before edge i: m jumps are made, and the edges still to come make those of the row of them
 

@@ -2,20 +2,18 @@
 use mathlib.Core.Path.{◌≡◌, refl, sym, ap, ◌∙◌}
 use mathlib.Core.Logic.{◌≢◌, ◌⊎◌, inl, inr}
 use mathlib.Core.Bool.{Bool, true, false, ◌&&◌, true≢false}
-use Prim.Native.Nat.{ℕ, zero, suc, ◌+◌, ◌≤◌, ◌<◌}
+use Prim.Native.Nat.{ℕ, zero, suc, ◌≤◌, ◌<◌}
 use mathlib.Core.List.{List, [], ◌∷◌, ◌++◌, map}
 use native.Mathlib.Omega.{arith}
-use native.Mathlib.Numerals.{add-one}
-use lib.Ieee.{Float, nan, inf, binary64, neg, sub}
-use lib.ListN.{length, get_or, take, drop, set, length-map, get_or-map}
-use lib.Seq.{slice, slice-cons, slice_empty, get_or-take, get_or-drop, length-take-le, get_or-append-add}
+use lib.Ieee.{Float, inf, binary64, neg, sub}
+use lib.ListN.{length, take}
 use lib.Dec.{leb}
 use borrow.Author.Tests.{ltb-false, le-leb, lt-leb}
+use Rattle.std.specs.List.{fold}
 use Rattle.numbers.specs.Lists as lists
 use Rattle.numbers.specs.Real.{nought, least_observation, greatest_weight}
 use Rattle.numbers.specs.Refuse.{check}
 use Rattle.numbers.specs.Choice.{smaller, larger}
-use Rattle.numbers.proofs.Over.{over, over_next, over_done}
 use Rattle.numbers.proofs.Refuses.{check_none}
 use Rattle.parts.specs.Earlier.{earlier}
 use Rattle.parts.proofs.Earlier.{both_four, neither}
@@ -26,24 +24,17 @@ use Rattle.chain_theory.specs.declared.ChainShape.{ChainShape}
 use Rattle.normalise.specs.Outcome.{normalise_refusal, ends, settled, normalised, scaling, scaled_over, scaled_if, scale_together}
 use Rattle.normalise.specs.declared.Normalised.TheVariants.{Scale, Refused}
 
--- ---- the least and the greatest: the numbers still to come, from i up to n
+-- ---- the least and the greatest
 
-module _ (l : List Float) (n i : ℕ) (x : Float) (h : i < n) (k : n ≤ length l) where
-  pub least_next : least_from (smaller x (get_or l i nan)) (slice (i + 1) n l) ≡ least_from x (slice i n l)
-  unfolding least_from
-  least_next = rw (add-one i) (sym (ap (least_from x) (slice-cons i n l nan h k)))
-
-  pub greatest_next : greatest_from (larger x (get_or l i nan)) (slice (i + 1) n l) ≡ greatest_from x (slice i n l)
-  unfolding greatest_from
-  greatest_next = rw (add-one i) (sym (ap (greatest_from x) (slice-cons i n l nan h k)))
-
-pub least_end : (l : List Float) (n i : ℕ) (x : Float) → i ≡ n → x ≡ least_from x (slice i n l)
+pub least_is : (x : Float) (l : List Float) → fold smaller x l ≡ least_from x l
 unfolding least_from
-least_end l n i x e = sym (ap (least_from x) (ap (λ (j : ℕ). slice j n l) e ∙ slice_empty n l))
+least_is x [] = refl
+least_is x (y ∷ l) = least_is (smaller x y) l
 
-pub greatest_end : (l : List Float) (n i : ℕ) (x : Float) → i ≡ n → x ≡ greatest_from x (slice i n l)
+pub greatest_is : (x : Float) (l : List Float) → fold larger x l ≡ greatest_from x l
 unfolding greatest_from
-greatest_end l n i x e = sym (ap (greatest_from x) (ap (λ (j : ℕ). slice j n l) e ∙ slice_empty n l))
+greatest_is x [] = refl
+greatest_is x (y ∷ l) = greatest_is (larger x y) l
 
 -- over one list, then over another
 least_append : (x : Float) (a b : List Float) → least_from (least_from x a) b ≡ least_from x (a ++ b)
@@ -55,32 +46,6 @@ greatest_append : (x : Float) (a b : List Float) → greatest_from (greatest_fro
 unfolding greatest_from
 greatest_append x [] b = refl
 greatest_append x (y ∷ a) b = greatest_append (larger x y) a b
-
--- ---- numbers scaled one after the other
-
-module _ (lo scale : Float) (n : ℕ) (d : List Float) (h : n ≤ length d) where
-  abbrev pub Those : List Float
-  Those = map (scaled lo scale) (take n d)
-
-  those_length : length Those ≡ n
-  those_length = length-map (take n d) (scaled lo scale) ∙ length-take-le n d h
-
-  pub scale_next : (i : ℕ) (out : List Float) (x : Float) → i < n → out ≡ over Those i d → x ≡ scaled lo scale (get_or out i nan) → set out i x ≡ over Those (i + 1) d
-  scale_next i out x k e f =
-      over_next Those d out i (scaled lo scale nan) x e
-      (f ∙ ap (scaled lo scale) (ap (λ (o : List Float). get_or o i nan) e ∙ at) ∙ sym (get_or-map (scaled lo scale) (take n d) i nan ∙ ap (scaled lo scale) (get_or-take n d i nan k)))
-      (let m = those_length in omega arith) (omega arith)
-    where
-      at : get_or (over Those i d) i nan ≡ get_or d i nan
-      at =
-          let q = take i Those in
-          let m : length q ≡ i = length-take-le i Those (let l = those_length in omega arith) in
-          let z : length q + 0 ≡ i = omega arith in
-          let y : i + 0 ≡ i = omega arith in
-          ap (λ (j : ℕ). get_or (q ++ drop i d) j nan) (sym z) ∙ get_or-append-add q (drop i d) 0 nan ∙ get_or-drop i d 0 nan ∙ ap (λ (j : ℕ). get_or d j nan) y
-
-  pub scale_done : (i : ℕ) (out : List Float) → i ≡ n → out ≡ over Those i d → out ≡ lists.over Those d
-  scale_done i out k e = over_done Those d out i e (k ∙ sym those_length)
 
 -- ---- both lists: the least and the greatest go over the one and then over the other
 

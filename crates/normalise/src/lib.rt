@@ -20,32 +20,18 @@ pub enum Normalised {
     Refused(u32),
 }
 
-// The least of the first n numbers of a list, x if none is less.
-fn least_from(x: f64, list: &[f64], n: usize) -> f64
-    requires { n ≤ length list.now }
-    ensures { result ≡ least_from x (take n list.now) }
+// The least number of a list, x if none is less.
+fn least_from(x: f64, list: &[f64]) -> f64
+    ensures { result ≡ least_from x list.now }
 {
-    let mut least = x;
-    let mut i = 0;
-    while i < n {
-        least = smaller(least, list[i]);
-        i += 1;
-    }
-    least
+    list.iter().fold(x, |least, y| smaller(least, *y))
 }
 
-// The greatest of the first n numbers of a list, x if none is greater.
-fn greatest_from(x: f64, list: &[f64], n: usize) -> f64
-    requires { n ≤ length list.now }
-    ensures { result ≡ greatest_from x (take n list.now) }
+// The greatest number of a list, x if none is greater.
+fn greatest_from(x: f64, list: &[f64]) -> f64
+    ensures { result ≡ greatest_from x list.now }
 {
-    let mut greatest = x;
-    let mut i = 0;
-    while i < n {
-        greatest = larger(greatest, list[i]);
-        i += 1;
-    }
-    greatest
+    list.iter().fold(x, |greatest, y| larger(greatest, *y))
 }
 
 // How far x is above the least, divided by the scale; 0 where that is not above 0.
@@ -59,15 +45,12 @@ fn scaled(least: f64, scale: f64, x: f64) -> f64
     }
 }
 
-// The first n numbers of a list scaled, the others as they were.
-fn rescale(list: &mut [f64], n: usize, least: f64, scale: f64)
-    requires { n ≤ length list.old }
-    ensures { list.new ≡ over (map (Chain.scaled least scale) (take n list.old)) list.old }
+// Each number of a list scaled.
+fn rescale(list: &mut [f64], least: f64, scale: f64)
+    ensures { list.new ≡ map (Chain.scaled least scale) list.old }
 {
-    let mut i = 0;
-    while i < n {
-        list[i] = scaled(least, scale, list[i]);
-        i += 1;
+    for x in list.iter_mut() {
+        *x = scaled(least, scale, *x);
     }
 }
 
@@ -77,12 +60,12 @@ fn scale_in(left: &mut [f64], left_count: usize, right: &mut [f64], right_count:
     ensures { Outcome.scaling result left.new right.new ≡ Outcome.scaled_over (Chain.normalise (take left_count left.old) (take right_count right.old)) left.old right.old }
 {
     let top = infinity();
-    let low = least_from(top, left, left_count);
-    let least = least_from(low, right, right_count);
-    let high = greatest_from(-top, left, left_count);
-    let scale = greatest_from(high, right, right_count) - least;
-    rescale(left, left_count, least, scale);
-    rescale(right, right_count, least, scale);
+    let low = least_from(top, &left[..left_count]);
+    let least = least_from(low, &right[..right_count]);
+    let high = greatest_from(-top, &left[..left_count]);
+    let scale = greatest_from(high, &right[..right_count]) - least;
+    rescale(&mut left[..left_count], least, scale);
+    rescale(&mut right[..right_count], least, scale);
     scale
 }
 
@@ -95,10 +78,7 @@ pub fn scale_together(
 ) -> f64
     ensures { Outcome.scaling result left.new right.new ≡ Outcome.scale_together left_count left.old right_count right.old }
 {
-    if left.len() < left_count {
-        return 0.0;
-    }
-    if right.len() < right_count {
+    if left.len() < left_count || right.len() < right_count {
         return 0.0;
     }
     scale_in(left, left_count, right, right_count)

@@ -2,4 +2,5 @@ pub mod Earlier
 pub mod Inserts
 pub mod Laid
 pub mod Lent
+pub mod Maps
 pub mod Models

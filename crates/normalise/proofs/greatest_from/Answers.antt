@@ -1,21 +1,11 @@
-use mathlib.Core.Path.{refl, ap, ◌∙◌}
-use Prim.Native.Nat.{◌+◌}
-use native.Mathlib.Omega.{arith}
-use lib.Ieee.{Float}
-use lib.Seq.{slice}
-use Rattle.chain_theory.specs.Chain.{greatest_from}
-use Rattle.normalise.proofs.Scaling.{greatest_next, greatest_end}
+-- A fold by `larger`.
+use Rattle.std.proofs.Common.{arith, ◌∙◌}
+use borrow.Author.Tests.{tests}
+use Rattle.std.proofs.lemmas.Iterator.{YieldsList-from_slice}
+use Rattle.std.proofs.lemmas.Iterator.Consumers.{fold_from_yields_List}
+use Rattle.numbers.specs.Choice.{larger}
+use Rattle.normalise.proofs.Scaling.{greatest_is}
 use Rattle.normalise.proofs.greatest_from.Goals as goal
 
-pub loop-i-init : goal.loop-i-init
-loop-i-init c = (omega arith, refl)
-
-pub loop-i-preserved : goal.loop-i-preserved
-loop-i-preserved c =
-    (omega arith, ap (λ (z : Float). greatest_from z (slice (c.loop-i.i + 1) c.args.n c.args.list.now)) c.larger-greatest.ensures ∙ greatest_next c.args.list.now c.args.n c.loop-i.i c.loop-i.greatest c.loop-i-test.true c.requires ∙ c.loop-i.invariant.1)
-
 pub returns : goal.returns
-returns c =
-    let h = c.loop-i-test.false in
-    let l = c.loop-i.invariant.0 in
-    greatest_end c.args.list.now c.args.n c.loop-i.i c.loop-i.greatest (omega arith) ∙ c.loop-i.invariant.1
+returns c = fold_from_yields_List _ larger _ _ c.fold.ensures.ran (YieldsList-from_slice c.args.list.now cc) (λ a x b q k. grind (arith, tests)) ∙ greatest_is c.args.x c.args.list.now

@@ -1,14 +1,8 @@
--- The invariant: the first i numbers are those scaled, the rest as they were. A turn scales the next.
-use mathlib.Core.Path.{◌≡◌}
-use Prim.Native.Nat.{◌-◌, ◌≤◌}
-use lib.ListN.{length, take}
-use mathlib.Core.List.{map}
+-- The invariant: the numbers passed are scaled, the rest as they were.
+use Rattle.std.proofs.Common.{◌≡◌, map}
 use Rattle.numbers.proofs.Over.{over}
 use Rattle.chain_theory.specs.Chain.{scaled}
 use Rattle.normalise.proofs.rescale.Given as goal
 
-abbrev pub invariant-loop-i : goal.invariant-loop-i
-invariant-loop-i l = (l.i ≤ l.n) × (length l.list ≡ length l.initial.list) × (l.list ≡ over (map (scaled l.least l.scale) (take l.n l.initial.list)) l.i l.initial.list)
-
-abbrev pub decreases-loop-i : goal.decreases-loop-i
-decreases-loop-i l = l.n - l.i
+abbrev pub invariant-loop-x : goal.invariant-loop-x
+invariant-loop-x l = l.list ≡ over (map (scaled l.least l.scale) l.initial.list) l.x-index l.initial.list

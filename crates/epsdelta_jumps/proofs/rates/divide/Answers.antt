@@ -1,6 +1,6 @@
 -- A turn divides the next.
 use lib.Ieee.{Float, binary64, div}
-use Rattle.epsdelta_jumps.proofs.Edges.{map_next}
+use Rattle.parts.proofs.Maps.{map_next}
 use Rattle.epsdelta_jumps.proofs.rates.divide.Goals as goal
 
 pub loop-p-preserved : goal.loop-p-preserved
