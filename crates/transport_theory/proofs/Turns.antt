@@ -33,7 +33,7 @@ unset_large = let l : 2176 < 18446744073709551615 = lit< tt in omega arith
 -- ---- the push
 
 module _ {N : Net} {w p : List ℕ} {c : List Float} (M : Movable N w c p) {q : List ℕ} {home : Bool} {n : ℕ} (W : Walked N w q home n) where
-  pub move_placed : Placed c q n
+  pub move_placed : Placed c (take n q)
   move_placed = path_placed N w q home n c W M.caps_size M.route_in
 
   move_ships : (x : Float) (k : ℕ) → move N false w (shipment c x k) ≡ ship (home && not (le (least c x (take n q)) eps)) (least c x (take n q)) (take n q) (shipment c x k)

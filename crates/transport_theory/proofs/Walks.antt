@@ -7,8 +7,8 @@ use mathlib.Core.List.{List, [], ◌∷◌, ◌++◌, append-nil}
 use native.Mathlib.Omega.{arith}
 use native.Mathlib.Numerals.{add-one}
 use lib.Bits.{bit_xor}
-use lib.ListN.{length, get_or, set, take, length-set}
-use lib.Seq.{slice, slice_empty, slice-cons, take-suc-set, get_or-take, length-take-le}
+use lib.ListN.{length, get_or, set, take, length-set, drop, drop_of_length-le}
+use lib.Seq.{take-suc-set, drop-cons}
 use lib.Ieee.{Float, nan, lt}
 use borrow.Author.Tests.{eq-eqb, ne_eqb}
 use Rattle.numbers.specs.Choice.{choose, smaller}
@@ -112,35 +112,33 @@ module _ (H : List ℕ) (k s t : ℕ) {w p₀ : List ℕ} (W : Walkable (network
 
 -- the links of the path, and their reverses, are there
 pub path_placed : (N : Net) (w p : List ℕ) (home : Bool) (n : ℕ) (c : List Float) → Walked N w p home n → length c ≡ links N
-    → ((e : ℕ) → In e (route N w (suc (nodes N)) N.sink) → (e < links N) × (rev e < links N)) → Placed c p n
-path_placed N w p home n c W size inn = record { within = W.within; link_in = λ i h. rw size (each i h).0; rev_in = λ i h. rw size (each i h).1 }
+    → ((e : ℕ) → In e (route N w (suc (nodes N)) N.sink) → (e < links N) × (rev e < links N)) → Placed c (take n p)
+path_placed N w p home n c W size inn = record { link_in = λ i h. rw size (each i h).0; rev_in = λ i h. rw size (each i h).1 }
   where
-    each : (i : ℕ) → i < n → (get_or p i 0 < links N) × (rev (get_or p i 0) < links N)
-    each i h = subst (λ (x : ℕ). (x < links N) × (rev x < links N)) (get_or-take n p i 0 h)
-        (inn (get_or (take n p) i 0) (subst (In (get_or (take n p) i 0)) W.path_is (in_at (take n p) i 0 (let l = length-take-le n p W.within in omega arith))))
+    each : (i : ℕ) → i < length (take n p) → (get_or (take n p) i 0 < links N) × (rev (get_or (take n p) i 0) < links N)
+    each i h = inn (get_or (take n p) i 0) (subst (In (get_or (take n p) i 0)) W.path_is (in_at (take n p) i 0 h))
 
 -- ---- the least of what remains and the capacities on the path
 
 -- what is still to come of the path leads from x to the least
-pub record LeastFrom (y : Float) (c : List Float) (p : List ℕ) (n i : ℕ) (x : Float) : Type 0 where
-  pub upto : i ≤ n
-  pub same : least c x (slice i n p) ≡ least c y (take n p)
+pub record LeastFrom (y : Float) (c : List Float) (p : List ℕ) (i : ℕ) (x : Float) : Type 0 where
+  pub upto : i ≤ length p
+  pub same : least c x (drop i p) ≡ least c y p
 
-module _ {y : Float} {c : List Float} {p : List ℕ} {n : ℕ} (P : Placed c p n) where
-  module _ {i : ℕ} {x : Float} (I : LeastFrom y c p n i x) (more : i < n) where
-    step_least : (b : Bool) → lt (get_or c (get_or p i 0) nan) x ≡ b → least c (choose b (get_or c (get_or p i 0) nan) x) (slice (suc i) n p) ≡ least c y (take n p)
+module _ {y : Float} {c : List Float} {p : List ℕ} where
+  module _ {i : ℕ} {x : Float} (I : LeastFrom y c p i x) (more : i < length p) where
+    step_least : (b : Bool) → lt (get_or c (get_or p i 0) nan) x ≡ b → least c (choose b (get_or c (get_or p i 0) nan) x) (drop (suc i) p) ≡ least c y p
     unfolding least smaller left
-    step_least b t = ap (λ (d : Bool). least c (choose d (get_or c (get_or p i 0) nan) x) (slice (suc i) n p)) (sym t) ∙ ap (least c x) (sym (slice-cons i n p 0 more P.within)) ∙ I.same
+    step_least b t = ap (λ (d : Bool). least c (choose d (get_or c (get_or p i 0) nan) x) (drop (suc i) p)) (sym t) ∙ ap (least c x) (sym (drop-cons p i 0 more)) ∙ I.same
 
-    pub lower : lt (get_or c (get_or p i 0) nan) x ≡ true → (z : Float) → z ≡ get_or c (get_or p i 0) nan → LeastFrom y c p n (i + 1) z
+    pub lower : lt (get_or c (get_or p i 0) nan) x ≡ true → (z : Float) → z ≡ get_or c (get_or p i 0) nan → LeastFrom y c p (i + 1) z
     lower t z q = record { upto = omega arith; same = rw (add-one i, q) (step_least true t) }
 
-    pub stays : lt (get_or c (get_or p i 0) nan) x ≡ false → (z : Float) → z ≡ x → LeastFrom y c p n (i + 1) z
+    pub stays : lt (get_or c (get_or p i 0) nan) x ≡ false → (z : Float) → z ≡ x → LeastFrom y c p (i + 1) z
     stays t z q = record { upto = omega arith; same = rw (add-one i, q) (step_least false t) }
 
-  pub least_ends : {i : ℕ} {x : Float} → LeastFrom y c p n i x → n ≤ i → x ≡ least c y (take n p)
+  pub least_ends : {i : ℕ} {x : Float} → LeastFrom y c p i x → length p ≤ i → x ≡ least c y p
   unfolding least
   least_ends {i} {x} I le =
       let e = I.upto in
-      let z : i ≡ n = omega arith in
-      ap (least c x) (sym (slice_empty n p) ∙ ap (λ (j : ℕ). slice j n p) (sym z)) ∙ I.same
+      ap (least c x) (sym (drop_of_length-le p (omega arith))) ∙ I.same
