@@ -30,12 +30,12 @@ intern_append known (x ∷ xs) ys = intern_append (noted (ltb (seek x known) (le
 
 -- ---- does a transition lead to another state
 
-pub leads_not : (z e : Bool) → z ≡ true → false ≡ not (z || e)
+pub leads_not : (z e : Bool) → not z ≡ false → not z ≡ not (z || e)
 leads_not true e h = refl
-leads_not false e h = absurd (false≢true h)
+leads_not false e h = absurd (true≢false h)
 
-pub leads_if : (z e : Bool) → z ≡ false → not e ≡ not (z || e)
-leads_if true e h = absurd (true≢false h)
+pub leads_if : (z e : Bool) → not z ≡ true → not e ≡ not (z || e)
+leads_if true e h = absurd (false≢true h)
 leads_if false e h = refl
 
 -- ---- the targets of one edge more

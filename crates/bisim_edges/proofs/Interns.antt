@@ -6,7 +6,7 @@ use mathlib.Core.List.{List, [], ◌∷◌, ◌++◌}
 use native.Mathlib.Omega.{arith}
 use native.Mathlib.Numerals.{add-one}
 use lib.ListN.{length, get_or, take, set, length-set, length-append}
-use lib.Seq.{slice, slice-cons, slice_empty, take-suc-set, length-take-le, get_or-set_same, get_or-set_other, get_or-take}
+use lib.Seq.{slice, slice-cons, slice_empty, take-suc-set, length-take-le, get_or-set_same, get_or-set_other}
 use Rattle.numbers.specs.Search.{seek}
 use Rattle.bisim_core.specs.Ids.{intern, distinct}
 use Rattle.build_theory.proofs.Steps.{Interned}
@@ -132,15 +132,3 @@ module _ (values : List ℕ) (given : ℕ) {n : ℕ} (e : n ≡ min given (lengt
       ids = λ l. absurd (omega arith);
       rest = λ j l. I.rest j (omega arith);
     }
-
-pub place_small : {values : List ℕ} {n : ℕ} {store₀ ids₀ store ids : List ℕ} {i count : ℕ} → Interning values n store₀ ids₀ store ids i count → (x k : ℕ) → k ≡ seek x (take count store) → k ≤ length store₀
-place_small {values} {n} {store₀} {ids₀} {store} {ids} {i} {count} I x k e =
-    let a = I.room in let b = I.store_size in
-    let l = length-take-le count store (omega arith) in
-    let z = seek_le x (take count store) in
-    omega arith
-
--- a value that stands at a place of distinct values is found there
-pub found_at : (store : List ℕ) (count guess x : ℕ) → count ≤ length store → Single (take count store) → guess < count → get_or store guess 0 ≡ x → guess ≡ seek x (take count store)
-found_at store count guess x h s l e =
-    sym (s guess (let n = length-take-le count store h in omega arith)) ∙ ap (λ (y : ℕ). seek y (take count store)) (get_or-take count store guess 0 l ∙ e)

@@ -59,12 +59,6 @@ over_snoc (a ∷ l) (y ∷ d) x h = ap (λ r. a ∷ r) (over_snoc l d x (le_of_s
 over_size : {A : Type 0} (l d : List A) → length l ≤ length d → length (over l d) ≡ length d
 over_size l d h = let a = length-append l (drop (length l) d) in let b = length-drop (length l) d in omega arith
 
-pub push_none : (T : List ℕ) (U : List Float) (m q : ℕ) (w : Float) → is_zero w ≡ true → Pushed T U m q w T U m
-push_none T U m q w e = record { triples = rw e; sums = rw e; count = rw e }
-
-pub push_one : (T : List ℕ) (U : List Float) (m q : ℕ) (w : Float) → is_zero w ≡ false → Pushed T U m q w (set T m q) (set U m w) (m + 1)
-push_one T U m q w e = record { triples = rw e; sums = rw e; count = rw e }
-
 -- m edges over the front of two lists
 pub record Holds (T₀ : List ℕ) (U₀ : List Float) (T : List ℕ) (U : List Float) (E : List Edge) (m : ℕ) : Type 0 where
   pub triples : T ≡ over (map rank E) T₀

@@ -24,10 +24,7 @@ fn note(seen: &mut [u32], count: usize, t: u32) -> usize
 fn leads(s: u64, t: u64, w: f64) -> bool
     ensures { result ≡ not (is_zero w || eqb t s) }
 {
-    if w == 0.0 {
-        return false;
-    }
-    t != s
+    w != 0.0 && t != s
 }
 
 // 6: whether some state has over 31 distinct targets other than itself, zero weights dropped. `seen` holds those of the state at hand.
@@ -38,8 +35,7 @@ pub(crate) fn crowded(keys: &[u64], n: usize, weights: &[f64]) -> bool
     let mut seen = [0u32; 31];
     let mut count = 0;
     let mut state = 0;
-    let mut j = 0;
-    while j < n {
+    for j in 0..n {
         let k = keys[j];
         let q = k / 4096;
         let s = q / 524288;
@@ -54,7 +50,6 @@ pub(crate) fn crowded(keys: &[u64], n: usize, weights: &[f64]) -> bool
                 return true;
             }
         }
-        j += 1;
     }
     false
 }

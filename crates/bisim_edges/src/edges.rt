@@ -33,19 +33,17 @@ pub(crate) fn join_runs(
     let mut run = first / 4096;
     let mut sum = weights[(first % 4096) as usize];
     let mut m = 0;
-    let mut i = 1;
-    while i < n {
+    for i in 1..n {
         let key = keys[i];
         let w = weights[(key % 4096) as usize];
         let q = key / 4096;
         if q == run {
-            sum = sum + w;
+            sum += w;
         } else {
             m = push(triples, sums, m, run, sum);
             run = q;
             sum = w;
         }
-        i += 1;
     }
     push(triples, sums, m, run, sum)
 }

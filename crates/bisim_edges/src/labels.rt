@@ -5,23 +5,17 @@ ghost use Rattle.numbers.specs.Search;
 ghost use Rattle.bisim_core.proofs.Distinct.{Single};
 ghost use Rattle.build_theory.proofs.Steps.{Interned};
 
-use numbers::{lesser, seek};
+use numbers::seek;
 
 // Where x stands among the first `count` of distinct values; a good guess spares the search.
 fn place(store: &[u32], count: usize, guess: usize, x: u32) -> usize
     requires { (count ≤ length store.now) × Single (take count store.now) }
     ensures { result ≡ Search.seek x (take count store.now) }
 {
-    if guess < count {
-        if store[guess] == x {
-            return guess;
-        }
+    if guess < count && store[guess] == x {
+        return guess;
     }
     seek(store, count, x)
-}
-
-fn wide(x: u8) -> usize {
-    x as usize
 }
 
 // The distinct values of those given go into the store, and the id of each into ids. One more than the store holds is the answer where there are more.
@@ -30,14 +24,13 @@ pub(crate) fn intern_all(values: &[u32], given: usize, store: &mut [u32], ids: &
     requires { (given ≤ length ids.old) × (length store.old ≤ 4096) }
     ensures { Interned values.now given store.old store.new ids.old ids.new result }
 {
-    let n = lesser(given, values.len());
+    let n = given.min(values.len());
     let mut guesses = [0u8; 1024];
-    let mut i = 0;
     let mut count = 0;
-    while i < n {
+    for i in 0..n {
         let x = values[i];
         let g = (x % 1024) as usize;
-        let k = place(store, count, wide(guesses[g]), x);
+        let k = place(store, count, guesses[g] as usize, x);
         if k == count {
             if count == store.len() {
                 return count + 1;
@@ -47,7 +40,6 @@ pub(crate) fn intern_all(values: &[u32], given: usize, store: &mut [u32], ids: &
         }
         guesses[g] = (k % 256) as u8;
         ids[i] = k as u64;
-        i += 1;
     }
     count
 }
@@ -57,9 +49,5 @@ pub(crate) fn write_labels(store: &[u32], n: usize, to: &mut [u32])
     requires { (n ≤ length store.now) × (n ≤ length to.old) }
     ensures { to.new ≡ over (take n store.now) to.old }
 {
-    let mut i = 0;
-    while i < n {
-        to[i] = store[i];
-        i += 1;
-    }
+    to[..n].copy_from_slice(&store[..n]);
 }

@@ -11,7 +11,7 @@ use crate::keys::arrange;
 use crate::labels::{intern_all, write_labels};
 use bisim_core::wlts::Initial;
 use build_theory::fault;
-use numbers::{least, lesser};
+use numbers::least;
 
 // How many edges and how many labels there are, or the number of the first check that fails.
 #[derive(Clone, Copy)]
@@ -24,13 +24,7 @@ pub enum Planned {
 fn cramped(given: usize, there: usize, room: usize, short: bool) -> bool
     ensures { result ≡ (ltb there given || (short || ltb room given)) }
 {
-    if there < given {
-        return true;
-    }
-    if short {
-        return true;
-    }
-    room < given
+    there < given || short || room < given
 }
 
 // The number of the first check that fails, 0 if none does: `count` distinct labels are given, or too many, and the keys hold the label ids. The keys are then sorted.
@@ -90,10 +84,9 @@ fn plan_in(
         (lists label_values.old triples.old edge_weights.old) }
 {
     let there = least(sources.len(), labels.len(), targets.len(), weights.len());
-    let room = lesser(
-        label_values.len(),
-        lesser(triples.len(), edge_weights.len()),
-    );
+    let room = label_values
+        .len()
+        .min(triples.len().min(edge_weights.len()));
     let full = cramped(given, there, room, short);
     let mut known = [0u32; 256];
     let count = intern_all(labels, given, &mut known, keys);

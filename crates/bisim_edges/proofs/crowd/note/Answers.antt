@@ -1,18 +1,10 @@
 -- By where t stands: among the values seen, or not; and then by whether there is room for one more.
-use mathlib.Core.Path.{ap, ◌∙◌}
-use lib.ListN.{length, length-set}
 use Rattle.bisim_edges.proofs.Notes.{note_old, note_new, note_full}
 use Rattle.bisim_edges.proofs.crowd.note.Goals.{then-count-seen, else-count-seen}
 use Rattle.bisim_edges.proofs.crowd.note.Goals as goal
 
 pub returns-then-k-count : goal.returns-then-k-count
 returns-then-k-count c = note_old _ _ _ _ c.requires.0 c.seek-k.ensures c.if-k-count.true
-
-pub shape_of-seen : goal.shape_of-seen
-shape_of-seen c = elim c.if-count-seen.branch [
-  | then-count-seen w ↦ ap length w.seen-is ∙ simp length-set
-  | else-count-seen w ↦ ap length w.seen-is
-]
 
 pub returns : goal.returns
 returns c =

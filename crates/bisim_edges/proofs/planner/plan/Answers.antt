@@ -13,11 +13,5 @@ returns-then-given-gt4096 c =
 pub plan_in-requires : goal.plan_in-requires
 plan_in-requires c = (c.if-given-gt4096.false, c.if-given-le256.true, λ j h. get_or-replicate 256 j 0 0 (let l = c.if-given-le256.true in omega arith))
 
-pub returns-then-given-le256 : goal.returns-then-given-le256
-returns-then-given-le256 c = c.plan_in.ensures
-
 pub plan_in-requires-2 : goal.plan_in-requires-2
 plan_in-requires-2 c = (c.if-given-gt4096.false, c.if-given-gt4096.false, λ j h. get_or-replicate 4096 j 0 0 (let l = c.if-given-gt4096.false in omega arith))
-
-pub returns : goal.returns
-returns c = c.plan_in-2.ensures

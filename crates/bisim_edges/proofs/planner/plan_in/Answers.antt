@@ -16,23 +16,23 @@ arranged-number-requires c =
 pub returns-then-number-ne0 : goal.returns-then-number-ne0
 returns-then-number-ne0 c =
     let asked : Asked = record { states = c.args.states; initial = c.args.initial; C = transitions c.args.sources.now c.args.labels.now c.args.targets.now c.args.weights.now; given = c.args.given; short = c.args.short; M = lists c.args.label_values.now c.args.triples.now c.args.edge_weights.now } in
-    let cramming : c.cramped-full.result ≡ (missing asked.C c.args.given || (c.args.short || ltb (shortest asked.M) c.args.given)) = c.cramped-full.ensures ∙ rw (c.least-there.ensures, c.lesser-room.ensures, c.lesser.ensures) refl in
+    let cramming : c.cramped-full.result ≡ (missing asked.C c.args.given || (c.args.short || ltb (shortest asked.M) c.args.given)) = c.cramped-full.ensures ∙ rw (c.least-there.ensures, c.min-room.ensures, c.min.ensures) refl in
     refused asked c.requires.0 refl c.intern_all-count.ensures c.intern_all-count.auto.store cramming c.arranged-number.ensures c.if-number-ne0.true
 
 pub write_labels-requires : goal.write_labels-requires
 write_labels-requires c =
     let asked : Asked = record { states = c.args.states; initial = c.args.initial; C = transitions c.args.sources.now c.args.labels.now c.args.targets.now c.args.weights.now; given = c.args.given; short = c.args.short; M = lists c.args.label_values.now c.args.triples.now c.args.edge_weights.now } in
-    let cramming : c.cramped-full.result ≡ (missing asked.C c.args.given || (c.args.short || ltb (shortest asked.M) c.args.given)) = c.cramped-full.ensures ∙ rw (c.least-there.ensures, c.lesser-room.ensures, c.lesser.ensures) refl in
+    let cramming : c.cramped-full.result ≡ (missing asked.C c.args.given || (c.args.short || ltb (shortest asked.M) c.args.given)) = c.cramped-full.ensures ∙ rw (c.least-there.ensures, c.min-room.ensures, c.min.ensures) refl in
     labels_fit asked c.requires.0 refl c.intern_all-count.ensures c.intern_all-count.auto.store cramming c.arranged-number.ensures c.if-number-ne0.false
 
 pub join_runs-m-requires : goal.join_runs-m-requires
 join_runs-m-requires c =
     let asked : Asked = record { states = c.args.states; initial = c.args.initial; C = transitions c.args.sources.now c.args.labels.now c.args.targets.now c.args.weights.now; given = c.args.given; short = c.args.short; M = lists c.args.label_values.now c.args.triples.now c.args.edge_weights.now } in
-    let cramming : c.cramped-full.result ≡ (missing asked.C c.args.given || (c.args.short || ltb (shortest asked.M) c.args.given)) = c.cramped-full.ensures ∙ rw (c.least-there.ensures, c.lesser-room.ensures, c.lesser.ensures) refl in
+    let cramming : c.cramped-full.result ≡ (missing asked.C c.args.given || (c.args.short || ltb (shortest asked.M) c.args.given)) = c.cramped-full.ensures ∙ rw (c.least-there.ensures, c.min-room.ensures, c.min.ensures) refl in
     joinable asked c.requires.0 refl c.intern_all-count.ensures c.intern_all-count.auto.store cramming c.arranged-number.ensures c.if-number-ne0.false
 
 pub returns : goal.returns
 returns c =
     let asked : Asked = record { states = c.args.states; initial = c.args.initial; C = transitions c.args.sources.now c.args.labels.now c.args.targets.now c.args.weights.now; given = c.args.given; short = c.args.short; M = lists c.args.label_values.now c.args.triples.now c.args.edge_weights.now } in
-    let cramming : c.cramped-full.result ≡ (missing asked.C c.args.given || (c.args.short || ltb (shortest asked.M) c.args.given)) = c.cramped-full.ensures ∙ rw (c.least-there.ensures, c.lesser-room.ensures, c.lesser.ensures) refl in
+    let cramming : c.cramped-full.result ≡ (missing asked.C c.args.given || (c.args.short || ltb (shortest asked.M) c.args.given)) = c.cramped-full.ensures ∙ rw (c.least-there.ensures, c.min-room.ensures, c.min.ensures) refl in
     done asked c.requires.0 refl c.intern_all-count.ensures c.intern_all-count.auto.store cramming c.arranged-number.ensures c.if-number-ne0.false c.write_labels.ensures c.join_runs-m.ensures
