@@ -1,17 +1,14 @@
 -- A network filled from rows: when the rows fit, and what is left of them.
 use mathlib.Core.Path.{◌≡◌, refl, ap, ap₂}
-use Prim.Native.Nat.{ℕ, ◌%◌, ◌≤◌, ◌<◌}
+use Prim.Native.Nat.{ℕ, ◌≤◌}
 use mathlib.Core.Bool.{Bool, true, false, ◌&&◌, cond}
 use mathlib.Core.List.{List}
 use native.Mathlib.Omega.{arith}
-use lib.Dec.{eqb, ltb, leb, leb→le}
-use lib.ListN.{length, take}
-use lib.Seq.{length-take-le}
-use borrow.Author.Tests.{le-leb, lt-ltb, lt-leb, eq-eqb}
-use Rattle.numbers.specs.Lists.{over, all}
+use lib.Dec.{leb, leb→le}
+use lib.ListN.{length}
+use Rattle.numbers.specs.Lists.{over}
 use Rattle.numbers.proofs.Bools.{t_of, and_t}
 use Rattle.flow_theory.specs.Rows.{starts_of, list_of}
-use Rattle.flow_check.specs.Refusal.{sizes_fit}
 use Rattle.flow.specs.declared.network.FlowNetwork.{FlowNetwork}
 use Rattle.flow.specs.Filled.{rows_fit, relisted_if}
 
@@ -22,21 +19,6 @@ module _ (H : List ℕ) (caps costs n nodes : ℕ) where
   tests true true false e x h = refl
   tests true false d e x h = refl
   tests false b d e x h = refl
-
-  pub listed_fits : n ≤ length H → n ≤ caps → n ≤ costs → (st l : List ℕ) → length st ≡ 67 → length l ≡ 2176
-      → (sizes_fit nodes (length (take n H)) (length (take n H)) (length (take n H)) (length l) && (ltb nodes (length st) && all (λ v. ltb v nodes) (take n H))) ≡ rows_fit H caps costs n nodes
-  listed_fits a b c st l p q =
-      rw (p, q, length-take-le n H a, le-leb n (length H) a, le-leb n caps b, le-leb n costs c, eq-eqb n n refl)
-      (tests (leb nodes 66) (leb n 2176) (eqb (n % 2) 0) (ltb nodes 67) (all (λ v. ltb v nodes) (take n H)) (λ y. lt-ltb nodes 67 (let m = leb→le nodes 66 (t_of y) in omega arith)))
-
-  pub no_costs : n ≤ length H → n ≤ caps → costs < n → false ≡ rows_fit H caps costs n nodes
-  no_costs a b c = rw (le-leb n (length H) a, le-leb n caps b, lt-leb n costs c)
-
-  pub no_caps : n ≤ length H → caps < n → false ≡ rows_fit H caps costs n nodes
-  no_caps a b = rw (le-leb n (length H) a, lt-leb n caps b)
-
-  pub no_heads : length H < n → false ≡ rows_fit H caps costs n nodes
-  no_heads a = rw (lt-leb n (length H) a)
 
   pub fit_rows : rows_fit H caps costs n nodes ≡ true → (n ≤ 2176) × (n ≤ length H) × (n ≤ caps)
   fit_rows e =

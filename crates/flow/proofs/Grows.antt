@@ -7,7 +7,7 @@ use mathlib.Core.List.{List, ◌++◌, map}
 use native.Mathlib.Omega.{arith}
 use borrow.Author.Tests.{ltb-true}
 use lib.Dec.{ltb}
-use lib.ListN.{length, get_or, set, take, drop, replicate, length-append, length-map, length-set}
+use lib.ListN.{length, get_or, set, take, drop, replicate, length-map, length-set}
 use lib.Seq.{get_or-take, get_or-set_same, get_or-set_other, length-take-le, take_at}
 use lib.Ieee.{Float, neg}
 use Rattle.numbers.specs.Real.{nought}
@@ -15,23 +15,17 @@ use Rattle.numbers.proofs.Bools.{and_t, eq_or_ne, lt_or_ge}
 use Rattle.numbers.proofs.Parts.{take_replicate_length}
 use Rattle.flow_theory.proofs.ListRows.{Indexable}
 use Rattle.flow_theory.proofs.Lists.{at_map}
-use Rattle.flow_check.specs.Refusal.{cap_fits, cost_fits, edge_fits, network_fits}
+use Rattle.flow_check.specs.Refusal.{cap_fits, cost_fits, edge_fits}
 use Rattle.flow_check.proofs.Accepting.{Parts, fitting}
 use Rattle.flow_check.proofs.Relists.{Relisted, laid_over}
 use Rattle.flow.specs.declared.network.Link.{Link}
 use Rattle.flow.specs.declared.network.FlowNetwork.{FlowNetwork}
-use Rattle.flow.proofs.Packing.{Unpacked, past_end}
+use Rattle.flow.proofs.Packing.{past_end}
 use Rattle.flow.specs.Network.{heads_of, caps_of, costs_of, with_link, fits_on, grown}
 
 -- the part of a fresh array that holds the first k links
 pub room_length : {A : Type 0} (k : ℕ) (x : A) → k ≤ 2176 → length (take k (replicate 2176 x)) ≡ k
 room_length k x h = take_replicate_length k 2176 x h
-
-pub fits_rows : (ls : List Link) (n : ℕ) (H : List ℕ) (c p : List Float) → Unpacked ls n H c p → (starts list : List ℕ) (m : ℕ) (r : Bool)
-    → r ≡ network_fits H c p starts list m → r ≡ network_fits (heads_of n ls) (caps_of n ls) (costs_of n ls) starts list m
-fits_rows ls n H c p U starts list m r e =
-    e ∙ ap (λ (h : List ℕ). network_fits h c p starts list m) U.0 ∙ ap (λ (x : List Float). network_fits (heads_of n ls) x p starts list m) U.1
-    ∙ ap (λ (x : List Float). network_fits (heads_of n ls) (caps_of n ls) x starts list m) U.2
 
 -- a fresh row of heads
 abbrev blank : List ℕ
@@ -45,14 +39,8 @@ module _ (ls : List Link) (whole : length ls ≡ 2176) (k : ℕ) (few : k ≤ 21
   made_length : length h ≡ k
   made_length = ap length made_is ∙ length-take-le k (map (λ (x : Link). x.head) ls) (let q = length-map ls (λ (x : Link). x.head) in omega arith)
 
-  pub front_in : k ≤ length (h ++ drop k blank)
-  front_in = let a = made_length in let b = length-append h (drop k blank) in omega arith
-
   pub front_is : take k (h ++ drop k blank) ≡ heads_of k ls
   front_is = take_at h (drop k blank) k made_length ∙ made_is
-
-  pub front_length : length (take k (h ++ drop k blank)) ≡ k
-  front_length = ap length front_is ∙ ap length (sym made_is) ∙ made_length
 
 -- the node lists of that row are made over those of the network
 pub grows : (N : FlowNetwork) (ls : List Link) → N.nodes ≤ 66 → Indexable (heads_of (N.count + 2) ls) N.nodes → N.nodes < length N.starts → length (heads_of (N.count + 2) ls) ≤ length N.list

@@ -15,7 +15,7 @@ use Rattle.flow_theory.proofs.Lists.{at_map}
 use Rattle.flow.specs.declared.network.Link.{Link}
 use Rattle.flow.specs.declared.network.FlowNetwork.{FlowNetwork}
 use Rattle.flow.specs.Network.{heads_of, caps_of, costs_of, with_links}
-use Rattle.flow.specs.Filled.{cost_at, laid, stored}
+use Rattle.flow.specs.Filled.{cost_at, laid}
 use Rattle.flow.proofs.Packing.{past_end}
 
 module _ (ls : List Link) (H : List ℕ) (c : List Float) where
@@ -77,15 +77,6 @@ module _ (N : FlowNetwork) (H : List ℕ) (c : List Float) where
       ap₂ (λ (M : FlowNetwork) (x : Float). with_links M (set M.links i (record { head = get_or H i 0; cap = get_or c i nan; cost = x }))) I.1 I.2 ∙ ap (λ (m : ℕ). with_links N (laid N.links H c m)) (sym (add-one i)),
       ap neg I.2 ∙ ap cost_at (sym (add-one i)),
     )
-
-    pub lay_length : length N'.links ≡ length N.links
-    lay_length = ap (λ (M : FlowNetwork). length M.links) I.1 ∙ laid_length N.links H c i
-
-    pub lay_ends : n ≤ i → (nodes : ℕ) → record { links = N'.links; count = n; nodes = nodes; starts = N'.starts; list = N'.list } ≡ stored N H c n nodes
-    lay_ends h nodes =
-        let u = I.0 in
-        let e : i ≡ n = omega arith in
-        ap (λ (M : FlowNetwork). record { links = M.links; count = n; nodes = nodes; starts = M.starts; list = M.list }) (I.1 ∙ ap (λ (m : ℕ). with_links N (laid N.links H c m)) e)
 
 -- the cost of an added link is 0, and that of its reverse the negation
 pub cost_added : (k : ℕ) → cost_at (k + k) ≡ nought

@@ -11,7 +11,7 @@ use lib.Ieee.{Float, nan}
 use Rattle.flow.specs.declared.network.Link.{Link}
 use Rattle.flow.specs.Network.{heads_of, caps_of, costs_of, with_caps}
 use Rattle.flow_theory.proofs.ListRows.{Fitting}
-use Rattle.flow_theory.proofs.Lists.{over_end, at_map}
+use Rattle.flow_theory.proofs.Lists.{at_map}
 use Rattle.numbers.specs.Lists.{over}
 use Rattle.numbers.proofs.Over.{over_step, over_length}
 
@@ -40,9 +40,6 @@ pub record Unpacking (ls : List Link) (heads₀ : List ℕ) (caps₀ costs₀ : 
   pub caps_is : Filled (λ (l : Link). l.cap) ls caps₀ i caps
   pub costs_is : Filled (λ (l : Link). l.cost) ls costs₀ i costs
 
-pub unpack_begins : {ls : List Link} {heads : List ℕ} {caps costs : List Float} → Unpacking ls heads caps costs heads caps costs 0
-unpack_begins = record { upto = omega arith; heads_is = refl; caps_is = refl; costs_is = refl }
-
 module _ (ls : List Link) (whole : length ls ≡ 2176) {heads₀ : List ℕ} {caps₀ costs₀ : List Float} (F : Fitting heads₀ caps₀ costs₀)
     {heads : List ℕ} {caps costs : List Float} {i : ℕ} (I : Unpacking ls heads₀ caps₀ costs₀ heads caps costs i) where
   pub row_lengths : (length heads ≡ length heads₀) × (length caps ≡ length caps₀) × (length costs ≡ length costs₀)
@@ -68,17 +65,6 @@ module _ (ls : List Link) (whole : length ls ≡ 2176) {heads₀ : List ℕ} {ca
         costs_is = filled_on (λ (l : Link). l.cost) ls costs₀ i costs I.costs_is (omega arith) (omega arith);
       }
 
-  pub unpack_ends : length heads₀ ≤ i → Unpacked ls (length heads₀) heads caps costs
-  unpack_ends h =
-      let u = I.upto in
-      let z : i ≡ length heads₀ = omega arith in
-      let a = F.caps_too in
-      let b = F.costs_too in (
-        I.heads_is ∙ over_end (map (λ (l : Link). l.head) ls) heads₀ i (omega arith) ∙ ap (λ (n : ℕ). heads_of n ls) z,
-        I.caps_is ∙ over_end (map (λ (l : Link). l.cap) ls) caps₀ i (omega arith) ∙ ap (λ (n : ℕ). caps_of n ls) z,
-        I.costs_is ∙ over_end (map (λ (l : Link). l.cost) ls) costs₀ i (omega arith) ∙ ap (λ (n : ℕ). costs_of n ls) z,
-      )
-
 -- the heads alone
 abbrev pub Heading : List Link → List ℕ → List ℕ → ℕ → Type 0
 Heading ls heads₀ heads i = (i ≤ length heads₀) × Filled (λ (l : Link). l.head) ls heads₀ i heads
@@ -89,12 +75,6 @@ module _ (ls : List Link) (whole : length ls ≡ 2176) (heads₀ : List ℕ) {he
 
   pub heading_on : i < length heads₀ → Heading ls heads₀ (set heads i (get_or ls i past_end).head) (i + 1)
   heading_on h = (omega arith, filled_on (λ (l : Link). l.head) ls heads₀ i heads I.1 (omega arith) h)
-
-  pub heading_ends : length heads₀ ≤ i → heads ≡ heads_of (length heads₀) ls
-  heading_ends h =
-      let u = I.0 in
-      let z : i ≡ length heads₀ = omega arith in
-      I.1 ∙ over_end (map (λ (l : Link). l.head) ls) heads₀ i (omega arith) ∙ ap (λ (n : ℕ). heads_of n ls) z
 
 -- ---- and back
 

@@ -13,8 +13,8 @@ use Rattle.flow_core.specs.Outcome as rows
 use Rattle.flow.specs.declared.network.Link.{Link}
 use Rattle.flow.specs.declared.network.FlowNetwork.{FlowNetwork}
 use Rattle.numbers.specs.Lists.{over}
-use Rattle.flow.specs.Network.{heads_of, caps_of, costs_of, with_caps, with_links, Outcome, ends, flow_through, Flown, flown, flow_in}
-use Rattle.flow.proofs.Packing.{past_end, fill, fill_next, fill_length, fill_taken, fill_dropped, fill_over, cap_at, caps_suc, caps_none, caps_length, caps_with}
+use Rattle.flow.specs.Network.{heads_of, caps_of, costs_of, with_caps, with_links, Outcome, ends, flow_through, flown, flow_in}
+use Rattle.flow.proofs.Packing.{past_end, fill, fill_next, fill_length, fill_taken, fill_dropped, fill_over, cap_at, caps_suc, caps_none, caps_with}
 
 abbrev pub heads_in : List Link → List ℕ → ℕ → List ℕ
 heads_in ls r i = fill (λ (l : Link). l.head) ls r i
@@ -62,9 +62,6 @@ module _ (N : FlowNetwork) (z : List Float) (few : N.count ≤ length N.links) (
         ∙ ap (with_links N) (caps_suc N.links z j (omega arith) (omega arith))
         ∙ ap (λ (m : ℕ). with_links N (with_caps N.links (take m z))) (sym (add-one j)),
   )
-
-  pub put_length : length N'.links ≡ length N.links
-  put_length = ap (λ (M : FlowNetwork). length M.links) I.1 ∙ caps_length N.links (take j z)
 
 pub put_none : (N : FlowNetwork) (z : List Float) → PutBack N z N 0
 put_none N z = (omega arith, ap (with_links N) (sym (caps_none N.links)))
@@ -120,7 +117,3 @@ module _ (N : FlowNetwork) (s t : ℕ) (hs : List ℕ) (cs ps : List Float) wher
         let ep : costs ≡ costs_in N.links ps n = I.costs_is ∙ ap (costs_in N.links ps) ei in
         let en : N' ≡ with_links N (with_caps N.links (take n z)) = B.1 ∙ ap (λ (m : ℕ). with_links N (with_caps N.links (take m z))) ej in
         rw (eh, ep, en) (flow_is r z (rw (← eh, ← ec, ← ep) said) h)
-
-  -- the run through the rows is the network's run
-  pub through_is : {r : Answer} {N' : FlowNetwork} {H : List ℕ} {c p : List Float} → flown r N' H c p ≡ flow_in N hs cs ps s t → ends r N' ≡ flow_through N s t
-  through_is e = ap (λ (f : Flown). ends f.answer f.network) e

@@ -40,30 +40,22 @@ pub struct Made {
 pub fn new(nodes: usize) -> Made
     ensures { result ≡ made nodes }
 {
-    let links = [Link {
+    let link = Link {
         head: 0,
         cap: 0.0,
         cost: 0.0,
-    }; 2176];
-    let starts = [0u32; 67];
-    let list = [0u32; 2176];
-    if nodes <= 66 {
-        let net = FlowNetwork {
-            links,
-            count: 0,
-            nodes,
-            starts,
-            list,
-        };
-        return Made { refused: 0, net };
-    }
-    let net = FlowNetwork {
-        links,
+    };
+    let mut net = FlowNetwork {
+        links: [link; 2176],
         count: 0,
         nodes: 0,
-        starts,
-        list,
+        starts: [0; 67],
+        list: [0; 2176],
     };
+    if nodes <= 66 {
+        net.nodes = nodes;
+        return Made { refused: 0, net };
+    }
     Made { refused: 15, net }
 }
 
@@ -72,12 +64,10 @@ fn unpack(links: [Link; 2176], heads: &mut [u32], caps: &mut [f64], costs: &mut 
     requires { Fitting heads.old caps.old costs.old }
     ensures { (heads.new ≡ heads_of (length heads.old) links) × (caps.new ≡ caps_of (length heads.old) links) × (costs.new ≡ costs_of (length heads.old) links) }
 {
-    let mut i: usize = 0;
-    while i < heads.len() {
+    for i in 0..heads.len() {
         heads[i] = links[i].head;
         caps[i] = links[i].cap;
         costs[i] = links[i].cost;
-        i += 1;
     }
 }
 
@@ -86,10 +76,8 @@ fn unpack_heads(links: [Link; 2176], heads: &mut [u32])
     requires { length heads.old ≤ 2176 }
     ensures { heads.new ≡ heads_of (length heads.old) links }
 {
-    let mut i: usize = 0;
-    while i < heads.len() {
+    for i in 0..heads.len() {
         heads[i] = links[i].head;
-        i += 1;
     }
 }
 
@@ -159,27 +147,23 @@ fn with_link(net: FlowNetwork, from: usize, to: usize, capacity: f64, cost: f64)
     ensures { result ≡ added net from to capacity cost }
 {
     let count = net.count;
-    if count <= 2174 {
-        if check::edge_fits(from, to, capacity, cost, net.nodes) {
-            if net_fits(net) {
-                let mut links = net.links;
-                links[count] = Link {
-                    head: to as u32,
-                    cap: capacity,
-                    cost,
-                };
-                links[count + 1] = Link {
-                    head: from as u32,
-                    cap: 0.0,
-                    cost: -cost,
-                };
-                let grown = grow(net, links);
-                return Made {
-                    refused: 0,
-                    net: grown,
-                };
-            }
-        }
+    if count <= 2174 && check::edge_fits(from, to, capacity, cost, net.nodes) && net_fits(net) {
+        let mut links = net.links;
+        links[count] = Link {
+            head: to as u32,
+            cap: capacity,
+            cost,
+        };
+        links[count + 1] = Link {
+            head: from as u32,
+            cap: 0.0,
+            cost: -cost,
+        };
+        let grown = grow(net, links);
+        return Made {
+            refused: 0,
+            net: grown,
+        };
     }
     Made { refused: 15, net }
 }
@@ -224,13 +208,11 @@ pub(crate) fn max_flow_in(
     ensures { flown result net.new heads.new caps.new costs.new ≡ flow_in net.old heads.old caps.old costs.old source sink }
 {
     let n = net.count;
-    let mut i: usize = 0;
-    while i < n {
+    for i in 0..n {
         let link = net.links[i];
         heads[i] = link.head;
         caps[i] = link.cap;
         costs[i] = link.cost;
-        i += 1;
     }
     let answer = run_rows(
         heads,
@@ -243,10 +225,8 @@ pub(crate) fn max_flow_in(
         source,
         sink,
     );
-    let mut j: usize = 0;
-    while j < n {
+    for j in 0..n {
         net.links[j].cap = caps[j];
-        j += 1;
     }
     answer
 }

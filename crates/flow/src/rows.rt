@@ -22,12 +22,8 @@ fn list_rows(
 ) -> bool
     ensures { (result ≡ rows_fit heads.now caps costs n nodes) × (starts.new ≡ cond result (over (starts_of (take n heads.now) nodes) starts.old) starts.old) × (list.new ≡ cond result (over (list_of (take n heads.now) nodes) list.old) list.old) }
 {
-    if n <= heads.len() {
-        if n <= caps {
-            if n <= costs {
-                return check::node_lists(&heads[..n], nodes, starts, list);
-            }
-        }
+    if n <= heads.len() && n <= caps && n <= costs {
+        return check::node_lists(&heads[..n], nodes, starts, list);
     }
     false
 }
@@ -52,15 +48,13 @@ fn store_links(net: &mut FlowNetwork, heads: &[u32], caps: &[f64], n: usize, nod
     ensures { net.new ≡ stored net.old heads.now caps.now n nodes }
 {
     let mut cost = 0.0;
-    let mut i: usize = 0;
-    while i < n {
+    for i in 0..n {
         net.links[i] = Link {
             head: heads[i],
             cap: caps[i],
             cost,
         };
         cost = -cost;
-        i += 1;
     }
     net.count = n;
     net.nodes = nodes;

@@ -1,34 +1,12 @@
 -- `network::grow` meets its contract: the heads are copied into the front of a row, and their node lists are made (Grows).
 use borrow.Author.Rules.{rules}
-use mathlib.Core.Path.{◌≡◌, sym}
-use Prim.Native.Nat.{ℕ, ◌+◌, ◌≤◌, ◌<◌}
+use mathlib.Core.Path.{◌≡◌}
+use Prim.Native.Nat.{◌+◌, ◌≤◌, ◌<◌}
 use native.Mathlib.Omega.{arith}
 use lib.ListN.{length}
 use Rattle.flow.specs.Network.{heads_of}
-use Rattle.flow.proofs.Grows.{room_length, front_in, front_is, front_length, grows}
+use Rattle.flow.proofs.Grows.{front_is, grows}
 use Rattle.flow.proofs.network.grow.Goals as goal
-
-pub slice_bounds-unpack_heads-end : goal.slice_bounds-unpack_heads-end
-slice_bounds-unpack_heads-end c =
-    let few : c.args.net.count + 2 ≤ 2176 = let p = c.requires.0 in omega arith in
-    sym (room_length {A = ℕ} (c.args.net.count + 2) 0 few)
-
-pub unpack_heads-requires : goal.unpack_heads-requires
-unpack_heads-requires c =
-    let few : c.args.net.count + 2 ≤ 2176 = let p = c.requires.0 in omega arith in
-    omega (arith, room_length {A = ℕ} (c.args.net.count + 2) 0 (few), few)
-
-pub slice_bounds-heads-end-2 : goal.slice_bounds-heads-end-2
-slice_bounds-heads-end-2 c =
-    let whole : length c.args.links ≡ 2176 = search rules in
-    let few : c.args.net.count + 2 ≤ 2176 = let p = c.requires.0 in omega arith in
-    front_in c.args.links whole (c.args.net.count + 2) few c.unpack_heads.new.heads c.unpack_heads.ensures
-
-pub slice_bounds-node_lists-end : goal.slice_bounds-node_lists-end
-slice_bounds-node_lists-end c =
-    let whole : length c.args.links ≡ 2176 = search rules in
-    let few : c.args.net.count + 2 ≤ 2176 = let p = c.requires.0 in omega arith in
-    sym (front_length c.args.links whole (c.args.net.count + 2) few c.unpack_heads.new.heads c.unpack_heads.ensures)
 
 pub returns : goal.returns
 returns c =

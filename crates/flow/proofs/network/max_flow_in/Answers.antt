@@ -1,9 +1,6 @@
-use Rattle.std.proofs.Common.{rules, ◌≡◌, ◌≤◌, refl, length, arith}
+use Rattle.std.proofs.Common.{rules, ◌≡◌, ◌≤◌, length, arith}
 use Rattle.flow.proofs.Running.{entered_lengths, entered_on, put_none, put_on, run_done}
 use Rattle.flow.proofs.network.max_flow_in.Goals as goal
-
-pub loop-i-init : goal.loop-i-init
-loop-i-init c = record { upto = omega arith; heads_is = refl; caps_is = refl; costs_is = refl }
 
 pub loop-i-preserved : goal.loop-i-preserved
 loop-i-preserved c =

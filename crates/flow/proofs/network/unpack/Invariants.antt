@@ -1,11 +1,6 @@
 -- `network::unpack` meets its contract. The loop's invariant: the first i places of each row are taken from the links (Packing.Unpacking).
-use Prim.Native.Nat.{◌-◌}
-use lib.ListN.{length}
 use Rattle.flow.proofs.Packing.{Unpacking}
 use Rattle.flow.proofs.network.unpack.Given as goal
 
 abbrev pub invariant-loop-i : goal.invariant-loop-i
 invariant-loop-i l = Unpacking l.links l.initial.heads l.initial.caps l.initial.costs l.heads l.caps l.costs l.i
-
-abbrev pub decreases-loop-i : goal.decreases-loop-i
-decreases-loop-i l = length l.initial.heads - l.i

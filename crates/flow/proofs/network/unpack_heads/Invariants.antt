@@ -1,11 +1,6 @@
 -- `network::unpack_heads` meets its contract. The loop's invariant: the first i heads are taken from the links (Packing.Heading).
-use Prim.Native.Nat.{◌-◌}
-use lib.ListN.{length}
 use Rattle.flow.proofs.Packing.{Heading}
 use Rattle.flow.proofs.network.unpack_heads.Given as goal
 
 abbrev pub invariant-loop-i : goal.invariant-loop-i
 invariant-loop-i l = Heading l.links l.initial.heads l.heads l.i
-
-abbrev pub decreases-loop-i : goal.decreases-loop-i
-decreases-loop-i l = length l.initial.heads - l.i

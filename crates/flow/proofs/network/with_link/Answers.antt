@@ -1,21 +1,13 @@
 -- `network::with_link` meets its contract: room, the link, then the network; the new links can be listed (Grows.listed).
 use borrow.Author.Rules.{rules}
-use borrow.Author.Tests.{le-leb, lt-leb}
-use mathlib.Core.Path.{◌≡◌, sym, ap, ◌∙◌}
+use mathlib.Core.Path.{◌≡◌, sym, ◌∙◌}
 use Prim.Native.Nat.{◌≤◌}
 use native.Mathlib.Omega.{arith}
 use lib.ListN.{length}
 use Rattle.flow_check.proofs.Accepting.{indexable}
-use Rattle.flow.specs.Network.{heads_of, caps_of, costs_of, leaves}
-use Rattle.flow.specs.declared.network.FlowNetwork.{FlowNetwork}
+use Rattle.flow.specs.Network.{heads_of, caps_of, costs_of}
 use Rattle.flow.proofs.Grows.{edge_fit, net_fit, listed}
 use Rattle.flow.proofs.network.with_link.Goals as goal
-
-pub overflow_cast-links : goal.overflow_cast-links
-overflow_cast-links c = let E = edge_fit c.args.net.nodes c.args.from c.args.to c.args.capacity c.args.cost (sym c.edge_fits.ensures ∙ c.if-edge_fits.true) in let f = (net_fit c.args.net (sym c.net_fits.ensures ∙ c.if-net_fits.true)).sizes.few in let l = E.to_in in omega arith
-
-pub overflow_cast-links-then-net_fits : goal.overflow_cast-links-then-net_fits
-overflow_cast-links-then-net_fits c = let E = edge_fit c.args.net.nodes c.args.from c.args.to c.args.capacity c.args.cost (sym c.edge_fits.ensures ∙ c.if-edge_fits.true) in let f = (net_fit c.args.net (sym c.net_fits.ensures ∙ c.if-net_fits.true)).sizes.few in let l = E.from_in in omega arith
 
 pub grow-grown-requires : goal.grow-grown-requires
 grow-grown-requires c =
@@ -25,15 +17,3 @@ grow-grown-requires c =
     let whole : length N.links ≡ 2176 = search rules in
     let few : N.count ≤ 2174 = c.if-count-le2174.true in
     (few, P.sizes.few, listed N.links N.count c.args.from c.args.to c.args.capacity c.args.cost (omega arith) N.nodes few (indexable (heads_of N.count N.links) (caps_of N.count N.links) (costs_of N.count N.links) N.nodes P.sizes P.links) E.from_in E.to_in)
-
-pub returns-then-net_fits : goal.returns-then-net_fits
-returns-then-net_fits c = rw (le-leb _ _ c.if-count-le2174.true, sym c.edge_fits.ensures ∙ c.if-edge_fits.true, sym c.net_fits.ensures ∙ c.if-net_fits.true) (ap (λ (M : FlowNetwork). leaves 0 M) c.grow-grown.ensures)
-
-pub returns-else-net_fits : goal.returns-else-net_fits
-returns-else-net_fits c = rw (le-leb _ _ c.if-count-le2174.true, sym c.edge_fits.ensures ∙ c.if-edge_fits.true, sym c.net_fits.ensures ∙ c.if-net_fits.false)
-
-pub returns-else-edge_fits : goal.returns-else-edge_fits
-returns-else-edge_fits c = rw (le-leb _ _ c.if-count-le2174.true, sym c.edge_fits.ensures ∙ c.if-edge_fits.false)
-
-pub returns-else-count-le2174 : goal.returns-else-count-le2174
-returns-else-count-le2174 c = rw (lt-leb _ _ c.if-count-le2174.false)

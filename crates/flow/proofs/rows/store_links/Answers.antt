@@ -1,4 +1,4 @@
-use Rattle.flow.proofs.Laid.{lay_begins, lay_on, lay_ends}
+use Rattle.flow.proofs.Laid.{lay_begins, lay_on}
 use Rattle.flow.proofs.rows.store_links.Goals as goal
 
 pub loop-i-init : goal.loop-i-init
@@ -6,6 +6,3 @@ loop-i-init c = lay_begins c.args.net.now c.args.heads.now c.args.caps.now c.arg
 
 pub loop-i-preserved : goal.loop-i-preserved
 loop-i-preserved c = lay_on c.args.net.now c.args.heads.now c.args.caps.now c.loop-i.invariant c.loop-i-test.true
-
-pub returns : goal.returns
-returns c = lay_ends c.args.net.now c.args.heads.now c.args.caps.now c.loop-i.invariant c.loop-i-test.false c.args.nodes
