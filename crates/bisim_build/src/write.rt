@@ -9,26 +9,20 @@ fn first_from(triples: &[u64], m: usize, p: usize, bound: u64) -> usize
     requires { (p ≤ m) × (m ≤ length triples.now) }
     ensures { FirstFrom triples.now m p bound result }
 {
-    let mut k = p;
-    while k < m {
-        if triples[k] >= bound {
-            return k;
-        }
-        k += 1;
+    match triples[p..m].iter().position(|x| *x >= bound) {
+        Some(k) => p + k,
+        None => m,
     }
-    k
 }
 
 fn write_offsets(triples: &[u64], m: usize, states: usize, offsets: &mut [u32])
     requires { (m ≤ length triples.now) × (m ≤ 4096) × (states ≤ 2000) × (states < length offsets.old) × Rising triples.now m }
     ensures { (U : List Float) → offsets.new ≡ over (Edges.offsets states (edges_in triples.now U m)) offsets.old }
 {
-    let mut s = 0;
     let mut p = 0;
-    while s <= states {
+    for s in 0..=states {
         p = first_from(triples, m, p, s as u64 * 524288);
         offsets[s] = p as u32;
-        s += 1;
     }
 }
 
@@ -36,12 +30,10 @@ fn write_edges(triples: &[u64], m: usize, labels: &mut [u32], targets: &mut [u32
     requires { Writable triples.now m labels.old targets.old }
     ensures { Written triples.now m labels.old targets.old labels.new targets.new }
 {
-    let mut i = 0;
-    while i < m {
+    for i in 0..m {
         let q = triples[i];
         labels[i] = (q / 2048 % 256) as u32;
         targets[i] = (q % 2048) as u32;
-        i += 1;
     }
 }
 
@@ -72,11 +64,5 @@ pub(crate) fn short(
 ) -> bool
     ensures { result ≡ (ltb offsets (states + 1) || (ltb labels given || ltb targets given)) }
 {
-    if offsets <= states {
-        return true;
-    }
-    if labels < given {
-        return true;
-    }
-    targets < given
+    offsets <= states || labels < given || targets < given
 }

@@ -1,26 +1,15 @@
-use native.Mathlib.Omega.{arith}
-use Rattle.numbers.proofs.Pointwise.{span_next}
+use Rattle.std.proofs.Common.{rules, ◌≤◌, ◌<◌}
+use Rattle.std.proofs.lemmas.Iterator.{YieldsList-from_slice, IsFirst-from_position}
+use borrow.Author.Tests.{tests}
+use Rattle.bisim_build.proofs.Writes.{found_first, found_none}
 use Rattle.bisim_build.proofs.write.first_from.Goals as goal
 
-pub loop-k-init : goal.loop-k-init
-loop-k-init c = (omega arith, c.requires.0, λ j l h. absurd (omega arith))
+pub returns-in-Some : goal.returns-in-Some
+returns-in-Some c =
+    found_first c.args.triples.now c.args.m c.args.p c.args.bound c.requires.0 c.requires.1 _
+    (IsFirst-from_position _ _ _ (λ x. c.args.bound ≤ x) (λ x. x < c.args.bound) c.in-Some.ensures.ran (YieldsList-from_slice _ cc) (λ x q k. search (rules, tests)) (λ x q k. search (rules, tests)))
 
-pub offset_bounds-triples-k : goal.offset_bounds-triples-k
-offset_bounds-triples-k c = let q = c.requires.1 in omega arith
-
-pub bounds-triples-k : goal.bounds-triples-k
-bounds-triples-k c = let q = c.requires.1 in omega arith
-
-pub returns-then-triples-k : goal.returns-then-triples-k
-returns-then-triples-k c =
-    record { from = c.loop-k.invariant.0; within = c.loop-k.invariant.1; low = c.loop-k.invariant.2; high = λ h. c.if-triples-k.true }
-
-pub loop-k-preserved : goal.loop-k-preserved
-loop-k-preserved c =
-    let h = c.loop-k-test.true in
-    (let z = c.loop-k.invariant.0 in omega arith, omega arith, span_next c.args.triples.now c.args.p c.args.bound c.loop-k.k c.if-triples-k.false c.loop-k.invariant.2)
-
-pub returns : goal.returns
-returns c =
-    let h = c.loop-k-test.false in
-    record { from = c.loop-k.invariant.0; within = c.loop-k.invariant.1; low = c.loop-k.invariant.2; high = λ l. absurd (omega arith) }
+pub returns-in-None : goal.returns-in-None
+returns-in-None c =
+    found_none c.args.triples.now c.args.m c.args.p c.args.bound c.requires.0 c.requires.1
+    (IsFirst-from_position _ _ _ (λ x. c.args.bound ≤ x) (λ x. x < c.args.bound) c.in-None.ensures.ran (YieldsList-from_slice _ cc) (λ x q k. search (rules, tests)) (λ x q k. search (rules, tests)))

@@ -1,8 +1,5 @@
-use Rattle.bisim_build.proofs.Writes.{writing, writes, written}
+use Rattle.bisim_build.proofs.Writes.{writes, written}
 use Rattle.bisim_build.proofs.write.write_edges.Goals as goal
-
-pub loop-i-init : goal.loop-i-init
-loop-i-init c = writing _ _ _ _
 
 pub loop-i-preserved : goal.loop-i-preserved
 loop-i-preserved c = writes c.requires c.loop-i.invariant c.loop-i-test.true

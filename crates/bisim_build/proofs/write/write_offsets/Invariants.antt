@@ -1,10 +1,6 @@
 -- The invariant: the first s offsets are written, and p edges have a source below s (`Offsetting`): the triples rise, so the next offset is found from p on.
-use Prim.Native.Nat.{◌+◌, ◌-◌}
 use Rattle.build_theory.proofs.Offsets.{Offsetting}
 use Rattle.bisim_build.proofs.write.write_offsets.Given as goal
 
 abbrev pub invariant-loop-s : goal.invariant-loop-s
 invariant-loop-s l = Offsetting l.triples l.m l.states l.initial.offsets l.offsets l.s l.p
-
-abbrev pub decreases-loop-s : goal.decreases-loop-s
-decreases-loop-s l = l.states + 1 - l.s
