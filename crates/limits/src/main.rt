@@ -1,10 +1,12 @@
 // Runs `build` at each limit of document 01 and one step past it, and prints the refusal's number, 0 for none.
 #![tactic(auto)]
 
+ghost use Rattle.std.specs.Prelude.{◌<◌};
+
 use bisim_build::builder;
 use bisim_build::builder::Built;
 use bisim_core::wlts::Initial;
-use std::io;
+use std::{array, io};
 
 // The outcome of `build` with stores that are long enough.
 fn outcome(
@@ -40,30 +42,18 @@ fn outcome(
     }
 }
 
-// Entry i is i % 2,000.
-fn count(column: &mut [u32]) {
-    let mut i = 0;
-    while i < column.len() {
-        column[i] = (i % 2000) as u32;
-        i += 1;
-    }
-}
-
-// Entry i is i / 2,000.
-fn count_rounds(column: &mut [u32]) {
-    let mut i = 0;
-    while i < column.len() {
-        column[i] = (i / 2000 % 2000) as u32;
-        i += 1;
-    }
+// Entry i is i / every % 2,000.
+fn counted<const N: usize>(every: usize) -> [u32; N]
+    requires { (0 < every) × (N < 65536) }
+{
+    array::from_fn(|i| (i / every % 2000) as u32)
 }
 
 // The last of 41 states with k others as targets.
 fn targets(k: usize) -> u32 {
     let sources = [40u32; 40];
     let labels = [0u32; 40];
-    let mut to = [0u32; 40];
-    count(&mut to);
+    let to: [u32; 40] = counted(1);
     let weights = [1.0f64; 40];
     outcome(41, &sources, &labels, &to, &weights, k)
 }
@@ -75,18 +65,15 @@ fn states(k: usize) -> u32 {
 // k loops on one state, with a label each.
 fn labels(k: usize) -> u32 {
     let zeros = [0u32; 257];
-    let mut labels = [0u32; 257];
-    count(&mut labels);
+    let labels: [u32; 257] = counted(1);
     let weights = [1.0f64; 257];
     outcome(1, &zeros, &labels, &zeros, &weights, k)
 }
 
 // k loops on 2,000 states, with three labels.
 fn transitions(k: usize) -> u32 {
-    let mut states = [0u32; 4097];
-    count(&mut states);
-    let mut labels = [0u32; 4097];
-    count_rounds(&mut labels);
+    let states: [u32; 4097] = counted(1);
+    let labels: [u32; 4097] = counted(2000);
     let weights = [1.0f64; 4097];
     outcome(2000, &states, &labels, &states, &weights, k)
 }
