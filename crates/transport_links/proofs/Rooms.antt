@@ -1,45 +1,18 @@
 -- What the check of room decides.
-use mathlib.Core.Path.{◌≡◌, ◌∙◌}
-use Prim.Native.Nat.{ℕ, ◌+◌, ◌*◌, ◌≤◌, ◌<◌}
-use mathlib.Core.Bool.{Bool, true, false, ◌&&◌}
+use mathlib.Core.Path.{◌≡◌}
+use Prim.Native.Nat.{ℕ, ◌+◌, ◌*◌, ◌≤◌}
+use mathlib.Core.Bool.{true}
 use mathlib.Core.List.{List}
 use native.Mathlib.Omega.{arith}
 use lib.Dec.{leb}
 use lib.ListN.{length}
 use lib.Ieee.{Float}
-use borrow.Author.Tests.{leb-true, le-leb, lt-leb}
-use Rattle.numbers.specs.Lists
+use borrow.Author.Tests.{leb-true}
 use Rattle.numbers.proofs.Bools.{and_t}
-use Rattle.transport_theory.specs.Links.{links, heads, caps, prices}
+use Rattle.transport_theory.specs.Links.{links}
 use Rattle.transport_theory.proofs.LinkRows.{Writable}
-use Rattle.transport_theory.proofs.Networks.{cells_few, links_length}
-use Rattle.transport_theory.proofs.Writing.{has_room, wrote, write}
-
-pub few_links : (m n : ℕ) → m ≤ 32 → n ≤ 32 → m + n + m * n ≤ 1088
-few_links m n f g = let l = cells_few m n f g in omega arith
-
--- how the check ends
-module _ (m n costs heads caps prices : ℕ) where
-  abbrev most : ℕ
-  most = 2 * (m + n + m * n)
-
-  pub many_left : 32 < m → false ≡ has_room m n costs heads caps prices
-  many_left h = rw (lt-leb m 32 h)
-
-  module _ (f : m ≤ 32) where
-    pub many_right : 32 < n → false ≡ has_room m n costs heads caps prices
-    many_right h = rw (le-leb m 32 f, lt-leb n 32 h)
-
-    module _ (g : n ≤ 32) where
-      pub few_costs : costs < m * n → false ≡ has_room m n costs heads caps prices
-      few_costs h = rw (le-leb m 32 f, le-leb n 32 g, lt-leb (m * n) costs h)
-
-      module _ (e : m * n ≤ costs) where
-        pub few_heads : heads < most → false ≡ has_room m n costs heads caps prices
-        few_heads h = rw (le-leb m 32 f, le-leb n 32 g, le-leb (m * n) costs e, lt-leb most heads h)
-
-        pub rest : most ≤ heads → (b : Bool) → b ≡ (leb most caps && leb most prices) → b ≡ has_room m n costs heads caps prices
-        rest h b q = q ∙ rw (le-leb m 32 f, le-leb n 32 g, le-leb (m * n) costs e, le-leb most heads h)
+use Rattle.transport_theory.proofs.Networks.{links_length}
+use Rattle.transport_theory.proofs.Writing.{has_room}
 
 module _ (a b costs : List Float) (h : List ℕ) (c p : List Float) where
   pub writable : has_room (length a) (length b) (length costs) (length h) (length c) (length p) ≡ true → Writable a b costs h c p
@@ -59,10 +32,3 @@ module _ (a b costs : List Float) (h : List ℕ) (c p : List Float) where
 
   pub counted : has_room (length a) (length b) (length costs) (length h) (length c) (length p) ≡ true → length a + length b + length a * length b ≡ length (links a b costs)
   counted t = let l = links_length a b costs (writable t).enough in omega arith
-
-  pub written : has_room (length a) (length b) (length costs) (length h) (length c) (length p) ≡ true → {h' : List ℕ} {c' p' : List Float}
-      → (h' ≡ Lists.over (heads (links a b costs)) h) × (c' ≡ Lists.over (caps (links a b costs)) c) × (p' ≡ Lists.over (prices (links a b costs)) p) → wrote true h' c' p' ≡ write a b costs h c p
-  written t E = rw (t, E.0, E.1, E.2)
-
-  pub unwritten : has_room (length a) (length b) (length costs) (length h) (length c) (length p) ≡ false → wrote false h c p ≡ write a b costs h c p
-  unwritten t = rw t

@@ -84,10 +84,8 @@ fn put_links(
     requires count_value { count ≡ length (Links.links a.now b.now costs.now) }
     ensures { (heads.new ≡ over (Links.heads (Links.links a.now b.now costs.now)) heads.old) × (caps.new ≡ over (Links.caps (Links.links a.now b.now costs.now)) caps.old) × (prices.new ≡ over (Links.prices (Links.links a.now b.now costs.now)) prices.old) }
 {
-    let mut k: usize = 0;
-    while k < count {
+    for k in 0..count {
         put_link(a, b, costs, k, heads, caps, prices);
-        k += 1;
     }
 }
 
@@ -95,17 +93,11 @@ fn put_links(
 fn has_room(m: usize, n: usize, costs: usize, heads: usize, caps: usize, prices: usize) -> bool
     ensures { result ≡ has_room m n costs heads caps prices }
 {
-    if m <= 32 {
-        if n <= 32 {
-            let most = 2 * (m + n + m * n);
-            if m * n <= costs {
-                if most <= heads {
-                    return most <= caps && most <= prices;
-                }
-            }
-        }
+    if m > 32 || n > 32 {
+        return false;
     }
-    false
+    let most = 2 * (m + n + m * n);
+    m * n <= costs && most <= heads && most <= caps && most <= prices
 }
 
 // Writes the links of `transport` into lent rows; where these have no room, or costs are missing, nothing is written.

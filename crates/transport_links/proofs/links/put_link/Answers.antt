@@ -4,14 +4,8 @@ use native.Mathlib.Omega.{arith}
 use Rattle.transport_theory.proofs.LinkWrites.{space, cell_some, put_supply, put_demand, put_crossing}
 use Rattle.transport_links.proofs.links.put_link.Goals as goal
 
-pub put-requires : goal.put-requires
-put-requires c = let f = c.requires.writable.few_a in let g = c.requires.writable.few_b in record { space = space c.requires.writable c.args.k c.requires.k_in_bounds; from_bound = (omega arith, omega arith) }
-
 pub returns-then-k-m : goal.returns-then-k-m
 returns-then-k-m c = put_supply c.requires.writable c.args.k c.requires.k_in_bounds refl c.if-k-m.true c.put.ensures
-
-pub put-requires-then-k-source : goal.put-requires-then-k-source
-put-requires-then-k-source c = let f = c.requires.writable.few_a in let g = c.requires.writable.few_b in record { space = space c.requires.writable c.args.k c.requires.k_in_bounds; from_bound = (omega arith, omega arith) }
 
 pub returns-then-k-source : goal.returns-then-k-source
 returns-then-k-source c = put_demand c.requires.writable c.args.k c.requires.k_in_bounds refl c.if-k-m.false c.if-k-source.true c.put-then-k-source.ensures
@@ -21,9 +15,6 @@ nonzero_div-row c = let z = cell_some c.requires.writable c.args.k c.requires.k_
 
 pub nonzero_rem-column : goal.nonzero_rem-column
 nonzero_rem-column c = let z = cell_some c.requires.writable c.args.k c.requires.k_in_bounds c.if-k-source.false in let y = z.0 in let l = z.2 in let d = z.3 in let r = z.4 in omega arith
-
-pub overflow_add-m : goal.overflow_add-m
-overflow_add-m c = let f = c.requires.writable.few_a in let g = c.requires.writable.few_b in let z = cell_some c.requires.writable c.args.k c.requires.k_in_bounds c.if-k-source.false in let y = z.0 in let l = z.2 in let d = z.3 in let r = z.4 in record { fits = omega arith }
 
 pub bounds-costs-cell : goal.bounds-costs-cell
 bounds-costs-cell c = let z = cell_some c.requires.writable c.args.k c.requires.k_in_bounds c.if-k-source.false in let y = z.0 in let l = z.2 in let d = z.3 in let r = z.4 in l
