@@ -1,21 +1,19 @@
 -- Links that fit are a network that can be sailed, and the rounds on it are the definition's.
 use mathlib.Core.Path.{◌≡◌, sym, ap, subst, ◌∙◌}
 use Prim.Native.Nat.{ℕ, ◌+◌, ◌*◌, ◌≤◌, ◌<◌}
-use mathlib.Core.Bool.{Bool, true, false, cond}
-use mathlib.Core.Logic.{◌≢◌}
+use mathlib.Core.Bool.{Bool, true}
 use mathlib.Core.List.{List}
 use native.Mathlib.Omega.{arith}
 use lib.Dec.{leb, eqb, ltb, lit<}
 use lib.ListN.{length}
 use lib.Ieee.{Float, binary64, mul}
-use borrow.Author.Tests.{leb-true, le-leb, lt-leb, eqb-true, eq-eqb, ne_eqb}
-use Rattle.numbers.specs.Lists.{over}
-use Rattle.numbers.specs.Real.{nought, one, eps, sum}
+use borrow.Author.Tests.{leb-true, eqb-true}
+use Rattle.numbers.specs.Real.{one, eps, sum}
 use Rattle.numbers.specs.Choice.{smaller, larger}
 use Rattle.numbers.proofs.Bools.{and_t}
 use Rattle.flow_theory.specs.Network.{head, node_lists}
 use Rattle.flow_theory.specs.Levels.{unset}
-use Rattle.flow_theory.specs.Rows.{network, list_of}
+use Rattle.flow_theory.specs.Rows.{network}
 use Rattle.flow_theory.proofs.Links.{WellFormed}
 use Rattle.flow_theory.proofs.Outs.{network_nodes}
 use Rattle.flow_theory.proofs.Theorem.{made}
@@ -25,7 +23,7 @@ use Rattle.flow_check.proofs.Relists.{Relisted, listable_indexable, enlisted}
 use Rattle.transport_theory.specs.Transport.{Shipment, rounds, crumbs, round_cap}
 use Rattle.transport_theory.proofs.RoundRows.{row_roads, shipment, Sailable, Shipped}
 use Rattle.transport_theory.proofs.TransportRows.{Linked, shipped_rows}
-use Rattle.transport_theory.proofs.Sending.{sizes_fit, listable, sent, send}
+use Rattle.transport_theory.proofs.Sending.{sizes_fit, listable}
 
 unset_large : 10000 < unset
 unfolding unset
@@ -59,28 +57,9 @@ module _ {a b : List Float} {H : List ℕ} {c p : List Float} {list : List ℕ} 
 
 -- ---- what the checks decide
 
-module _ (m n h c p : ℕ) where
-  pub many_a : 32 < m → false ≡ sizes_fit m n h c p
-  many_a x = rw (lt-leb m 32 x)
-
-  module _ (f : m ≤ 32) where
-    pub many_b : 32 < n → false ≡ sizes_fit m n h c p
-    many_b x = rw (le-leb m 32 f, lt-leb n 32 x)
-
-    module _ (g : n ≤ 32) where
-      pub other_caps : c ≢ h → false ≡ sizes_fit m n h c p
-      other_caps x = rw (le-leb m 32 f, le-leb n 32 g, ne_eqb c h x)
-
-      pub prices_last : c ≡ h → (r : Bool) → r ≡ eqb p h → r ≡ sizes_fit m n h c p
-      prices_last x r q = q ∙ rw (le-leb m 32 f, le-leb n 32 g, eq-eqb c h x)
-
 module _ (a b : List Float) (H : List ℕ) (c p : List Float) (l : List ℕ) where
   abbrev n : ℕ
   n = length a + length b + 2
-
-  -- the sizes do not fit
-  pub unsized : sizes_fit (length a) (length b) (length H) (length c) (length p) ≡ false → sent false nought c l ≡ send a b H c p l
-  unsized z = rw z
 
   module _ (z : sizes_fit (length a) (length b) (length H) (length c) (length p) ≡ true) where
     pub few : (length a ≤ 32) × (length b ≤ 32)
@@ -92,12 +71,6 @@ module _ (a b : List Float) (H : List ℕ) (c p : List Float) (l : List ℕ) whe
     module _ (st : List ℕ) (w : length st ≡ 67) (r : Bool) (st' l' : List ℕ) (E : Relisted H n st l r st' l') where
       answer : r ≡ listable H n 67 (length l)
       answer = E.0 ∙ ap (λ (k : ℕ). listable H n k (length l)) w
-
-      -- the links cannot be listed, and the list is as it was
-      pub unlisted : r ≡ false → sent false nought c l' ≡ send a b H c p l
-      unlisted q =
-          let d : listable H n 67 (length l) ≡ false = sym answer ∙ q in
-          ap (λ (x : List ℕ). sent false nought c x) (E.1.1 ∙ ap (λ (t : Bool). cond t (over (list_of H n) l) l) q) ∙ rw (z, d)
 
       module _ (q : r ≡ true) where
         can : listable H n 67 (length l) ≡ true
@@ -121,11 +94,6 @@ module _ (a b : List Float) (H : List ℕ) (c p : List Float) (l : List ℕ) whe
 
         pub sails : Sailable (row_roads H p n (length a + length b) (length a + length b + 1)) st' l' c
         sails = sailable linked st w r st' l' E
-
-        pub sends : {x : Float} {c' : List Float} → Shipped (shipped_rows a b H c p) x c' → sent true x c' l' ≡ send a b H c p l
-        sends S =
-            let k : l' ≡ over (list_of H n) l = E.1.1 ∙ ap (λ (t : Bool). cond t (over (list_of H n) l) l) q in
-            rw (z, can, S.remaining_is, S.cap_is, k)
 
 -- the rounds with their bounds worked out
 pub told_links : (a b : List Float) (H : List ℕ) (c p : List Float) {ta tb big low x : Float} {c' : List Float} → ta ≡ sum a → tb ≡ sum b → big ≡ larger ta one → low ≡ smaller ta tb

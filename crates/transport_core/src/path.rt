@@ -40,33 +40,28 @@ pub(crate) fn walk(
     Trail { home: true, length }
 }
 
-// The least of x and the capacities on the first n links of the path.
-pub(crate) fn least(caps: &[f64], path: &[usize], n: usize, x: f64) -> f64
-    requires { Placed caps.now path.now n }
-    ensures { result ≡ Augment.least caps.now x (take n path.now) }
+// The least of x and the capacities on the path.
+pub(crate) fn least(caps: &[f64], path: &[usize], x: f64) -> f64
+    requires { Placed caps.now path.now }
+    ensures { result ≡ Augment.least caps.now x path.now }
 {
     let mut y = x;
-    let mut i: usize = 0;
-    while i < n {
-        let c = caps[path[i]];
+    for e in path {
+        let c = caps[*e];
         if c < y {
             y = c;
         }
-        i += 1;
     }
     y
 }
 
-// Takes x off each of the first n links of the path, and gives it to its reverse.
-pub(crate) fn push_path(caps: &mut [f64], path: &[usize], n: usize, x: f64)
-    requires { Placed caps.old path.now n }
-    ensures { caps.new ≡ Augment.push_path x (take n path.now) caps.old }
+// Takes x off each link of the path, and gives it to its reverse.
+pub(crate) fn push_path(caps: &mut [f64], path: &[usize], x: f64)
+    requires { Placed caps.old path.now }
+    ensures { caps.new ≡ Augment.push_path x path.now caps.old }
 {
-    let mut i: usize = 0;
-    while i < n {
-        let e = path[i];
-        caps[e] = caps[e] - x;
-        caps[e ^ 1] = caps[e ^ 1] + x;
-        i += 1;
+    for e in path {
+        caps[*e] -= x;
+        caps[*e ^ 1] += x;
     }
 }

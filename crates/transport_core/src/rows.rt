@@ -46,14 +46,7 @@ fn ship_listed(
 fn sizes_fit(m: usize, n: usize, heads: usize, caps: usize, prices: usize) -> bool
     ensures { result ≡ sizes_fit m n heads caps prices }
 {
-    if m <= 32 {
-        if n <= 32 {
-            if caps == heads {
-                return prices == heads;
-            }
-        }
-    }
-    false
+    m <= 32 && n <= 32 && caps == heads && prices == heads
 }
 
 // What the rounds come to: whether they were made, and what remains then.

@@ -33,14 +33,14 @@ fn push_back(
 {
     let w = path::walk(heads, via, source, sink, path);
     if w.home {
-        let x = path::least(caps, path, w.length, remaining);
+        let x = path::least(caps, &path[..w.length], remaining);
         if x <= EPS {
             return Round {
                 pushed: false,
                 remaining,
             };
         }
-        path::push_path(caps, path, w.length, x);
+        path::push_path(caps, &path[..w.length], x);
         return Round {
             pushed: true,
             remaining: remaining - x,
@@ -132,8 +132,7 @@ pub(crate) fn ship(
     ensures { Shipped (rounds (row_roads heads.now costs.now nodes source sink) much most (shipment caps.old start 0)) result caps.new }
 {
     let mut remaining = start;
-    let mut made: usize = 0;
-    while made < most {
+    for _ in 0..most {
         if !(remaining > much) {
             return remaining;
         }
@@ -144,7 +143,6 @@ pub(crate) fn ship(
         if !r.pushed {
             return remaining;
         }
-        made += 1;
     }
     remaining
 }

@@ -21,8 +21,7 @@ fn relax(
     ensures { Relaxed heads.now list.now caps.now costs.now from to u dist.old via.old before dist.new via.new result }
 {
     let mut changed = before;
-    let mut j = from;
-    while j < to {
+    for j in from..to {
         let e = list[j] as usize;
         let v = heads[e] as usize;
         if caps[e] > EPS {
@@ -33,7 +32,6 @@ fn relax(
                 changed = true;
             }
         }
-        j += 1;
     }
     changed
 }
@@ -52,14 +50,12 @@ fn pass(
     ensures { Passed heads.now list.now starts.now caps.now costs.now dist.old via.old dist.new via.new result }
 {
     let mut changed = false;
-    let mut u: usize = 0;
-    while u < dist.len() {
+    for u in 0..dist.len() {
         if !is_infinite(dist[u]) {
             let from = starts[u] as usize;
             let to = starts[u + 1] as usize;
             changed = relax(heads, caps, costs, list, from, to, u, dist, via, changed);
         }
-        u += 1;
     }
     changed
 }
@@ -77,11 +73,9 @@ pub(crate) fn search(
     requires { Passable heads.now list.now starts.now caps.now costs.now dist.old via.old }
     ensures { Searched heads.now list.now starts.now caps.now costs.now dist.old via.old dist.new via.new }
 {
-    let mut k: usize = 0;
-    while k < dist.len() {
+    for _ in 0..dist.len() {
         if !pass(heads, caps, costs, starts, list, dist, via) {
             return;
         }
-        k += 1;
     }
 }

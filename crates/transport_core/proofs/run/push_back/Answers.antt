@@ -2,9 +2,6 @@
 use Rattle.transport_theory.proofs.Turns.{move_placed, move_cycle, move_small, move_pushes}
 use Rattle.transport_core.proofs.run.push_back.Goals as goal
 
-pub walk-w-requires : goal.walk-w-requires
-walk-w-requires c = c.requires.walkable
-
 pub least-x-requires : goal.least-x-requires
 least-x-requires c = move_placed c.requires c.walk-w.ensures
 

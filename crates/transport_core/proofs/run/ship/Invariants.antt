@@ -1,11 +1,7 @@
 -- `run::ship` meets its contract. The loop's invariant: the rounds still to come, from these capacities and what remains, lead to the end (Turns.Shipping).
-use Prim.Native.Nat.{◌-◌}
 use Rattle.transport_theory.proofs.RoundRows.{row_roads}
 use Rattle.transport_theory.proofs.Turns.{Shipping}
 use Rattle.transport_core.proofs.run.ship.Given as goal
 
-abbrev pub invariant-loop-made : goal.invariant-loop-made
-invariant-loop-made l = Shipping (row_roads l.heads l.costs l.nodes l.source l.sink) l.much l.most l.initial.caps l.start l.caps l.remaining l.made
-
-abbrev pub decreases-loop-made : goal.decreases-loop-made
-decreases-loop-made l = l.most - l.made
+abbrev pub invariant-loop : goal.invariant-loop
+invariant-loop l = Shipping (row_roads l.heads l.costs l.nodes l.source l.sink) l.much l.most l.initial.caps l.start l.caps l.remaining l.counter

@@ -1,11 +1,6 @@
 -- `search::pass` meets its contract. The loop's invariant: the nodes still to come, from this tree, lead to the last one (Searches.Passing).
-use Prim.Native.Nat.{◌-◌}
-use lib.ListN.{length}
 use Rattle.transport_theory.proofs.Searches.{Passing}
 use Rattle.transport_core.proofs.search.pass.Given as goal
 
 abbrev pub invariant-loop-u : goal.invariant-loop-u
 invariant-loop-u l = Passing l.heads l.list l.starts l.caps l.costs l.initial.dist l.initial.via l.dist l.via l.changed l.u
-
-abbrev pub decreases-loop-u : goal.decreases-loop-u
-decreases-loop-u l = length l.initial.dist - l.u
