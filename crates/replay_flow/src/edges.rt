@@ -9,10 +9,10 @@ use replay_text::{answers, lists, tally, text};
 
 // Two places more than n, where there is room.
 fn two_more(n: usize) -> usize {
-    if n <= 2174 { n + 2 } else { 2176 }
+    n.min(2174) + 2
 }
 
-fn counted(refused: u32, net: FlowNetwork) -> Answer {
+fn counted(refused: u32, net: &FlowNetwork) -> Answer {
     if refused == 0 {
         return answers::given(net.count as u64, 0);
     }
@@ -32,20 +32,17 @@ fn expect_rows(
     lists::expect_reals(buf, t, lists::reals_front(costs, n))
 }
 
-fn expect_links(buf: &[u8], r: Reader, net: FlowNetwork, n: usize) -> Reader {
+fn expect_links(buf: &[u8], r: Reader, net: &FlowNetwork, n: usize) -> Reader {
     let mut heads = [0u32; 2176];
     let mut caps = [0.0f64; 2176];
     let mut costs = [0.0f64; 2176];
-    let links = net.links;
-    nets::unpack(links, &mut heads, &mut caps, &mut costs);
+    nets::unpack(&net.links, &mut heads, &mut caps, &mut costs);
     expect_rows(buf, r, &heads, &caps, &costs, n)
 }
 
-fn expect_lists(buf: &[u8], r: Reader, net: FlowNetwork, starts: usize, n: usize) -> Reader {
-    let own = net.starts;
-    let list = net.list;
-    let s = lists::expect_list(buf, r, lists::front(&own, starts));
-    lists::expect_list(buf, s, lists::front(&list, n))
+fn expect_lists(buf: &[u8], r: Reader, net: &FlowNetwork, starts: usize, n: usize) -> Reader {
+    let s = lists::expect_list(buf, r, lists::front(&net.starts, starts));
+    lists::expect_list(buf, s, lists::front(&net.list, n))
 }
 
 #[derive(Clone, Copy)]
@@ -57,46 +54,35 @@ struct Asked {
 }
 
 // The network with the link asked for, and its reverse, after its links.
-fn with_link(net: FlowNetwork, x: Asked) -> FlowNetwork {
+fn with_link(mut net: FlowNetwork, x: Asked) -> FlowNetwork {
     let count = net.count;
-    let nodes = net.nodes;
-    let mut links = net.links;
-    let starts = net.starts;
-    let list = net.list;
     if count < 2175 {
-        links[count] = Link {
+        net.links[count] = Link {
             head: x.to,
             cap: x.capacity,
             cost: x.cost,
         };
-        links[count + 1] = Link {
+        net.links[count + 1] = Link {
             head: x.from,
             cap: 0.0,
             cost: -x.cost,
         };
     }
-    FlowNetwork {
-        links,
-        count,
-        nodes,
-        starts,
-        list,
-    }
+    net
 }
 
 // What the lists of the answer do not show: past them all is kept, but for a link added there.
 fn same_else(l: Listed, x: Asked, made: Made) -> bool {
     let mut before = l.net;
-    let after = made.net;
     if made.refused == 0 {
         before = with_link(before, x);
-    } else if before.count != after.count {
+    } else if before.count != made.net.count {
         return false;
     }
     let n = two_more(l.links);
     kept::kept(
-        before,
-        after,
+        &before,
+        &made.net,
         From {
             links: n,
             caps: n,
@@ -107,10 +93,9 @@ fn same_else(l: Listed, x: Asked, made: Made) -> bool {
 }
 
 fn compare(buf: &[u8], r: Reader, l: Listed, x: Asked, made: Made) -> Reader {
-    let after = made.net;
-    let s = answers::expect_one(buf, r, counted(made.refused, after));
-    let t = expect_links(buf, s, after, two_more(l.links));
-    let u = expect_lists(buf, t, after, l.starts, two_more(l.list));
+    let s = answers::expect_one(buf, r, counted(made.refused, &made.net));
+    let t = expect_links(buf, s, &made.net, two_more(l.links));
+    let u = expect_lists(buf, t, &made.net, l.starts, two_more(l.list));
     text::compared(u, same_else(l, x, made))
 }
 
@@ -120,14 +105,13 @@ pub fn run(buf: &[u8], r: Reader, counts: &mut [u64; 48]) -> Reader {
     let to = text::number_field(buf, from.r);
     let capacity = text::real_field(buf, to.r);
     let cost = text::real_field(buf, capacity.r);
-    let net = l.net;
     let x = Asked {
         from: text::narrow(from.x),
         to: text::narrow(to.x),
         capacity: capacity.x,
         cost: cost.x,
     };
-    let made = lent::add_edge(net, from.x as usize, to.x as usize, capacity.x, cost.x);
+    let made = lent::add_edge(l.net, from.x as usize, to.x as usize, capacity.x, cost.x);
     let s = compare(buf, cost.r, l, x, made);
     tally::count(counts, entries::ADD_EDGE, s)
 }

@@ -37,46 +37,40 @@ fn expect_row(buf: &[u8], r: Reader, caps: &[f64; 2176], n: usize) -> Reader {
     lists::expect_reals(buf, r, lists::reals_front(caps, n))
 }
 
-fn expect_caps(buf: &[u8], r: Reader, net: FlowNetwork, n: usize) -> Reader {
+fn expect_caps(buf: &[u8], r: Reader, net: &FlowNetwork, n: usize) -> Reader {
     let mut heads = [0u32; 2176];
     let mut caps = [0.0f64; 2176];
     let mut costs = [0.0f64; 2176];
-    let links = net.links;
-    nets::unpack(links, &mut heads, &mut caps, &mut costs);
+    nets::unpack(&net.links, &mut heads, &mut caps, &mut costs);
     expect_row(buf, r, &caps, n)
 }
 
 // Only capacities of the n links listed may change.
-fn same_else(before: FlowNetwork, after: FlowNetwork, n: usize) -> bool {
-    if before.count != after.count {
-        return false;
-    }
-    kept::kept(
-        before,
-        after,
-        From {
-            links: 0,
-            caps: n,
-            starts: 0,
-            list: 0,
-        },
-    )
+fn same_else(before: &FlowNetwork, after: &FlowNetwork, n: usize) -> bool {
+    before.count == after.count
+        && kept::kept(
+            before,
+            after,
+            From {
+                links: 0,
+                caps: n,
+                starts: 0,
+                list: 0,
+            },
+        )
 }
 
-fn compare(buf: &[u8], r: Reader, net: FlowNetwork, ran: Ran, n: usize) -> Reader {
-    let after = ran.net;
-    let answer = ran.answer;
-    let s = expect_answer(buf, r, answer);
-    let t = expect_caps(buf, s, after, n);
-    text::compared(t, same_else(net, after, n))
+fn compare(buf: &[u8], r: Reader, net: &FlowNetwork, ran: Ran, n: usize) -> Reader {
+    let s = expect_answer(buf, r, ran.answer);
+    let t = expect_caps(buf, s, &ran.net, n);
+    text::compared(t, same_else(net, &ran.net, n))
 }
 
 pub fn run(buf: &[u8], r: Reader, counts: &mut [u64; 48]) -> Reader {
     let l = nets::read(buf, r);
     let source = text::number_field(buf, l.r);
     let sink = text::number_field(buf, source.r);
-    let net = l.net;
-    let ran = lent::max_flow(net, source.x as usize, sink.x as usize);
-    let s = compare(buf, sink.r, net, ran, l.links);
+    let ran = lent::max_flow(l.net, source.x as usize, sink.x as usize);
+    let s = compare(buf, sink.r, &l.net, ran, l.links);
     tally::count(counts, entries::MAX_FLOW, s)
 }

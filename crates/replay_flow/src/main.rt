@@ -23,16 +23,12 @@ const EDGE: u64 = 0x65646765;
 const NODES: u64 = 0x6e6f646573;
 
 fn run_kind(buf: &[u8], r: Reader, counts: &mut [u64; 48], kind: u64) -> Reader {
-    if kind == FLOW {
-        return flows::run(buf, r, counts);
+    match kind {
+        FLOW => flows::run(buf, r, counts),
+        EDGE => edges::run(buf, r, counts),
+        NODES => nodes::run(buf, r, counts),
+        _ => tally::unknown(r, counts),
     }
-    if kind == EDGE {
-        return edges::run(buf, r, counts);
-    }
-    if kind == NODES {
-        return nodes::run(buf, r, counts);
-    }
-    tally::unknown(r, counts)
 }
 
 fn run_case(buf: &[u8], r: Reader, counts: &mut [u64; 48]) -> Reader {
@@ -44,10 +40,11 @@ fn run_case(buf: &[u8], r: Reader, counts: &mut [u64; 48]) -> Reader {
 
 fn run_all(buf: &[u8], counts: &mut [u64; 48]) {
     let mut r = text::start(buf);
-    let mut turns: u32 = 0;
-    while turns < 1000000 && !text::at_end(r) {
+    for _ in 0..1000000 {
+        if text::at_end(r) {
+            return;
+        }
         r = run_case(buf, r, counts);
-        turns += 1;
     }
 }
 

@@ -1,7 +1,10 @@
 // Networks as rows of numbers: what a case does not list is zero.
+ghost use Rattle.std.specs.Prelude.{◌<◌};
+
 use flow::network::{FlowNetwork, Link};
 use replay_text::text::Reader;
 use replay_text::{lists, text};
+use std::array;
 
 // A network, and how many links, starts and places of the node lists the case lists.
 #[derive(Clone, Copy)]
@@ -32,35 +35,29 @@ pub fn blank(nodes: usize) -> FlowNetwork {
 }
 
 fn pack(heads: &[u32; 2176], caps: &[f64; 2176], costs: &[f64; 2176]) -> [Link; 2176] {
-    let mut links = [Link {
-        head: 0,
-        cap: 0.0,
-        cost: 0.0,
-    }; 2176];
-    let mut i: usize = 0;
-    while i < 2176 {
-        links[i] = Link {
-            head: heads[i],
-            cap: caps[i],
-            cost: costs[i],
-        };
-        i += 1;
-    }
-    links
+    array::from_fn(
+        |i|
+            requires { i < 2176 }
+        {
+            Link {
+                head: heads[i],
+                cap: caps[i],
+                cost: costs[i],
+            }
+        },
+    )
 }
 
 pub fn unpack(
-    links: [Link; 2176],
+    links: &[Link; 2176],
     heads: &mut [u32; 2176],
     caps: &mut [f64; 2176],
     costs: &mut [f64; 2176],
 ) {
-    let mut i: usize = 0;
-    while i < 2176 {
-        heads[i] = links[i].head;
-        caps[i] = links[i].cap;
-        costs[i] = links[i].cost;
-        i += 1;
+    for (i, link) in links.iter().enumerate() {
+        heads[i] = link.head;
+        caps[i] = link.cap;
+        costs[i] = link.cost;
     }
 }
 
@@ -79,11 +76,10 @@ fn read_links(buf: &[u8], r: Reader) -> LinksRead {
     let c = lists::reals_field(buf, h.r, &mut caps);
     let p = lists::reals_field(buf, c.r, &mut costs);
     let links = pack(&heads, &caps, &costs);
-    let next = p.r;
     LinksRead {
         links,
         n: h.n,
-        r: next,
+        r: p.r,
     }
 }
 
@@ -103,12 +99,11 @@ pub fn read(buf: &[u8], r: Reader) -> Listed {
         starts,
         list,
     };
-    let next = o.r;
     Listed {
         net,
         links: l.n,
         starts: s.n,
         list: o.n,
-        r: next,
+        r: o.r,
     }
 }

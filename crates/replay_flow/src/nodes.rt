@@ -7,29 +7,26 @@ use replay_text::text::Reader;
 use replay_text::{answers, tally, text};
 
 // A new network has no links, and zeros in all rows.
-fn is_blank(net: FlowNetwork) -> bool {
-    if net.count != 0 {
-        return false;
-    }
-    kept::kept(
-        nets::blank(net.nodes),
-        net,
-        From {
-            links: 0,
-            caps: 0,
-            starts: 0,
-            list: 0,
-        },
-    )
+fn is_blank(net: &FlowNetwork) -> bool {
+    net.count == 0
+        && kept::kept(
+            &nets::blank(net.nodes),
+            net,
+            From {
+                links: 0,
+                caps: 0,
+                starts: 0,
+                list: 0,
+            },
+        )
 }
 
 fn compare(buf: &[u8], r: Reader, made: Made) -> Reader {
-    let net = made.net;
     if made.refused != 0 {
         return answers::expect_one(buf, r, answers::refused(made.refused));
     }
-    let s = answers::expect_one(buf, r, answers::given(net.nodes as u64, 0));
-    text::compared(s, is_blank(net))
+    let s = answers::expect_one(buf, r, answers::given(made.net.nodes as u64, 0));
+    text::compared(s, is_blank(&made.net))
 }
 
 pub fn run(buf: &[u8], r: Reader, counts: &mut [u64; 48]) -> Reader {

@@ -18,13 +18,11 @@ const RELATION: u64 = 0x72656c6174696f6e;
 const RELATED: u64 = 0x72656c61746564;
 
 fn run_kind(buf: &[u8], r: Reader, counts: &mut [u64; 48], store: &mut [u8], kind: u64) -> Reader {
-    if kind == RELATION {
-        return relations::run(buf, r, counts, store);
+    match kind {
+        RELATION => relations::run(buf, r, counts, store),
+        RELATED => relations::run_related(buf, r, counts, store),
+        _ => tally::unknown(r, counts),
     }
-    if kind == RELATED {
-        return relations::run_related(buf, r, counts, store);
-    }
-    tally::unknown(r, counts)
 }
 
 fn run_case(buf: &[u8], r: Reader, counts: &mut [u64; 48], store: &mut [u8]) -> Reader {
@@ -36,10 +34,11 @@ fn run_case(buf: &[u8], r: Reader, counts: &mut [u64; 48], store: &mut [u8]) -> 
 
 fn run_all(buf: &[u8], counts: &mut [u64; 48], store: &mut [u8]) {
     let mut r = text::start(buf);
-    let mut turns: u32 = 0;
-    while turns < 1000000 && !text::at_end(r) {
+    for _ in 0..1000000 {
+        if text::at_end(r) {
+            return;
+        }
         r = run_case(buf, r, counts, store);
-        turns += 1;
     }
 }
 

@@ -168,19 +168,6 @@ fn check_min_epsilon(
     tally::count(counts, entries::MIN_EPSILON, t)
 }
 
-// The same asked, the answers from r on.
-fn resumed(x: Asked, r: Reader) -> Asked {
-    let left = x.left;
-    let right = x.right;
-    Asked {
-        r: r,
-        left,
-        right,
-        epsilon: x.epsilon,
-        rho: x.rho,
-    }
-}
-
 // The relation, and whether the initial states are in it.
 fn check_relation(
     buf: &[u8],
@@ -220,7 +207,7 @@ fn check_relation(
         listed,
         lent,
     );
-    let y = resumed(x, s);
+    let y = Asked { r: s, ..x };
     check_bisimilar(
         buf,
         counts,
@@ -281,7 +268,7 @@ fn check(
         listed,
         lent,
     );
-    let y = resumed(x, s);
+    let y = Asked { r: s, ..x };
     check_min_epsilon(
         buf,
         counts,
@@ -330,9 +317,8 @@ fn run_lent(
     let epsilon = text::real_field(buf, n.r);
     let rho = text::real_field(buf, epsilon.r);
     let l = store::read(buf, rho.r, &mut listed, bytes.len());
-    let next = l.r;
     let x = Asked {
-        r: next,
+        r: l.r,
         left,
         right,
         epsilon: epsilon.x,

@@ -15,36 +15,22 @@ pub fn read(buf: &[u8], r: Reader, listed: &mut [u8], most: usize) -> Lent {
     let room = text::number_field(buf, r);
     let l = lists::sized(room, most);
     let b = lists::bytes_field(buf, l.r, listed);
-    let s = b.r;
     Lent {
         room: l.n,
         n: b.n,
-        r: s,
+        r: b.r,
     }
-}
-
-fn byte_at(listed: &[u8], i: usize) -> u8 {
-    if i < listed.len() { listed[i] } else { 0 }
 }
 
 // The bytes listed, and zeros after them.
 pub fn fill(store: &mut [u8], listed: &[u8]) {
-    let mut i: usize = 0;
-    while i < store.len() {
-        store[i] = byte_at(listed, i);
-        i += 1;
-    }
+    let n = store.len().min(listed.len());
+    store[..n].copy_from_slice(&listed[..n]);
+    store[n..].fill(0);
 }
 
 fn zero_from(store: &[u8], from: usize) -> bool {
-    let mut i: usize = 0;
-    while i < store.len() {
-        if from <= i && store[i] != 0 {
-            return false;
-        }
-        i += 1;
-    }
-    true
+    store.iter().skip(from).all(|b| *b == 0)
 }
 
 // The first n bytes are as stored, and the others zero.

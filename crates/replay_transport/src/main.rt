@@ -15,20 +15,21 @@ const TRANSPOR: u64 = 0x7472616e73706f72;
 fn run_case(buf: &[u8], r: Reader, counts: &mut [u64; 48]) -> Reader {
     let named = text::name(buf, r);
     let kind = text::word(buf, named);
-    if kind.x == TRANSPOR {
-        let s = plans::run(buf, kind.r, counts);
-        return tally::next_case(buf, s, counts);
-    }
-    let s = tally::unknown(kind.r, counts);
+    let s = if kind.x == TRANSPOR {
+        plans::run(buf, kind.r, counts)
+    } else {
+        tally::unknown(kind.r, counts)
+    };
     tally::next_case(buf, s, counts)
 }
 
 fn run_all(buf: &[u8], counts: &mut [u64; 48]) {
     let mut r = text::start(buf);
-    let mut turns: u32 = 0;
-    while turns < 1000000 && !text::at_end(r) {
+    for _ in 0..1000000 {
+        if text::at_end(r) {
+            return;
+        }
         r = run_case(buf, r, counts);
-        turns += 1;
     }
 }
 

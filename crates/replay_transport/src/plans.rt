@@ -70,12 +70,11 @@ fn read_plan(
     let i = lists::list_field(buf, r, rows);
     let j = lists::list_field(buf, i.r, columns);
     let x = lists::reals_field(buf, j.r, masses);
-    let next = x.r;
     Given {
         rows: i.n,
         columns: j.n,
         masses: x.n,
-        r: next,
+        r: x.r,
     }
 }
 
