@@ -15,17 +15,29 @@ use Rattle.numbers.proofs.Bools.{and_t, eq_or_ne, lt_or_ge}
 use Rattle.numbers.proofs.Parts.{take_replicate_length}
 use Rattle.flow_theory.proofs.ListRows.{Indexable}
 use Rattle.flow_theory.proofs.Lists.{at_map}
-use Rattle.flow_check.specs.Refusal.{cap_fits, cost_fits, edge_fits}
+use Rattle.flow_check.specs.Refusal.{cap_fits, cost_fits, edge_fits, network_fits}
 use Rattle.flow_check.proofs.Accepting.{Parts, fitting}
 use Rattle.flow_check.proofs.Relists.{Relisted, laid_over}
 use Rattle.flow.specs.declared.network.Link.{Link}
 use Rattle.flow.specs.declared.network.FlowNetwork.{FlowNetwork}
-use Rattle.flow.proofs.Packing.{past_end}
+use Rattle.numbers.specs.Lists.{over}
+use Rattle.flow.proofs.Packing.{past_end, front_of}
 use Rattle.flow.specs.Network.{heads_of, caps_of, costs_of, with_link, fits_on, grown}
 
 -- the part of a fresh array that holds the first k links
 pub room_length : {A : Type 0} (k : ℕ) (x : A) → k ≤ 2176 → length (take k (replicate 2176 x)) ≡ k
 room_length k x h = take_replicate_length k 2176 x h
+
+-- the rows with a network's links in front, as the check reads them
+pub fits_rows : (N : FlowNetwork) → N.count ≤ length N.links → (H h : List ℕ) (c d p q : List Float)
+    → (H ≡ over (heads_of N.count N.links) h) × (c ≡ over (caps_of N.count N.links) d) × (p ≡ over (costs_of N.count N.links) q)
+    → network_fits (take N.count H) (take N.count c) (take N.count p) N.starts N.list N.nodes ≡ fits_on N
+fits_rows N few H h c d p q U =
+    let n = N.count in
+    let ls = N.links in
+    ap (λ (x : List ℕ). network_fits x (take n c) (take n p) N.starts N.list N.nodes) (ap (take n) U.0 ∙ front_of (λ (l : Link). l.head) ls h n few)
+    ∙ ap (λ (x : List Float). network_fits (heads_of n ls) x (take n p) N.starts N.list N.nodes) (ap (take n) U.1 ∙ front_of (λ (l : Link). l.cap) ls d n few)
+    ∙ ap (λ (x : List Float). network_fits (heads_of n ls) (caps_of n ls) x N.starts N.list N.nodes) (ap (take n) U.2 ∙ front_of (λ (l : Link). l.cost) ls q n few)
 
 -- a fresh row of heads
 abbrev blank : List ℕ

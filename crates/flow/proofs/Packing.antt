@@ -9,8 +9,7 @@ use lib.ListN.{length, get_or, set, take, drop, length-map}
 use lib.Seq.{take_at, drop_at, length-take-le}
 use lib.Ieee.{Float, nan}
 use Rattle.flow.specs.declared.network.Link.{Link}
-use Rattle.flow.specs.Network.{heads_of, caps_of, costs_of, with_caps}
-use Rattle.flow_theory.proofs.ListRows.{Fitting}
+use Rattle.flow.specs.Network.{caps_of, with_caps}
 use Rattle.flow_theory.proofs.Lists.{at_map}
 use Rattle.numbers.specs.Lists.{over}
 use Rattle.numbers.proofs.Over.{over_step, over_length}
@@ -18,10 +17,6 @@ use Rattle.numbers.proofs.Over.{over_step, over_length}
 -- what stands past the end of a list of links, as the checker has it
 abbrev pub past_end : Link
 past_end = record { head = 0; cap = nan; cost = nan }
-
--- the rows hold heads, capacities and costs of the first n links
-abbrev pub Unpacked : List Link → ℕ → List ℕ → List Float → List Float → Type 0
-Unpacked ls n heads caps costs = (heads ≡ heads_of n ls) × (caps ≡ caps_of n ls) × (costs ≡ costs_of n ls)
 
 -- a row whose first i places are taken from the links
 abbrev Filled : {A : Type 0} → (Link → A) → List Link → List A → ℕ → List A → Type 0
@@ -33,37 +28,6 @@ module _ {A : Type 0} (f : Link → A) (ls : List Link) (r₀ : List A) (i : ℕ
 
   filled_length : i ≤ length ls → i ≤ length r₀ → length r ≡ length r₀
   filled_length there h = ap length I ∙ over_length (map f ls) r₀ i (let l = length-map ls f in omega arith) h
-
-pub record Unpacking (ls : List Link) (heads₀ : List ℕ) (caps₀ costs₀ : List Float) (heads : List ℕ) (caps costs : List Float) (i : ℕ) : Type 0 where
-  pub upto : i ≤ length heads₀
-  pub heads_is : Filled (λ (l : Link). l.head) ls heads₀ i heads
-  pub caps_is : Filled (λ (l : Link). l.cap) ls caps₀ i caps
-  pub costs_is : Filled (λ (l : Link). l.cost) ls costs₀ i costs
-
-module _ (ls : List Link) (whole : length ls ≡ 2176) {heads₀ : List ℕ} {caps₀ costs₀ : List Float} (F : Fitting heads₀ caps₀ costs₀)
-    {heads : List ℕ} {caps costs : List Float} {i : ℕ} (I : Unpacking ls heads₀ caps₀ costs₀ heads caps costs i) where
-  pub row_lengths : (length heads ≡ length heads₀) × (length caps ≡ length caps₀) × (length costs ≡ length costs₀)
-  row_lengths =
-      let w = F.within in
-      let u = I.upto in
-      let a = F.caps_too in
-      let b = F.costs_too in (
-        filled_length (λ (l : Link). l.head) ls heads₀ i heads I.heads_is (omega arith) u,
-        filled_length (λ (l : Link). l.cap) ls caps₀ i caps I.caps_is (omega arith) (omega arith),
-        filled_length (λ (l : Link). l.cost) ls costs₀ i costs I.costs_is (omega arith) (omega arith),
-      )
-
-  pub unpack_on : i < length heads₀ → Unpacking ls heads₀ caps₀ costs₀ (set heads i (get_or ls i past_end).head) (set caps i (get_or ls i past_end).cap) (set costs i (get_or ls i past_end).cost) (i + 1)
-  unpack_on h =
-      let w = F.within in
-      let a = F.caps_too in
-      let b = F.costs_too in
-      record {
-        upto = omega arith;
-        heads_is = filled_on (λ (l : Link). l.head) ls heads₀ i heads I.heads_is (omega arith) h;
-        caps_is = filled_on (λ (l : Link). l.cap) ls caps₀ i caps I.caps_is (omega arith) (omega arith);
-        costs_is = filled_on (λ (l : Link). l.cost) ls costs₀ i costs I.costs_is (omega arith) (omega arith);
-      }
 
 -- the heads alone
 abbrev pub Heading : List Link → List ℕ → List ℕ → ℕ → Type 0
@@ -135,3 +99,7 @@ module _ {A : Type 0} (f : Link → A) (ls : List Link) (r : List A) (i : ℕ) w
 
   pub fill_over : i ≤ length ls → fill f ls r i ≡ over (take i (map f ls)) r
   fill_over there = ap (λ (m : ℕ). take i (map f ls) ++ drop m r) (sym (length-take-le i (map f ls) (rw (length-map ls f) there)))
+
+-- what was written over the front of a row stands there
+pub front_of : {A : Type 0} (f : Link → A) (ls : List Link) (r : List A) (n : ℕ) → n ≤ length ls → take n (over (take n (map f ls)) r) ≡ take n (map f ls)
+front_of f ls r n there = let l = length-take-le n (map f ls) (rw (length-map ls f) there) in take_at (take n (map f ls)) (drop (length (take n (map f ls))) r) n l

@@ -14,7 +14,7 @@ use Rattle.flow.specs.declared.network.Link.{Link}
 use Rattle.flow.specs.declared.network.FlowNetwork.{FlowNetwork}
 use Rattle.numbers.specs.Lists.{over}
 use Rattle.flow.specs.Network.{heads_of, caps_of, costs_of, with_caps, with_links, Outcome, ends, flow_through, flown, flow_in}
-use Rattle.flow.proofs.Packing.{past_end, fill, fill_next, fill_length, fill_taken, fill_dropped, fill_over, cap_at, caps_suc, caps_none, caps_with}
+use Rattle.flow.proofs.Packing.{past_end, fill, fill_next, fill_taken, fill_dropped, fill_over, cap_at, caps_suc, caps_none, caps_with}
 
 abbrev pub heads_in : List Link → List ℕ → ℕ → List ℕ
 heads_in ls r i = fill (λ (l : Link). l.head) ls r i
@@ -26,29 +26,32 @@ abbrev pub costs_in : List Link → List Float → ℕ → List Float
 costs_in ls r i = fill (λ (l : Link). l.cost) ls r i
 
 -- the rows while the links are entered: their first i places are taken from the links
-pub record Entered (N : FlowNetwork) (hs : List ℕ) (cs ps : List Float) (heads : List ℕ) (caps costs : List Float) (i : ℕ) : Type 0 where
-  pub upto : i ≤ N.count
-  pub heads_is : heads ≡ heads_in N.links hs i
-  pub caps_is : caps ≡ caps_in N.links cs i
-  pub costs_is : costs ≡ costs_in N.links ps i
+pub record Entered (ls : List Link) (n : ℕ) (hs : List ℕ) (cs ps : List Float) (heads : List ℕ) (caps costs : List Float) (i : ℕ) : Type 0 where
+  pub upto : i ≤ n
+  pub heads_is : heads ≡ heads_in ls hs i
+  pub caps_is : caps ≡ caps_in ls cs i
+  pub costs_is : costs ≡ costs_in ls ps i
 
-module _ (N : FlowNetwork) (hs : List ℕ) (cs ps : List Float) (few : N.count ≤ 2176) (whole : length N.links ≡ 2176) (wide : N.count ≤ length hs) (wide_caps : N.count ≤ length cs) (wide_costs : N.count ≤ length ps)
-    {heads : List ℕ} {caps costs : List Float} {i : ℕ} (I : Entered N hs cs ps heads caps costs i) where
-  pub entered_lengths : (length heads ≡ length hs) × (length caps ≡ length cs) × (length costs ≡ length ps)
-  entered_lengths =
-      let u = I.upto in (
-        ap length I.heads_is ∙ fill_length (λ (l : Link). l.head) N.links hs i (omega arith) (omega arith),
-        ap length I.caps_is ∙ fill_length (λ (l : Link). l.cap) N.links cs i (omega arith) (omega arith),
-        ap length I.costs_is ∙ fill_length (λ (l : Link). l.cost) N.links ps i (omega arith) (omega arith),
-      )
-
-  pub entered_on : i < N.count → Entered N hs cs ps (set heads i (get_or N.links i past_end).head) (set caps i (get_or N.links i past_end).cap) (set costs i (get_or N.links i past_end).cost) (i + 1)
+module _ (ls : List Link) (n : ℕ) (hs : List ℕ) (cs ps : List Float) (few : n ≤ 2176) (whole : length ls ≡ 2176) (wide : n ≤ length hs) (wide_caps : n ≤ length cs) (wide_costs : n ≤ length ps)
+    {heads : List ℕ} {caps costs : List Float} {i : ℕ} (I : Entered ls n hs cs ps heads caps costs i) where
+  pub entered_on : i < n → Entered ls n hs cs ps (set heads i (get_or ls i past_end).head) (set caps i (get_or ls i past_end).cap) (set costs i (get_or ls i past_end).cost) (i + 1)
   entered_on h = record {
     upto = omega arith;
-    heads_is = ap (λ (r : List ℕ). set r i (get_or N.links i past_end).head) I.heads_is ∙ fill_next (λ (l : Link). l.head) N.links hs i (omega arith) (omega arith) ∙ ap (λ (m : ℕ). heads_in N.links hs m) (sym (add-one i));
-    caps_is = ap (λ (r : List Float). set r i (get_or N.links i past_end).cap) I.caps_is ∙ fill_next (λ (l : Link). l.cap) N.links cs i (omega arith) (omega arith) ∙ ap (λ (m : ℕ). caps_in N.links cs m) (sym (add-one i));
-    costs_is = ap (λ (r : List Float). set r i (get_or N.links i past_end).cost) I.costs_is ∙ fill_next (λ (l : Link). l.cost) N.links ps i (omega arith) (omega arith) ∙ ap (λ (m : ℕ). costs_in N.links ps m) (sym (add-one i));
+    heads_is = ap (λ (r : List ℕ). set r i (get_or ls i past_end).head) I.heads_is ∙ fill_next (λ (l : Link). l.head) ls hs i (omega arith) (omega arith) ∙ ap (λ (m : ℕ). heads_in ls hs m) (sym (add-one i));
+    caps_is = ap (λ (r : List Float). set r i (get_or ls i past_end).cap) I.caps_is ∙ fill_next (λ (l : Link). l.cap) ls cs i (omega arith) (omega arith) ∙ ap (λ (m : ℕ). caps_in ls cs m) (sym (add-one i));
+    costs_is = ap (λ (r : List Float). set r i (get_or ls i past_end).cost) I.costs_is ∙ fill_next (λ (l : Link). l.cost) ls ps i (omega arith) (omega arith) ∙ ap (λ (m : ℕ). costs_in ls ps m) (sym (add-one i));
   }
+
+  -- all of them are
+  pub entered_all : n ≤ i → (heads ≡ over (heads_of n ls) hs) × (caps ≡ over (caps_of n ls) cs) × (costs ≡ over (costs_of n ls) ps)
+  entered_all h =
+      let u = I.upto in
+      let e : i ≡ n = omega arith in
+      let there : n ≤ length ls = omega arith in (
+        I.heads_is ∙ ap (heads_in ls hs) e ∙ fill_over (λ (l : Link). l.head) ls hs n there,
+        I.caps_is ∙ ap (caps_in ls cs) e ∙ fill_over (λ (l : Link). l.cap) ls cs n there,
+        I.costs_is ∙ ap (costs_in ls ps) e ∙ fill_over (λ (l : Link). l.cost) ls ps n there,
+      )
 
 -- the network while capacities are put back: the first j are those of the row
 abbrev pub PutBack : FlowNetwork → List Float → FlowNetwork → ℕ → Type 0
@@ -104,16 +107,15 @@ module _ (N : FlowNetwork) (s t : ℕ) (hs : List ℕ) (cs ps : List Float) wher
         ∙ ap (λ (o : Outcome). flown o.answer o.network (over (heads_of n N.links) hs) (over (caps_of n o.network.links) cs) (over (costs_of n N.links) ps)) (run_is r z said)
 
     -- the run, with the rows and the network as the loops leave them
-    pub run_done : (r : Answer) (z : List Float) {heads : List ℕ} {caps costs : List Float} {i j : ℕ} {N' : FlowNetwork} → Entered N hs cs ps heads caps costs i → n ≤ i → PutBack N z N' j → n ≤ j
+    pub run_done : (r : Answer) (z : List Float) {heads : List ℕ} {caps costs : List Float} {j : ℕ} {N' : FlowNetwork} → (heads ≡ over (heads_of n N.links) hs) × (caps ≡ over (caps_of n N.links) cs) × (costs ≡ over (costs_of n N.links) ps) → PutBack N z N' j → n ≤ j
         → (rows.ends r (take n z) ≡ rows.flow_on (take n heads) (take n caps) (take n costs) N.starts N.list N.nodes s t) × (drop n z ≡ drop n caps) → n ≤ length z
         → flown r N' heads z costs ≡ flow_in N hs cs ps s t
-    run_done r z {heads = heads} {caps = caps} {costs = costs} {i = i} {j = j} {N' = N'} I hi B hj said h =
-        let u = I.upto in
+    run_done r z {heads = heads} {caps = caps} {costs = costs} {j = j} {N' = N'} E B hj said h =
         let v = B.0 in
-        let ei : i ≡ n = omega arith in
         let ej : j ≡ n = omega arith in
-        let eh : heads ≡ heads_in N.links hs n = I.heads_is ∙ ap (heads_in N.links hs) ei in
-        let ec : caps ≡ caps_in N.links cs n = I.caps_is ∙ ap (caps_in N.links cs) ei in
-        let ep : costs ≡ costs_in N.links ps n = I.costs_is ∙ ap (costs_in N.links ps) ei in
+        let there : n ≤ length N.links = omega arith in
+        let eh : heads ≡ heads_in N.links hs n = E.0 ∙ sym (fill_over (λ (l : Link). l.head) N.links hs n there) in
+        let ec : caps ≡ caps_in N.links cs n = E.1 ∙ sym (fill_over (λ (l : Link). l.cap) N.links cs n there) in
+        let ep : costs ≡ costs_in N.links ps n = E.2 ∙ sym (fill_over (λ (l : Link). l.cost) N.links ps n there) in
         let en : N' ≡ with_links N (with_caps N.links (take n z)) = B.1 ∙ ap (λ (m : ℕ). with_links N (with_caps N.links (take m z))) ej in
         rw (eh, ep, en) (flow_is r z (rw (← eh, ← ec, ← ep) said) h)

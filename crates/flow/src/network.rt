@@ -1,7 +1,7 @@
 // Networks of links, and the flow run on one that is lent.
 ghost use Rattle.flow.specs.Network.{heads_of, caps_of, costs_of, ends, flow_through, flown, flow_in, ClaimedOn, made, fits_on, grown, leaves, added};
-ghost use Rattle.flow_theory.proofs.ListRows.{Indexable, Fitting};
-ghost use Rattle.flow_check.specs.Refusal.{network_fits};
+ghost use Rattle.flow_theory.proofs.ListRows.{Indexable};
+ghost use Rattle.numbers.specs.Lists.{over};
 ghost use Rattle.std.specs.Prelude.{◌≡◌, true, ℕ, ◌+◌, ◌≤◌, length, take, drop};
 ghost use Rattle.flow_core.specs.Outcome;
 
@@ -59,15 +59,16 @@ pub fn new(nodes: usize) -> Made
     Made { refused: 15, net }
 }
 
-// Copies heads, capacities and costs of the first links into rows.
-fn unpack(links: [Link; 2176], heads: &mut [u32], caps: &mut [f64], costs: &mut [f64])
-    requires { Fitting heads.old caps.old costs.old }
-    ensures { (heads.new ≡ heads_of (length heads.old) links) × (caps.new ≡ caps_of (length heads.old) links) × (costs.new ≡ costs_of (length heads.old) links) }
+// Copies heads, capacities and costs of the first n links to the front of rows.
+fn unpack(links: &[Link; 2176], n: usize, heads: &mut [u32], caps: &mut [f64], costs: &mut [f64])
+    requires { (n ≤ 2176) × (n ≤ length heads.old) × (n ≤ length caps.old) × (n ≤ length costs.old) }
+    ensures { (heads.new ≡ over (heads_of n links.now) heads.old) × (caps.new ≡ over (caps_of n links.now) caps.old) × (costs.new ≡ over (costs_of n links.now) costs.old) }
 {
-    for i in 0..heads.len() {
-        heads[i] = links[i].head;
-        caps[i] = links[i].cap;
-        costs[i] = links[i].cost;
+    for i in 0..n {
+        let link = links[i];
+        heads[i] = link.head;
+        caps[i] = link.cap;
+        costs[i] = link.cost;
     }
 }
 
@@ -81,42 +82,22 @@ fn unpack_heads(links: [Link; 2176], heads: &mut [u32])
     }
 }
 
-// Whether the first links, copied into lent rows, pass the check but for source and sink.
-fn fits_in(
-    links: [Link; 2176],
-    heads: &mut [u32],
-    caps: &mut [f64],
-    costs: &mut [f64],
-    starts: &[u32; 67],
-    list: &[u32],
-    nodes: usize,
-) -> bool
-    requires { Fitting heads.old caps.old costs.old }
-    ensures { result ≡ network_fits (heads_of (length heads.old) links) (caps_of (length heads.old) links) (costs_of (length heads.old) links) starts.now list.now nodes }
-{
-    unpack(links, heads, caps, costs);
-    check::network_fits(heads, caps, costs, starts, list, nodes)
-}
-
 // Whether a network passes the check but for source and sink.
 fn net_fits(net: FlowNetwork) -> bool
     requires { net.count ≤ 2176 }
     ensures { result ≡ fits_on net }
 {
     let n = net.count;
-    let links = net.links;
-    let starts = net.starts;
-    let list = net.list;
     let mut heads = [0u32; 2176];
     let mut caps = [0.0; 2176];
     let mut costs = [0.0; 2176];
-    fits_in(
-        links,
-        &mut heads[..n],
-        &mut caps[..n],
-        &mut costs[..n],
-        &starts,
-        &list,
+    unpack(&net.links, n, &mut heads, &mut caps, &mut costs);
+    check::network_fits(
+        &heads[..n],
+        &caps[..n],
+        &costs[..n],
+        &net.starts,
+        &net.list,
         net.nodes,
     )
 }
@@ -208,12 +189,7 @@ pub(crate) fn max_flow_in(
     ensures { flown result net.new heads.new caps.new costs.new ≡ flow_in net.old heads.old caps.old costs.old source sink }
 {
     let n = net.count;
-    for i in 0..n {
-        let link = net.links[i];
-        heads[i] = link.head;
-        caps[i] = link.cap;
-        costs[i] = link.cost;
-    }
+    unpack(&net.links, n, heads, caps, costs);
     let answer = run_rows(
         heads,
         caps,

@@ -9,18 +9,6 @@ ghost use Rattle.flow_routes.proofs.Coding.{Room, Giving, Shut};
 use flow_routes::remains;
 use numbers::{bit, smaller};
 
-// Copies the rates of a row to the front of a list.
-pub(crate) fn copy(from: &[f64], to: &mut [f64])
-    requires { length from.now ≤ length to.old }
-    ensures { (length to.new ≡ length to.old) × ((i : ℕ) → i < length from.now → get_or to.new i nan ≡ get_or from.now i nan) }
-{
-    let mut i: usize = 0;
-    while i < from.len() {
-        to[i] = from[i];
-        i += 1;
-    }
-}
-
 // Target i of s gives to target k of t as much as both have left, and entry e counts it; gives how much.
 fn give(
     lefts: &mut [f64],
@@ -34,9 +22,9 @@ fn give(
     ensures { (result ≡ Choice.smaller (get_or lefts.old i nan) (get_or rights.old k nan)) × (lefts.new ≡ set lefts.old i (sub binary64 (get_or lefts.old i nan) result)) × (rights.new ≡ set rights.old k (sub binary64 (get_or rights.old k nan) result)) × (flows.new ≡ set flows.old e (add binary64 (get_or flows.old e nan) result)) }
 {
     let x = smaller(lefts[i], rights[k]);
-    lefts[i] = lefts[i] - x;
-    rights[k] = rights[k] - x;
-    flows[e] = flows[e] + x;
+    lefts[i] -= x;
+    rights[k] -= x;
+    flows[e] += x;
     x
 }
 
@@ -45,14 +33,12 @@ fn first_open(rights: &[f64], from: usize, n: usize) -> usize
     requires { (n ≤ length rights.now) × Shut from rights.now }
     ensures { Shut result rights.now }
 {
-    let mut k = from;
-    while k < n {
+    for k in from..n {
         if remains(rights[k]) {
             return k;
         }
-        k += 1;
     }
-    k
+    n
 }
 
 // Target i of s gives to each target of t from `from` on, those before having nothing left; gives the flow then.
@@ -73,18 +59,13 @@ fn give_row(
 {
     let base = left_targets[i] as usize * states;
     let mut total = before;
-    let mut k = from;
-    while k < right_targets.len() {
+    for k in from..right_targets.len() {
         if !remains(lefts[i]) {
             return total;
         }
-        if remains(rights[k]) {
-            if bit(relation, base + right_targets[k] as usize) {
-                let x = give(lefts, rights, flows, i, k, i * right_targets.len() + k);
-                total = total + x;
-            }
+        if remains(rights[k]) && bit(relation, base + right_targets[k] as usize) {
+            total += give(lefts, rights, flows, i, k, i * right_targets.len() + k);
         }
-        k += 1;
     }
     total
 }
@@ -105,8 +86,7 @@ pub(crate) fn give_rows(
 {
     let mut total = 0.0;
     let mut from: usize = 0;
-    let mut i: usize = 0;
-    while i < left_targets.len() {
+    for i in 0..left_targets.len() {
         total = give_row(
             left_targets,
             right_targets,
@@ -119,7 +99,6 @@ pub(crate) fn give_rows(
             from,
             total,
         );
-        i += 1;
         if need <= total {
             return total;
         }

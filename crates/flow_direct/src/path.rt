@@ -101,11 +101,9 @@ pub(crate) fn least(
 {
     let i = by_left[s];
     let mut x = lefts[i];
-    let mut g = s;
-    while 1 < g {
-        let e = entry(by_left, by_right, g - 1, g, width);
+    for g in (1..s).rev() {
+        let e = entry(by_left, by_right, g, g + 1, width);
         x = smaller(x, flows[e]);
-        g -= 1;
     }
     let k = by_right[1];
     smaller(x, rights[k])
@@ -116,7 +114,7 @@ fn give_to(list: &mut [f64], e: usize, x: f64)
     requires { e < length list.old }
     ensures { list.new ≡ plus x list.old e }
 {
-    list[e] = list[e] + x;
+    list[e] += x;
 }
 
 // Takes x from an entry.
@@ -124,7 +122,7 @@ fn take_from(list: &mut [f64], e: usize, x: f64)
     requires { e < length list.old }
     ensures { list.new ≡ minus x list.old e }
 {
-    list[e] = list[e] - x;
+    list[e] -= x;
 }
 
 // Pushes x along a whole path.
@@ -142,11 +140,9 @@ pub(crate) fn push(
     requires { (rows ≤ 31) × (width ≤ 31) × (rows ≤ length lefts.old) × (width ≤ length rights.old) × (rows * width ≤ length flows.old) × (s ≤ 8) × Placed rows width s by_left.now by_right.now 1 0 × (length by_left.now ≡ 10) × (length by_right.now ≡ 10) }
     ensures { Sized lefts.old rights.old flows.old lefts.new rights.new flows.new × SendsAll width lefts.old rights.old flows.old s by_left.now by_right.now x lefts.new rights.new flows.new }
 {
-    let mut g = s;
-    while 1 < g {
-        give_to(flows, entry(by_left, by_right, g, g, width), x);
-        take_from(flows, entry(by_left, by_right, g - 1, g, width), x);
-        g -= 1;
+    for g in (1..s).rev() {
+        give_to(flows, entry(by_left, by_right, g + 1, g + 1, width), x);
+        take_from(flows, entry(by_left, by_right, g, g + 1, width), x);
     }
     give_to(flows, entry(by_left, by_right, 1, 1, width), x);
     take_from(lefts, by_left[s], x);

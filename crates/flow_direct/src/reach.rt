@@ -7,7 +7,7 @@ ghost use Rattle.flow_links.specs.Fits.{fits};
 ghost use Rattle.flow_routes.proofs.Reaching.{Told};
 ghost use Rattle.flow_direct.specs.Reaches.{at_least, reaches, both_reach};
 
-use crate::give::{copy, give_rows};
+use crate::give::give_rows;
 use crate::settle::{Verdict, search_on};
 use flow_core::rows::Answer;
 use flow_links::fits::rows_fit;
@@ -42,8 +42,8 @@ fn reach_in(
 {
     let mut lefts = [0.0f64; 31];
     let mut rights = [0.0f64; 31];
-    copy(left_rates, &mut lefts);
-    copy(right_rates, &mut rights);
+    lefts[..left_rates.len()].copy_from_slice(left_rates);
+    rights[..right_rates.len()].copy_from_slice(right_rates);
     let total = give_rows(
         left_targets,
         right_targets,
@@ -73,8 +73,8 @@ fn reach_in(
     )
 }
 
-// The same for rows of at most 8 targets.
-fn reach_small(
+// The same, with room for N pairs of targets.
+fn reach_in_room<const N: usize>(
     left_targets: &[u32],
     left_rates: &[f64],
     right_targets: &[u32],
@@ -83,62 +83,10 @@ fn reach_small(
     relation: &[u8],
     need: f64,
 ) -> Verdict
-    requires { (states ≤ 2000) × (length left_targets.now ≤ 8) × (length right_targets.now ≤ 8) × (length left_rates.now ≡ length left_targets.now) × (length right_rates.now ≡ length right_targets.now) }
+    requires { (states ≤ 2000) × (length left_targets.now ≤ 31) × (length right_targets.now ≤ 31) × (length left_rates.now ≡ length left_targets.now) × (length right_rates.now ≡ length right_targets.now) × (length left_targets.now * length right_targets.now ≤ N) × (N ≤ 961) }
     ensures { Told left_targets.now left_rates.now right_targets.now right_rates.now states relation.now need result.known result.passes }
 {
-    let mut flows = [0.0f64; 64];
-    reach_in(
-        left_targets,
-        left_rates,
-        right_targets,
-        right_rates,
-        states,
-        relation,
-        need,
-        &mut flows,
-    )
-}
-
-// The same for rows of at most 12.
-fn reach_middle(
-    left_targets: &[u32],
-    left_rates: &[f64],
-    right_targets: &[u32],
-    right_rates: &[f64],
-    states: usize,
-    relation: &[u8],
-    need: f64,
-) -> Verdict
-    requires { (states ≤ 2000) × (length left_targets.now ≤ 12) × (length right_targets.now ≤ 12) × (length left_rates.now ≡ length left_targets.now) × (length right_rates.now ≡ length right_targets.now) }
-    ensures { Told left_targets.now left_rates.now right_targets.now right_rates.now states relation.now need result.known result.passes }
-{
-    let mut flows = [0.0f64; 144];
-    reach_in(
-        left_targets,
-        left_rates,
-        right_targets,
-        right_rates,
-        states,
-        relation,
-        need,
-        &mut flows,
-    )
-}
-
-// The same for rows of at most 31 targets.
-fn reach_large(
-    left_targets: &[u32],
-    left_rates: &[f64],
-    right_targets: &[u32],
-    right_rates: &[f64],
-    states: usize,
-    relation: &[u8],
-    need: f64,
-) -> Verdict
-    requires { (states ≤ 2000) × (length left_targets.now ≤ 31) × (length right_targets.now ≤ 31) × (length left_rates.now ≡ length left_targets.now) × (length right_rates.now ≡ length right_targets.now) }
-    ensures { Told left_targets.now left_rates.now right_targets.now right_rates.now states relation.now need result.known result.passes }
-{
-    let mut flows = [0.0f64; 961];
+    let mut flows = [0.0f64; N];
     reach_in(
         left_targets,
         left_rates,
@@ -164,33 +112,29 @@ fn reach(
     requires { (states ≤ 2000) × (length left_targets.now ≤ 31) × (length right_targets.now ≤ 31) × (length left_rates.now ≡ length left_targets.now) × (length right_rates.now ≡ length right_targets.now) }
     ensures { Told left_targets.now left_rates.now right_targets.now right_rates.now states relation.now need result.known result.passes }
 {
-    if left_targets.len() <= 8 {
-        if right_targets.len() <= 8 {
-            return reach_small(
-                left_targets,
-                left_rates,
-                right_targets,
-                right_rates,
-                states,
-                relation,
-                need,
-            );
-        }
+    if left_targets.len() <= 8 && right_targets.len() <= 8 {
+        return reach_in_room::<64>(
+            left_targets,
+            left_rates,
+            right_targets,
+            right_rates,
+            states,
+            relation,
+            need,
+        );
     }
-    if left_targets.len() <= 12 {
-        if right_targets.len() <= 12 {
-            return reach_middle(
-                left_targets,
-                left_rates,
-                right_targets,
-                right_rates,
-                states,
-                relation,
-                need,
-            );
-        }
+    if left_targets.len() <= 12 && right_targets.len() <= 12 {
+        return reach_in_room::<144>(
+            left_targets,
+            left_rates,
+            right_targets,
+            right_rates,
+            states,
+            relation,
+            need,
+        );
     }
-    reach_large(
+    reach_in_room::<961>(
         left_targets,
         left_rates,
         right_targets,

@@ -12,12 +12,7 @@ use flow_routes::remains;
 fn lower(one: bool, two: bool, j: usize, r: usize) -> usize
     ensures { (one ≡ true → two ≡ true → result ≡ j) × (one ≡ false → result ≡ r) × (two ≡ false → result ≡ r) }
 {
-    if one {
-        if two {
-            return j;
-        }
-    }
-    r
+    if one && two { j } else { r }
 }
 
 // The first of n targets of s with this label and rate left; n where there is none.
@@ -26,9 +21,7 @@ pub(crate) fn first_left(lefts: &[f64], labels: &[usize], n: usize, want: usize)
     ensures { FirstOf n result (λ j. (lt eps (get_or lefts.now j nan) ≡ true) × (get_or labels.now j 0 ≡ want)) }
 {
     let mut r = n;
-    let mut j = n;
-    while 0 < j {
-        j -= 1;
+    for j in (0..n).rev() {
         r = lower(remains(lefts[j]), labels[j] == want, j, r);
     }
     r
@@ -38,10 +31,7 @@ pub(crate) fn first_left(lefts: &[f64], labels: &[usize], n: usize, want: usize)
 fn byte_of(relation: &[u8], k: usize) -> u8
     ensures { result ≡ get_or relation.now k 0 }
 {
-    if k < relation.len() {
-        return relation[k];
-    }
-    0
+    relation.get(k).copied().unwrap_or(0)
 }
 
 // Bit i of a relation, as `numbers::bit` has it; past the end it is read of 0, so that a search has one test the less.
@@ -63,9 +53,7 @@ pub(crate) fn first_right(
     ensures { FirstOf (length targets.now) result (λ j. (get_or labels.now j 0 ≡ want) × (bit_at relation.now (base + get_or targets.now j 0) ≡ true)) }
 {
     let mut r = targets.len();
-    let mut j = targets.len();
-    while 0 < j {
-        j -= 1;
+    for j in (0..targets.len()).rev() {
         r = lower(
             labels[j] == want,
             related(relation, base + targets[j] as usize),
@@ -89,34 +77,15 @@ pub(crate) fn first_back(
     ensures { FirstOf n result (λ j. (get_or labels.now j 0 ≡ want) × (lt eps (get_or flows.now (j * width + k) nan) ≡ true)) }
 {
     let mut r = n;
-    let mut j = n;
-    while 0 < j {
-        j -= 1;
+    for j in (0..n).rev() {
         r = lower(labels[j] == want, remains(flows[j * width + k]), j, r);
     }
     r
 }
 
-// Whether both hold.
-fn both(one: bool, two: bool) -> bool
-    ensures { result ≡ true → (one ≡ true) × (two ≡ true) }
+// Whether none of the labels is g.
+pub(crate) fn none_at(labels: &[usize], g: usize) -> bool
+    ensures { result ≡ true → (j : ℕ) → j < length labels.now → get_or labels.now j 0 ≢ g }
 {
-    if one {
-        return two;
-    }
-    false
-}
-
-// Whether none of the first n labels is g.
-pub(crate) fn none_at(labels: &[usize], n: usize, g: usize) -> bool
-    requires { n ≤ length labels.now }
-    ensures { result ≡ true → (j : ℕ) → j < n → get_or labels.now j 0 ≢ g }
-{
-    let mut none = true;
-    let mut j: usize = 0;
-    while j < n {
-        none = both(none, labels[j] != g);
-        j += 1;
-    }
-    none
+    !labels.contains(&g)
 }

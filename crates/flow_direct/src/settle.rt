@@ -37,8 +37,8 @@ fn after_step(step: Step, s: usize, total: f64, need: f64) -> Attempt
             on: false,
             known: true,
             passes: false,
-            s: s,
-            total: total,
+            s,
+            total,
         };
     }
     if step.pushed {
@@ -48,7 +48,7 @@ fn after_step(step: Step, s: usize, total: f64, need: f64) -> Attempt
             on: !enough,
             known: enough,
             passes: enough,
-            s: s,
+            s,
             total: after,
         };
     }
@@ -56,8 +56,8 @@ fn after_step(step: Step, s: usize, total: f64, need: f64) -> Attempt
         on: true,
         known: false,
         passes: false,
-        s: s,
-        total: total,
+        s,
+        total,
     }
 }
 
@@ -87,15 +87,15 @@ fn try_once(
                 known: false,
                 passes: false,
                 s: s + 1,
-                total: total,
+                total,
             };
         }
         return Attempt {
             on: false,
             known: false,
             passes: false,
-            s: s,
-            total: total,
+            s,
+            total,
         };
     }
     let step = one_step(
@@ -118,13 +118,7 @@ fn try_once(
 fn tries_of(m: usize, n: usize) -> usize
     ensures { result ≤ 100 }
 {
-    if m > 14 {
-        return 4;
-    }
-    if n > 14 {
-        return 4;
-    }
-    100
+    if m > 14 || n > 14 { 4 } else { 100 }
 }
 
 // Tries until one ends the search.
@@ -147,8 +141,7 @@ fn settle(
     let mut s: usize = 2;
     let mut total = before;
     let most = tries_of(left_targets.len(), right_targets.len());
-    let mut tries: usize = 0;
-    while tries < most {
+    for _ in 0..most {
         let a = try_once(
             left_targets,
             right_targets,
@@ -171,7 +164,6 @@ fn settle(
         }
         s = a.s;
         total = a.total;
-        tries += 1;
     }
     Verdict {
         known: false,
@@ -183,10 +175,7 @@ fn settle(
 fn label_of(x: f64, some: usize, none: usize) -> usize
     ensures { result ≡ label_of some none x }
 {
-    if remains(x) {
-        return some;
-    }
-    none
+    if remains(x) { some } else { none }
 }
 
 // The first labels of n targets.
@@ -194,10 +183,8 @@ fn first_labels(rates: &[f64], n: usize, some: usize, none: usize, labels: &mut 
     requires { (n ≤ length rates.now) × (n ≤ length labels.old) }
     ensures { (length labels.new ≡ length labels.old) × ((k : ℕ) → k < n → get_or labels.new k 0 ≡ label_of some none (get_or rates.now k nan)) }
 {
-    let mut k: usize = 0;
-    while k < n {
+    for k in 0..n {
         labels[k] = label_of(rates[k], some, none);
-        k += 1;
     }
 }
 

@@ -21,7 +21,7 @@ fn rise(labels: &mut [usize], n: usize, i: usize, g: usize) -> bool
     ensures { (labels.new ≡ set labels.old i (g + 1)) × (result ≡ true → (j : ℕ) → j < n → get_or labels.new j 0 ≢ g) }
 {
     labels[i] = g + 1;
-    none_at(labels, n, g)
+    none_at(&labels[..n], g)
 }
 
 // Pushes the least that is left on a whole path along it; gives how much.
@@ -80,7 +80,7 @@ pub(crate) fn one_step(
         let cut = rise(left_labels, left_targets.len(), by_left[g], g);
         return Step {
             pushed: false,
-            cut: cut,
+            cut,
             amount: 0.0,
         };
     }

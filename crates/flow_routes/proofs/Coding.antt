@@ -3,10 +3,10 @@ use mathlib.Core.Path.{◌≡◌, refl, sym, ap, subst, subst⁻¹, ◌∙◌}
 use Prim.Native.Nat.{ℕ, suc, ◌≤◌, ◌<◌, ◌+◌, ◌-◌, ◌*◌}
 use mathlib.Core.Bool.{Bool, true, false, true≢false}
 use mathlib.Core.Logic.{◌≢◌, ◌⊎◌, inl, inr}
-use mathlib.Core.List.{List}
+use mathlib.Core.List.{List, ◌++◌}
 use native.Mathlib.Omega.{arith}
 use native.Mathlib.Nat.{mul-le-mul}
-use lib.ListN.{length, get_or, set, length-set}
+use lib.ListN.{length, get_or, set, length-set, get_or-append}
 use lib.Seq.{get_or-set_same, get_or-set_other}
 use lib.Ieee.{Float, nan, binary64, lt, add, sub}
 use Rattle.numbers.specs.Real.{eps}
@@ -93,45 +93,11 @@ both_or_none false two (a, b, c) f g h k = inr (b refl, λ p. g refl p.0)
 pub from_ends : {n j r : ℕ} {P : ℕ → Type 0} → FirstFrom n j r P → j ≤ 0 → FirstOf n r P
 from_ends I h = record { upto = I.upto; found = I.found; none = λ i g. I.none i (omega arith) g }
 
--- P holds of no number below j
-pub record NoneOf (n j : ℕ) (P : ℕ → Type 0) : Type 0 where
-  pub upto : j ≤ n
-  pub none : (i : ℕ) → i < j → P i → ⊥
-
-pub none_begins : (n : ℕ) (P : ℕ → Type 0) → NoneOf n 0 P
-none_begins n P = record { upto = omega arith; none = λ i h. absurd (omega arith) }
-
-module _ {n j : ℕ} {P : ℕ → Type 0} (I : NoneOf n j P) where
-  pub none_on : j < n → (P j → ⊥) → NoneOf n (j + 1) P
-  none_on h f = record { upto = omega arith; none = λ i g x. pick i g x (eq_or_ne i j) }
-    where
-      pick : (i : ℕ) → i < j + 1 → P i → (i ≡ j) ⊎ (i ≢ j) → ⊥
-      pick i g x (inl e) = f (subst P e x)
-      pick i g x (inr d) = I.none i (omega arith) x
-
-  pub first_none : n ≤ j → FirstOf n n P
-  first_none h = let u = I.upto in record { upto = omega arith; found = λ g. absurd (omega arith); none = λ i g. I.none i (omega arith) }
-
 -- ---- a copy
 
--- the first i entries of s stand in the front of d
-pub record Copying (s d₀ d : List Float) (i : ℕ) : Type 0 where
-  pub size : length d ≡ length d₀
-  pub copied : (k : ℕ) → k < i → get_or d k nan ≡ get_or s k nan
-
-pub copy_begins : (s d : List Float) → Copying s d d 0
-copy_begins s d = record { size = refl; copied = λ k h. absurd (omega arith) }
-
-module _ {s d₀ d : List Float} {i : ℕ} (I : Copying s d₀ d i) where
-  pub copy_on : length s ≤ length d₀ → i < length s → Copying s d₀ (set d i (get_or s i nan)) (i + 1)
-  copy_on r h = record { size = length-set d i (get_or s i nan) ∙ I.size; copied = λ k g. pick k g (eq_or_ne k i) }
-    where
-      pick : (k : ℕ) → k < i + 1 → (k ≡ i) ⊎ (k ≢ i) → get_or (set d i (get_or s i nan)) k nan ≡ get_or s k nan
-      pick k g (inl e) = ap (λ (y : ℕ). get_or (set d i (get_or s i nan)) y nan) e ∙ get_or-set_same d i (get_or s i nan) nan (let z = I.size in omega arith) ∙ ap (λ (y : ℕ). get_or s y nan) (sym e)
-      pick k g (inr d') = get_or-set_other d i k (get_or s i nan) nan d' ∙ I.copied k (omega arith)
-
-  pub copy_ends : length s ≤ i → (length d ≡ length d₀) × ((k : ℕ) → k < length s → get_or d k nan ≡ get_or s k nan)
-  copy_ends h = (I.size, λ k g. I.copied k (omega arith))
+-- what was copied to the front stands there
+pub front : {s d : List Float} (rest : List Float) → d ≡ s → (i : ℕ) → i < length s → get_or (d ++ rest) i nan ≡ get_or s i nan
+front {s} rest e i h = rw e (get_or-append s rest nan i h)
 
 -- ---- the first pushes
 

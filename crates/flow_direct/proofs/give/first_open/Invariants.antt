@@ -1,10 +1,6 @@
 -- `give::first_open` meets its contract. The loop's invariant: nothing is left of the targets before k.
-use Prim.Native.Nat.{◌-◌}
 use Rattle.flow_routes.proofs.Coding.{Shut}
 use Rattle.flow_direct.proofs.give.first_open.Given as goal
 
 abbrev pub invariant-loop-k : goal.invariant-loop-k
 invariant-loop-k l = Shut l.k l.rights
-
-abbrev pub decreases-loop-k : goal.decreases-loop-k
-decreases-loop-k l = l.n - l.k

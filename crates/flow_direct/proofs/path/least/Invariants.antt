@@ -5,6 +5,3 @@ use Rattle.flow_direct.proofs.path.least.Given as goal
 
 abbrev pub invariant-loop-g : goal.invariant-loop-g
 invariant-loop-g l = (1 ≤ l.g) × (l.g ≤ l.s) × LeastOn l.width l.lefts l.rights l.flows l.s l.by_left l.by_right l.g l.x
-
-abbrev pub decreases-loop-g : goal.decreases-loop-g
-decreases-loop-g l = l.g

@@ -3,23 +3,13 @@ use mathlib.Core.Path.{refl, sym, ◌∙◌}
 use mathlib.Core.Bool.{false≢true}
 use borrow.Author.Tests.{not-true, not-false}
 use Rattle.numbers.proofs.Bools.{and_first, and_second}
-use Rattle.flow_links.proofs.Fitting.{fit}
 use Rattle.flow_direct.proofs.Beginning.{known_reaches, fits_back}
 use Rattle.flow_direct.proofs.reach.each_way.Goals as goal
-
-pub reach-v-requires : goal.reach-v-requires
-reach-v-requires c = let F = fit c.args.left_targets.now c.args.left_rates.now c.args.right_targets.now c.args.right_rates.now c.args.states c.requires in (F.states, F.left.few, F.right.few, F.left.rates, F.right.rates)
-
-pub returns-then-not-v : goal.returns-then-not-v
-returns-then-not-v c = (λ q. absurd (false≢true q), λ q. absurd (false≢true q), refl)
 
 pub returns-then-not-v-2 : goal.returns-then-not-v-2
 returns-then-not-v-2 c =
     let h = sym (known_reaches c.args.left_targets.now c.args.left_rates.now c.args.right_targets.now c.args.right_rates.now c.args.states c.args.relation.now c.requires c.args.need c.reach-v.ensures (not-false _ c.if-not-v.false)) ∙ not-true _ c.if-not-v-2.true in
     (λ _. sym h ∙ and_first _ _ h, λ q. absurd (false≢true q), refl)
-
-pub reach-w-requires : goal.reach-w-requires
-reach-w-requires c = let F = fit c.args.left_targets.now c.args.left_rates.now c.args.right_targets.now c.args.right_rates.now c.args.states c.requires in (F.states, F.right.few, F.left.few, F.right.rates, F.left.rates)
 
 pub returns : goal.returns
 returns c =

@@ -1,18 +1,7 @@
 -- `reach::reaches_plenty` meets its contract: what is known of the flow is whether it is plenty (Beginning).
 use mathlib.Core.Path.{sym, ◌∙◌}
-use mathlib.Core.Bool.{false≢true}
-use Rattle.flow_links.proofs.Fitting.{fit}
 use Rattle.flow_direct.proofs.Beginning.{known_reaches}
 use Rattle.flow_direct.proofs.reach.reaches_plenty.Goals as goal
 
-pub reach-v-requires : goal.reach-v-requires
-reach-v-requires c = let F = fit c.args.left_targets.now c.args.left_rates.now c.args.right_targets.now c.args.right_rates.now c.args.states c.requires in (F.states, F.left.few, F.right.few, F.left.rates, F.right.rates)
-
 pub returns-then-v : goal.returns-then-v
 returns-then-v c = λ z. sym (known_reaches c.args.left_targets.now c.args.left_rates.now c.args.right_targets.now c.args.right_rates.now c.args.states c.args.relation.now c.requires c.args.plenty c.reach-v.ensures c.if-v.true) ∙ z
-
-pub returns-else-v : goal.returns-else-v
-returns-else-v c = λ z. absurd (false≢true (sym c.if-v.false ∙ z))
-
-pub returns : goal.returns
-returns c = λ z. absurd (false≢true z)

@@ -10,6 +10,3 @@ use Rattle.flow_direct.proofs.search.first_back.Given as goal
 
 abbrev pub invariant-loop-j : goal.invariant-loop-j
 invariant-loop-j l = (l.j ≤ l.n) × FirstFrom l.n l.j l.r (λ i. (get_or l.labels i 0 ≡ l.want) × (lt eps (get_or l.flows (i * l.width + l.k) nan) ≡ true))
-
-abbrev pub decreases-loop-j : goal.decreases-loop-j
-decreases-loop-j l = l.j

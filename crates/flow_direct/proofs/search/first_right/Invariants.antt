@@ -9,6 +9,3 @@ use Rattle.flow_direct.proofs.search.first_right.Given as goal
 
 abbrev pub invariant-loop-j : goal.invariant-loop-j
 invariant-loop-j l = (l.j ≤ length l.targets) × FirstFrom (length l.targets) l.j l.r (λ i. (get_or l.labels i 0 ≡ l.want) × (bit_at l.relation (l.base + get_or l.targets i 0) ≡ true))
-
-abbrev pub decreases-loop-j : goal.decreases-loop-j
-decreases-loop-j l = l.j

@@ -1,13 +1,7 @@
 -- `settle::after_step` meets its contract, test by test (Reaching).
 use mathlib.Core.Path.{refl}
-use Rattle.flow_routes.proofs.Reaching.{tried_cut, tried_push, tried_stays}
+use Rattle.flow_routes.proofs.Reaching.{tried_push}
 use Rattle.flow_direct.proofs.settle.after_step.Goals as goal
-
-pub returns-then-step : goal.returns-then-step
-returns-then-step c = record { tried = λ P Q. tried_cut P Q c.if-step.true }
 
 pub returns-then-step-2 : goal.returns-then-step-2
 returns-then-step-2 c = record { tried = λ P Q. tried_push P Q c.if-step-2.true _ refl }
-
-pub returns : goal.returns
-returns c = record { tried = λ P Q. tried_stays P Q c.if-step-2.false }
