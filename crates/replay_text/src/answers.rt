@@ -28,8 +28,8 @@ pub fn given(first: u64, second: u64) -> Answer
 {
     Answer {
         refusal: 0,
-        first: first,
-        second: second,
+        first,
+        second,
     }
 }
 

@@ -49,8 +49,10 @@ pub fn read_shape(buf: &[u8], r: Reader) -> ShapeRead
         labels: labels.x as usize,
         initial: start,
     };
-    let s = initial.r;
-    ShapeRead { shape, r: s }
+    ShapeRead {
+        shape,
+        r: initial.r,
+    }
 }
 
 // The columns, to the front of each store.
@@ -70,14 +72,13 @@ pub fn read(
     let el = lists::list_field(buf, o.r, edge_labels);
     let et = lists::list_field(buf, el.r, edge_targets);
     let ew = lists::reals_field(buf, et.r, edge_weights);
-    let s = ew.r;
     Columns {
         label_values: l.n,
         offsets: o.n,
         edge_labels: el.n,
         edge_targets: et.n,
         edge_weights: ew.n,
-        r: s,
+        r: ew.r,
     }
 }
 

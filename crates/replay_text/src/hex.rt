@@ -13,7 +13,7 @@ fn digit(buf: &[u8], r: Reader) -> NumberRead
     let x = text::digit(r.byte);
     if x < 16 {
         return NumberRead {
-            x: x,
+            x,
             r: text::advance(buf, r),
         };
     }
@@ -29,10 +29,9 @@ fn pair(buf: &[u8], r: Reader) -> NumberRead
 {
     let high = digit(buf, r);
     let low = digit(buf, high.r);
-    let s = low.r;
     NumberRead {
         x: high.x * 16 + low.x,
-        r: s,
+        r: low.r,
     }
 }
 
@@ -52,18 +51,15 @@ pub fn hex_field(buf: &[u8], r: Reader, out: &mut [u8]) -> Listed
 {
     let count = text::number_field(buf, r);
     let l = lists::sized(count, out.len());
-    let n = l.n;
     let mut s = l.r;
-    let mut i = 0;
-    while i < n {
+    for byte in out[..l.n].iter_mut() {
         let x = pair(buf, s);
-        out[i] = lists::byte(x.x);
+        *byte = lists::byte(x.x);
         s = x.r;
-        i += 1;
     }
     Listed {
-        n: n,
-        r: closed(buf, s, n),
+        n: l.n,
+        r: closed(buf, s, l.n),
     }
 }
 
@@ -81,10 +77,8 @@ pub fn expect_hex(buf: &[u8], r: Reader, xs: &[u8]) -> Reader
 {
     let named = text::name(buf, r);
     let mut s = text::expect(buf, named, xs.len() as u64);
-    let mut i = 0;
-    while i < xs.len() {
-        s = expect_pair(buf, s, text::long(text::wide(xs[i])));
-        i += 1;
+    for x in xs {
+        s = expect_pair(buf, s, u64::from(*x));
     }
     closed(buf, s, xs.len())
 }

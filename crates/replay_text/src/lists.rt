@@ -16,16 +16,15 @@ pub struct Listed {
 pub fn sized(n: NumberRead, room: usize) -> Listed
     ensures { (result.n ≤ room) × Lasts n.r result.r }
 {
-    let r = n.r;
     if n.x <= room as u64 {
         return Listed {
             n: n.x as usize,
-            r: r,
+            r: n.r,
         };
     }
     Listed {
         n: 0,
-        r: text::faulty(r),
+        r: text::faulty(n.r),
     }
 }
 
@@ -35,16 +34,13 @@ pub fn list_field(buf: &[u8], r: Reader, out: &mut [u32]) -> Listed
 {
     let count = text::number_field(buf, r);
     let l = sized(count, out.len());
-    let n = l.n;
     let mut s = l.r;
-    let mut i = 0;
-    while i < n {
+    for entry in out[..l.n].iter_mut() {
         let x = text::short(buf, s);
-        out[i] = text::narrow(x.x);
+        *entry = text::narrow(x.x);
         s = x.r;
-        i += 1;
     }
-    Listed { n: n, r: s }
+    Listed { n: l.n, r: s }
 }
 
 // A list of floats.
@@ -53,16 +49,13 @@ pub fn reals_field(buf: &[u8], r: Reader, out: &mut [f64]) -> Listed
 {
     let count = text::number_field(buf, r);
     let l = sized(count, out.len());
-    let n = l.n;
     let mut s = l.r;
-    let mut i = 0;
-    while i < n {
+    for entry in out[..l.n].iter_mut() {
         let x = text::real(buf, s);
-        out[i] = x.x;
+        *entry = x.x;
         s = x.r;
-        i += 1;
     }
-    Listed { n: n, r: s }
+    Listed { n: l.n, r: s }
 }
 
 pub(crate) fn byte(x: u64) -> u8 {
@@ -75,44 +68,38 @@ pub fn bytes_field(buf: &[u8], r: Reader, out: &mut [u8]) -> Listed
 {
     let count = text::number_field(buf, r);
     let l = sized(count, out.len());
-    let n = l.n;
     let mut s = l.r;
-    let mut i = 0;
-    while i < n {
+    for entry in out[..l.n].iter_mut() {
         let x = text::short(buf, s);
-        out[i] = byte(x.x);
+        *entry = byte(x.x);
         s = x.r;
-        i += 1;
     }
-    Listed { n: n, r: s }
+    Listed { n: l.n, r: s }
 }
 
 // The first n entries; all where there are fewer.
+fn first<'a, T>(xs: &'a [T], n: usize) -> &'a [T]
+    ensures { result.now ≡ take n xs.now }
+{
+    xs.get(..n).unwrap_or(xs)
+}
+
 pub fn front<'a>(xs: &'a [u32], n: usize) -> &'a [u32]
     ensures { result.now ≡ take n xs.now }
 {
-    if n <= xs.len() {
-        return &xs[..n];
-    }
-    xs
+    first(xs, n)
 }
 
 pub fn reals_front<'a>(xs: &'a [f64], n: usize) -> &'a [f64]
     ensures { result.now ≡ take n xs.now }
 {
-    if n <= xs.len() {
-        return &xs[..n];
-    }
-    xs
+    first(xs, n)
 }
 
 pub fn bytes_front<'a>(xs: &'a [u8], n: usize) -> &'a [u8]
     ensures { result.now ≡ take n xs.now }
 {
-    if n <= xs.len() {
-        return &xs[..n];
-    }
-    xs
+    first(xs, n)
 }
 
 // The list stored is the list given.
@@ -121,10 +108,8 @@ pub fn expect_list(buf: &[u8], r: Reader, xs: &[u32]) -> Reader
 {
     let named = text::name(buf, r);
     let mut s = text::expect(buf, named, xs.len() as u64);
-    let mut i = 0;
-    while i < xs.len() {
-        s = text::expect(buf, s, text::long(xs[i]));
-        i += 1;
+    for x in xs {
+        s = text::expect(buf, s, u64::from(*x));
     }
     s
 }
@@ -134,10 +119,8 @@ pub fn expect_reals(buf: &[u8], r: Reader, xs: &[f64]) -> Reader
 {
     let named = text::name(buf, r);
     let mut s = text::expect(buf, named, xs.len() as u64);
-    let mut i = 0;
-    while i < xs.len() {
-        s = text::expect_real(buf, s, xs[i]);
-        i += 1;
+    for x in xs {
+        s = text::expect_real(buf, s, *x);
     }
     s
 }
@@ -147,10 +130,8 @@ pub fn expect_bytes(buf: &[u8], r: Reader, xs: &[u8]) -> Reader
 {
     let named = text::name(buf, r);
     let mut s = text::expect(buf, named, xs.len() as u64);
-    let mut i = 0;
-    while i < xs.len() {
-        s = text::expect(buf, s, text::long(text::wide(xs[i])));
-        i += 1;
+    for x in xs {
+        s = text::expect(buf, s, u64::from(*x));
     }
     s
 }

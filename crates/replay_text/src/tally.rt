@@ -16,10 +16,8 @@ pub const TOTAL: usize = 46;
 fn one_more(counts: &mut [u64], i: usize)
     ensures { counts.new ≡ more counts.old i }
 {
-    if i < counts.len() {
-        if counts[i] < 1000000000000 {
-            counts[i] += 1;
-        }
+    if i < counts.len() && counts[i] < 1000000000000 {
+        counts[i] += 1;
     }
 }
 
@@ -57,7 +55,7 @@ pub fn count(counts: &mut [u64; 48], entry: usize, r: Reader) -> Reader
 fn at(counts: &[u64], i: usize) -> u64
     ensures { result ≡ get_or counts.now i 0 }
 {
-    if i < counts.len() { counts[i] } else { 0 }
+    counts.get(i).copied().unwrap_or(0)
 }
 
 fn print_line(

@@ -34,36 +34,14 @@ pub struct RealRead {
     pub r: Reader,
 }
 
-pub(crate) fn wide(b: u8) -> u32 {
-    b as u32
-}
-
-pub(crate) fn long(x: u32) -> u64 {
-    x as u64
-}
-
-fn moved(r: Reader, at: usize, end: usize, byte: u32) -> Reader
-    ensures { Kept r result }
-{
-    Reader {
-        at: at,
-        end: end,
-        byte: byte,
-        faults: r.faults,
-        differences: r.differences,
-    }
-}
-
 // As r, with other marks.
 pub fn marked(r: Reader, faults: u32, differences: u32) -> Reader
     ensures { Placed r result × (result.faults ≡ faults) × (result.differences ≡ differences) }
 {
     Reader {
-        at: r.at,
-        end: r.end,
-        byte: r.byte,
-        faults: faults,
-        differences: differences,
+        faults,
+        differences,
+        ..r
     }
 }
 
@@ -71,7 +49,7 @@ pub fn marked(r: Reader, faults: u32, differences: u32) -> Reader
 fn raised(mark: u32) -> u32
     ensures { (1 ≤ result) × (mark ≤ result) }
 {
-    if mark == 0 { 1 } else { mark }
+    mark.max(1)
 }
 
 // The text is not as laid out.
@@ -94,14 +72,14 @@ pub fn compared(r: Reader, agrees: bool) -> Reader
 pub(crate) fn advance(buf: &[u8], r: Reader) -> Reader
     ensures { Kept r result }
 {
-    let at = r.at;
-    let end = r.end;
-    if at < end {
-        if at < buf.len() {
-            return moved(r, at + 1, end, wide(buf[at]));
-        }
+    if r.at < r.end && r.at < buf.len() {
+        return Reader {
+            at: r.at + 1,
+            byte: u32::from(buf[r.at]),
+            ..r
+        };
     }
-    moved(r, at, end, END)
+    Reader { byte: END, ..r }
 }
 
 pub fn start(buf: &[u8]) -> Reader
@@ -126,33 +104,22 @@ pub fn at_end(r: Reader) -> bool
 }
 
 fn within_word(r: Reader) -> bool {
-    if r.byte == LINE_FEED {
-        return false;
-    }
-    if r.byte == BLANK {
-        return false;
-    }
-    r.byte != END
+    r.byte != LINE_FEED && r.byte != BLANK && r.byte != END
 }
 
 // A word of `size` bytes has ended: what follows it is passed.
 pub(crate) fn ended(buf: &[u8], r: Reader, size: u32) -> Reader
     ensures { Lasts r result }
 {
-    if size == 0 {
-        return faulty(r);
-    }
-    if within_word(r) {
+    if size == 0 || within_word(r) {
         return faulty(r);
     }
     advance(buf, r)
 }
 
 fn lettered(x: u64, b: u32) -> u64 {
-    if x < 72057594037927936 {
-        if b < 256 {
-            return x * 256 + b as u64;
-        }
+    if x < 72057594037927936 && b < 256 {
+        return x * 256 + u64::from(b);
     }
     x
 }
@@ -162,15 +129,15 @@ pub fn word(buf: &[u8], r: Reader) -> NumberRead
     ensures { Lasts r result.r }
 {
     let mut s = r;
-    let mut x: u64 = 0;
-    let mut size: u32 = 0;
+    let mut x = 0;
+    let mut size = 0; // Counted by hand: `ended` asks how many bytes came.
     while size < 32 && within_word(s) {
         x = lettered(x, s.byte);
         s = advance(buf, s);
         size += 1;
     }
     NumberRead {
-        x: x,
+        x,
         r: ended(buf, s, size),
     }
 }
@@ -179,50 +146,27 @@ pub fn word(buf: &[u8], r: Reader) -> NumberRead
 pub fn name(buf: &[u8], r: Reader) -> Reader
     ensures { Lasts r result }
 {
-    let w = word(buf, r);
-    w.r
+    word(buf, r).r
 }
 
 // 16 if the byte is no digit.
 pub(crate) fn digit(b: u32) -> u64 {
-    if 48 <= b && b <= 57 {
-        return b as u64 - 48;
+    match b {
+        48..=57 => u64::from(b) - 48,
+        97..=102 => u64::from(b) - 87,
+        _ => 16,
     }
-    if 97 <= b && b <= 102 {
-        return b as u64 - 87;
-    }
-    16
 }
 
 // x with one digit more: a fault where that is no digit, or x has over 64 bits then.
 fn longer(x: u64, d: u64, hex: bool, r: Reader) -> NumberRead
     ensures { Lasts r result.r }
 {
-    if hex {
-        if d < 16 {
-            if x < 1152921504606846976 {
-                return NumberRead {
-                    x: x * 16 + d,
-                    r: r,
-                };
-            }
-        }
-    } else if x < 1844674407370955161 {
-        if d < 10 {
-            return NumberRead {
-                x: x * 10 + d,
-                r: r,
-            };
-        }
-    } else if x == 1844674407370955161 {
-        if d < 6 {
-            return NumberRead {
-                x: 18446744073709551610 + d,
-                r: r,
-            };
-        }
+    let base = if hex { 16 } else { 10 };
+    match x.checked_mul(base).and_then(|y| y.checked_add(d)) {
+        Some(x) if d < base => NumberRead { x, r },
+        _ => NumberRead { x: 0, r: faulty(r) },
     }
-    NumberRead { x: 0, r: faulty(r) }
 }
 
 // Decimal digits, or the 16 hexadecimal digits of a bit pattern.
@@ -230,8 +174,8 @@ fn digits(buf: &[u8], r: Reader, hex: bool) -> NumberRead
     ensures { Lasts r result.r }
 {
     let mut s = r;
-    let mut x: u64 = 0;
-    let mut size: u32 = 0;
+    let mut x = 0;
+    let mut size = 0; // Counted by hand: `ended` asks how many bytes came.
     while size < 32 && within_word(s) {
         let n = longer(x, digit(s.byte), hex, s);
         x = n.x;
@@ -242,7 +186,7 @@ fn digits(buf: &[u8], r: Reader, hex: bool) -> NumberRead
         size = 0;
     }
     NumberRead {
-        x: x,
+        x,
         r: ended(buf, s, size),
     }
 }
@@ -273,10 +217,9 @@ pub(crate) fn real(buf: &[u8], r: Reader) -> RealRead
     ensures { Lasts r result.r }
 {
     let bits = digits(buf, r, true);
-    let s = bits.r;
     RealRead {
         x: of_bits(bits.x),
-        r: s,
+        r: bits.r,
     }
 }
 
@@ -291,33 +234,32 @@ pub(crate) fn short(buf: &[u8], r: Reader) -> NumberRead
     ensures { Lasts r result.r }
 {
     let n = number(buf, r);
-    let s = n.r;
     if n.x < 4294967296 {
         return n;
     }
-    NumberRead { x: 0, r: faulty(s) }
+    NumberRead {
+        x: 0,
+        r: faulty(n.r),
+    }
 }
 
 // A field is a name, which need not be looked at, and what follows it.
 pub fn number_field(buf: &[u8], r: Reader) -> NumberRead
     ensures { Lasts r result.r }
 {
-    let s = name(buf, r);
-    number(buf, s)
+    number(buf, name(buf, r))
 }
 
 pub fn short_field(buf: &[u8], r: Reader) -> NumberRead
     ensures { Lasts r result.r }
 {
-    let s = name(buf, r);
-    short(buf, s)
+    short(buf, name(buf, r))
 }
 
 pub fn real_field(buf: &[u8], r: Reader) -> RealRead
     ensures { Lasts r result.r }
 {
-    let s = name(buf, r);
-    real(buf, s)
+    real(buf, name(buf, r))
 }
 
 // ---- what is stored is compared with what came
@@ -326,26 +268,21 @@ pub fn expect(buf: &[u8], r: Reader, x: u64) -> Reader
     ensures { Lasts r result }
 {
     let n = number(buf, r);
-    let s = n.r;
-    compared(s, n.x == x)
+    compared(n.r, n.x == x)
 }
 
 // Two zeros are the same, and so are two NaNs; otherwise the bits are.
 pub fn alike(x: f64, y: f64) -> bool
     ensures { result ≡ same x y }
 {
-    if x == y {
-        return true;
-    }
-    x != x && y != y
+    x == y || (x != x && y != y)
 }
 
 pub fn expect_real(buf: &[u8], r: Reader, x: f64) -> Reader
     ensures { Lasts r result }
 {
     let n = real(buf, r);
-    let s = n.r;
-    compared(s, alike(n.x, x))
+    compared(n.r, alike(n.x, x))
 }
 
 // ---- from case to case
@@ -359,10 +296,11 @@ fn past_line(buf: &[u8], r: Reader) -> Reader
     ensures { Kept r result }
 {
     let mut s = r;
-    let mut turns: u32 = 0;
-    while turns < 1000000 && within_line(s) {
+    for _ in 0..1000000 {
+        if !within_line(s) {
+            break;
+        }
         s = advance(buf, s);
-        turns += 1;
     }
     advance(buf, s)
 }
@@ -372,10 +310,11 @@ pub(crate) fn past_case(buf: &[u8], r: Reader) -> Reader
     ensures { Kept r result }
 {
     let mut s = r;
-    let mut turns: u32 = 0;
-    while turns < 1000000 && within_line(s) {
+    for _ in 0..1000000 {
+        if !within_line(s) {
+            break;
+        }
         s = past_line(buf, s);
-        turns += 1;
     }
     advance(buf, s)
 }

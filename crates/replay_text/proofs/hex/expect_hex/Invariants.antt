@@ -1,11 +1,5 @@
--- `expect_hex` is safe and ends, and forgets no mark. The measure is what is left of the bytes.
-use Prim.Native.Nat.{◌≤◌, ◌-◌}
-use lib.ListN.{length}
 use Rattle.replay_text.specs.Reading.{Lasts}
 use Rattle.replay_text.proofs.hex.expect_hex.Given as goal
 
-abbrev pub invariant-loop-i : goal.invariant-loop-i
-invariant-loop-i l = (l.i ≤ length l.xs) × Lasts l.initial.s l.s
-
-abbrev pub decreases-loop-i : goal.decreases-loop-i
-decreases-loop-i l = length l.xs - l.i
+abbrev pub invariant-loop-x : goal.invariant-loop-x
+invariant-loop-x l = Lasts l.initial.s l.s

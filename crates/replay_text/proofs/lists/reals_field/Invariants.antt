@@ -1,12 +1,5 @@
--- `reals_field` is safe and ends. The invariant: i is at most the count n, which is at most the room; storing an entry keeps the room. The measure is what is left of n.
-use mathlib.Core.Path.{◌≡◌}
-use Prim.Native.Nat.{◌≤◌, ◌-◌}
-use lib.ListN.{length}
 use Rattle.replay_text.specs.Reading.{Lasts}
 use Rattle.replay_text.proofs.lists.reals_field.Given as goal
 
-abbrev pub invariant-loop-i : goal.invariant-loop-i
-invariant-loop-i l = (l.i ≤ l.n) × (l.n ≤ length l.out) × (length l.out ≡ length l.initial.out) × Lasts l.initial.s l.s
-
-abbrev pub decreases-loop-i : goal.decreases-loop-i
-decreases-loop-i l = l.n - l.i
+abbrev pub invariant-loop-entry : goal.invariant-loop-entry
+invariant-loop-entry l = Lasts l.initial.s l.s
