@@ -5,7 +5,6 @@ use mathlib.Core.Bool.{Bool, true}
 use mathlib.Core.List.{List}
 use native.Mathlib.Omega.{arith}
 use native.Mathlib.Numerals.{add-one}
-use native.Mathlib.Nat.{mul-le-mul}
 use lib.ListN.{length, take, replicate, length-replicate}
 use lib.Seq.{take_at}
 use lib.Ieee.{Float}
@@ -18,7 +17,7 @@ use Rattle.transport_theory.specs.Links.{links, heads, caps, prices}
 use Rattle.transport_theory.specs.Transport.{Shipment, shipped, plan, bills, transport}
 use Rattle.transport_theory.proofs.Networks.{links_length, heads_length, caps_length, prices_length, heads_inside, links_inside, cells_few, moved_in}
 use Rattle.transport_theory.proofs.PlanRows.{Plannable, Planned}
-use Rattle.transport_theory.proofs.TransportRows.{Roomy, Carried, Loadable, Transported}
+use Rattle.transport_theory.proofs.TransportRows.{Carried, Loadable, Transported}
 use Rattle.transport_theory.proofs.Writing.{Written, has_room, wrote, write}
 use Rattle.transport_theory.proofs.Sending.{listable, sendable, rows_shipped, Sent, sent, send_if, send}
 
@@ -127,16 +126,3 @@ module _ {a b costs : List Float} {h : List ℕ} {c p : List Float} {list rows c
       where
         heads_are : take places h' ≡ heads (links a b costs)
         heads_are = ap (λ (w : Written). take places w.heads) laid ∙ take_at (heads (links a b costs)) _ places (heads_length (links a b costs) ∙ total)
-
--- work space of these lengths has room
-pub small_room : {a b costs : List Float} {rows columns : List ℕ} {masses : List Float} → Roomy a b costs rows columns masses → length a ≤ 8 → length b ≤ 8
-    → (h : List ℕ) (c p : List Float) (list : List ℕ) → length h ≡ 160 → length c ≡ 160 → length p ≡ 160 → length list ≡ 160 → Loadable a b costs h c p list rows columns masses
-small_room {a} {b} R f g h c p list x y z w =
-    let q : length a * length b ≤ 8 * 8 = mul-le-mul f g in
-    record { base = R; heads_room = omega arith; caps_room = omega arith; prices_room = omega arith; list_room = omega arith }
-
-pub large_room : {a b costs : List Float} {rows columns : List ℕ} {masses : List Float} → Roomy a b costs rows columns masses
-    → (h : List ℕ) (c p : List Float) (list : List ℕ) → length h ≡ 2176 → length c ≡ 2176 → length p ≡ 2176 → length list ≡ 2176 → Loadable a b costs h c p list rows columns masses
-large_room {a} {b} R h c p list x y z w =
-    let f = R.few_a in let g = R.few_b in let q = cells_few (length a) (length b) f g in
-    record { base = R; heads_room = omega arith; caps_room = omega arith; prices_room = omega arith; list_room = omega arith }

@@ -1,20 +1,19 @@
 -- What the checks of `transport` decide, and what the answer is then.
-use mathlib.Core.Path.{◌≡◌, refl, sym, ap, subst, ◌∙◌}
-use mathlib.Core.Logic.{◌≢◌, ◌⊎◌, inl, inr}
-use Prim.Native.Nat.{ℕ, zero, suc, ◌*◌, ◌/◌, ◌≤◌, ◌<◌}
+use mathlib.Core.Path.{◌≡◌, refl, sym, ap, ◌∙◌}
+use mathlib.Core.Logic.{◌≢◌}
+use Prim.Native.Nat.{ℕ, zero, suc, ◌*◌, ◌≤◌, ◌<◌}
 use mathlib.Core.Bool.{Bool, true, false, not, ◌&&◌, true≢false}
 use mathlib.Core.List.{List}
 use native.Mathlib.Omega.{arith}
-use native.Mathlib.Nat.{div-lt_iff_lt-mul, mul_comm}
 use lib.Dec.{ltb, leb}
 use lib.ListN.{length, take}
 use lib.Seq.{take_all}
 use lib.Ieee.{Float}
-use borrow.Author.Tests.{lt-ltb, le-ltb, ltb-true, ltb-false, leb-true, le-leb, lt-leb, not-false}
+use borrow.Author.Tests.{ltb-true, ltb-false, leb-true, not-false}
 use Rattle.numbers.specs.Lists.{all}
 use Rattle.numbers.specs.Real.{sum}
 use Rattle.numbers.specs.Refuse.{check}
-use Rattle.numbers.proofs.Bools.{and_t, or_f, lt_or_ge}
+use Rattle.numbers.proofs.Bools.{and_t, or_f}
 use Rattle.numbers.proofs.Refuses.{check_hit, check_skip, check_none}
 use Rattle.transport_theory.specs.Refusal.{short, fits, masses_fit, costs_fit, unequal, transport_refusal}
 use Rattle.transport_theory.specs.Transport.{transport}
@@ -22,67 +21,9 @@ use Rattle.transport_theory.proofs.TransportRows.{Roomy, Transported}
 use Rattle.transport.specs.Outcome.{ends, settled, size_refusal}
 use Rattle.transport.specs.declared.entry.Transported.TheVariants as says
 
--- m × n places, without a product that may be too large
-pub lacks_is : (places m n : ℕ) → m ≢ 0 → ltb (places / m) n ≡ ltb places (m * n)
-lacks_is places m n z = pick (lt_or_ge places (m * n)) (lt_or_ge (places / m) n)
-  where
-    pos : 0 < m
-    pos = omega arith
-
-    pick : (places < m * n) ⊎ (m * n ≤ places) → (places / m < n) ⊎ (n ≤ places / m) → ltb (places / m) n ≡ ltb places (m * n)
-    pick (inl l) (inl d) = lt-ltb (places / m) n d ∙ sym (lt-ltb places (m * n) l)
-    pick (inl l) (inr k) = absurd (let d : places / m < n = (div-lt_iff_lt-mul pos).1 (subst (λ (x : ℕ). places < x) (mul_comm m n) l) in omega arith)
-    pick (inr g) (inl d) = absurd (let l : places < m * n = subst (λ (x : ℕ). places < x) (mul_comm n m) ((div-lt_iff_lt-mul pos).0 d) in omega arith)
-    pick (inr g) (inr k) = le-ltb (places / m) n k ∙ sym (le-ltb places (m * n) g)
-
-pub lacks_none : (places m n : ℕ) → m ≡ 0 → false ≡ ltb places (m * n)
-lacks_none places m n z = sym (le-ltb places (m * n) (let q : m * n ≡ 0 * n = ap (λ (x : ℕ). x * n) z in omega arith))
-
 -- the product itself where it is not too large
 pub product_in : (places m n : ℕ) → ltb places (m * n) ≡ false → m * n ≤ places
 product_in places m n e = ltb-false places (m * n) e
-
--- ---- 7
-
-module _ (m n costs rows columns masses : ℕ) where
-  pub short_costs : ltb costs (m * n) ≡ true → true ≡ short m n costs rows columns masses
-  unfolding short
-  short_costs e = rw e
-
-  module _ (a : ltb costs (m * n) ≡ false) where
-    pub short_rows : ltb rows (m * n) ≡ true → true ≡ short m n costs rows columns masses
-    unfolding short
-    short_rows e = rw (a, e)
-
-    module _ (b : ltb rows (m * n) ≡ false) where
-      pub short_columns : ltb columns (m * n) ≡ true → true ≡ short m n costs rows columns masses
-      unfolding short
-      short_columns e = rw (a, b, e)
-
-      pub short_masses : ltb columns (m * n) ≡ false → (r : Bool) → r ≡ ltb masses (m * n) → r ≡ short m n costs rows columns masses
-      unfolding short
-      short_masses e r q = q ∙ rw (a, b, e)
-
--- ---- the masses
-
-module _ (a b : List Float) where
-  pub few_fail_a : 32 < length a → false ≡ masses_fit a b
-  unfolding masses_fit
-  few_fail_a h = rw (lt-leb (length a) 32 h)
-
-  module _ (f : length a ≤ 32) where
-    pub few_fail_b : 32 < length b → false ≡ masses_fit a b
-    unfolding masses_fit
-    few_fail_b h = rw (le-leb (length a) 32 f, lt-leb (length b) 32 h)
-
-    module _ (g : length b ≤ 32) where
-      pub masses_fail : all fits a ≡ false → false ≡ masses_fit a b
-      unfolding masses_fit
-      masses_fail h = rw (le-leb (length a) 32 f, le-leb (length b) 32 g, h)
-
-      pub masses_last : all fits a ≡ true → (r : Bool) → r ≡ all fits b → r ≡ masses_fit a b
-      unfolding masses_fit
-      masses_last h r q = q ∙ rw (le-leb (length a) 32 f, le-leb (length b) 32 g, h)
 
 -- ---- the costs
 
@@ -94,7 +35,7 @@ pub costs_front : (m n : ℕ) (costs : List Float) (r : Bool) → r ≡ all fits
 unfolding costs_fit
 costs_front m n costs r q = q
 
--- ---- what is not refused
+-- ---- what is refused, and what is not
 
 module _ (right : Bool) (a b : List Float) (costs rows columns masses : ℕ) where
   abbrev r₁₆ : ℕ
@@ -103,31 +44,14 @@ module _ (right : Bool) (a b : List Float) (costs rows columns masses : ℕ) whe
   abbrev r₁₅ : ℕ
   r₁₅ = check 15 (not (masses_fit a b && right)) r₁₆
 
-  pub refused_7 : short (length a) (length b) costs rows columns masses ≡ true → 7 ≡ transport_refusal right a b costs rows columns masses
-  refused_7 h = sym (check_hit 7 _ r₁₅ h)
-
   module _ (h : short (length a) (length b) costs rows columns masses ≡ false) where
-    pub refused_15 : (masses_fit a b && right) ≡ false → 15 ≡ transport_refusal right a b costs rows columns masses
-    refused_15 f = sym (check_skip 7 _ r₁₅ 15 h (check_hit 15 _ r₁₆ (ap not f)))
-
     module _ (f : (masses_fit a b && right) ≡ true) where
       pub refused_16 : unequal (sum a) (sum b) ≡ true → 16 ≡ transport_refusal right a b costs rows columns masses
       refused_16 u = sym (check_skip 7 _ r₁₅ 16 h (check_skip 15 _ r₁₆ 16 (ap not f) (check_hit 16 _ 0 u)))
 
-      pub refused_none : unequal (sum a) (sum b) ≡ false → 0 ≡ transport_refusal right a b costs rows columns masses
-      refused_none u = sym (check_skip 7 _ r₁₅ 0 h (check_skip 15 _ r₁₆ 0 (ap not f) (check_skip 16 _ 0 0 u refl)))
-
 pub both : (p q : Bool) → p ≡ true → q ≡ true → (p && q) ≡ true
 both true q e f = f
 both false q e f = absurd (true≢false (sym e))
-
-pub either_l : (p q : Bool) → p ≡ false → (p && q) ≡ false
-either_l true q e = absurd (true≢false e)
-either_l false q e = refl
-
-pub either_r : (p q : Bool) → q ≡ false → (p && q) ≡ false
-either_r true q e = e
-either_r false q e = refl
 
 -- lists that are long enough
 long_enough : (m n costs rows columns masses : ℕ) → short m n costs rows columns masses ≡ false → (m * n ≤ costs) × (m * n ≤ rows) × (m * n ≤ columns) × (m * n ≤ masses)
@@ -169,22 +93,3 @@ module _ (a b costs : List Float) (rows columns : List ℕ) (masses : List Float
       let (f, s) = check_none 14 _ _ r in
       let (y₁, y₂) = and_t (leb (length a) 32) _ (not-false (leb (length a) 32 && leb (length b) 32) f) in
       fits_in h y₁ y₂
-
--- ---- sizes alone
-
-module _ (m n costs rows columns masses : ℕ) where
-  pub sizes_7 : short m n costs rows columns masses ≡ true → 7 ≡ size_refusal m n costs rows columns masses
-  sizes_7 h = sym (check_hit 7 _ (check 15 (not (leb m 32 && leb n 32)) 0) h)
-
-  module _ (h : short m n costs rows columns masses ≡ false) where
-    sizes_15 : (leb m 32 && leb n 32) ≡ false → 15 ≡ size_refusal m n costs rows columns masses
-    sizes_15 f = sym (check_skip 7 _ (check 15 (not (leb m 32 && leb n 32)) 0) 15 h (check_hit 15 _ 0 (ap not f)))
-
-    pub many_a : 32 < m → 15 ≡ size_refusal m n costs rows columns masses
-    many_a f = sizes_15 (either_l (leb m 32) (leb n 32) (lt-leb m 32 f))
-
-    pub many_b : 32 < n → 15 ≡ size_refusal m n costs rows columns masses
-    many_b f = sizes_15 (either_r (leb m 32) (leb n 32) (lt-leb n 32 f))
-
-    pub sizes_none : m ≤ 32 → n ≤ 32 → 0 ≡ size_refusal m n costs rows columns masses
-    sizes_none f g = sym (check_skip 7 _ (check 15 (not (leb m 32 && leb n 32)) 0) 0 h (check_skip 15 _ 0 0 (ap not (both (leb m 32) (leb n 32) (le-leb m 32 f) (le-leb n 32 g))) refl))

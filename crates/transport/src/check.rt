@@ -12,26 +12,14 @@ use numbers::{GREATEST_WEIGHT, ONE, Real, SLACK, apart, larger};
 fn lacks(places: usize, m: usize, n: usize) -> bool
     ensures { result ≡ ltb places (m * n) }
 {
-    if m == 0 {
-        return false;
-    }
-    places / m < n
+    m != 0 && places / m < n
 }
 
 // A list that is lent is short.
 fn short(m: usize, n: usize, costs: usize, rows: usize, columns: usize, masses: usize) -> bool
     ensures { result ≡ Refusal.short m n costs rows columns masses }
 {
-    if lacks(costs, m, n) {
-        return true;
-    }
-    if lacks(rows, m, n) {
-        return true;
-    }
-    if lacks(columns, m, n) {
-        return true;
-    }
-    lacks(masses, m, n)
+    lacks(costs, m, n) || lacks(rows, m, n) || lacks(columns, m, n) || lacks(masses, m, n)
 }
 
 // A mass or a cost from 0 to 2^40.
@@ -45,28 +33,14 @@ fn value_fits(x: f64) -> bool
 fn values_fit(xs: &[f64]) -> bool
     ensures { result ≡ all fits xs.now }
 {
-    let mut i: usize = 0;
-    while i < xs.len() {
-        if !value_fits(xs[i]) {
-            return false;
-        }
-        i += 1;
-    }
-    true
+    xs.iter().all(|x| value_fits(*x))
 }
 
 // At most 32 masses on a side, each from 0 to 2^40.
 fn masses_fit(a: &[f64], b: &[f64]) -> bool
     ensures { result ≡ masses_fit a.now b.now }
 {
-    if a.len() <= 32 {
-        if b.len() <= 32 {
-            if values_fit(a) {
-                return values_fit(b);
-            }
-        }
-    }
-    false
+    a.len() <= 32 && b.len() <= 32 && values_fit(a) && values_fit(b)
 }
 
 // Each cell's cost, as far as there are costs, is from 0 to 2^40.
@@ -101,10 +75,7 @@ pub(crate) fn refusal(
     if short(a.len(), b.len(), costs, rows, columns, masses) {
         return 7;
     }
-    if !masses_fit(a, b) {
-        return 15;
-    }
-    if !right {
+    if !masses_fit(a, b) || !right {
         return 15;
     }
     if uneven(Real::sum(a).value(), Real::sum(b).value()) {
@@ -127,10 +98,7 @@ pub(crate) fn size_refusal(
     if short(m, n, costs, rows, columns, masses) {
         return 7;
     }
-    if m > 32 {
-        return 15;
-    }
-    if n > 32 {
+    if m > 32 || n > 32 {
         return 15;
     }
     0

@@ -27,12 +27,10 @@ fn planned(
     requires { Roomy a.now b.now costs.now rows.old columns.old masses.old }
     ensures { TransportRows.Transported a.now b.now costs.now rows.old columns.old masses.old result.total result.cells rows.new columns.new masses.new }
 {
-    if a.len() <= 8 {
-        if b.len() <= 8 {
-            return whole::transport_small(a, b, costs, rows, columns, masses);
-        }
+    if a.len() <= 8 && b.len() <= 8 {
+        return whole::transport_with::<160>(a, b, costs, rows, columns, masses);
     }
-    whole::transport_large(a, b, costs, rows, columns, masses)
+    whole::transport_with::<2176>(a, b, costs, rows, columns, masses)
 }
 
 // The plan, or a refusal; `right` says whether the costs fit.

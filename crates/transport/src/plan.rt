@@ -29,17 +29,15 @@ pub(crate) fn write_plan(
 {
     let mut total = 0.0;
     let mut cells: usize = 0;
-    let mut k: usize = 0;
-    while k < m * n {
+    for k in 0..m * n {
         let x = caps[(first + 2 * k) ^ 1];
         if x > EPS {
             rows[cells] = (k / n) as u32;
             columns[cells] = (k % n) as u32;
             masses[cells] = x;
             cells += 1;
-            total = total + x * costs[k];
+            total += x * costs[k];
         }
-        k += 1;
     }
     Plan { total, cells }
 }

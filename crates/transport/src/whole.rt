@@ -1,5 +1,5 @@
 // The whole of `transport` below the checks: the links in rows, the rounds, the plan.
-ghost use Rattle.std.specs.Prelude.{◌≤◌, length};
+ghost use Rattle.std.specs.Prelude.{◌+◌, ◌*◌, ◌≤◌, length};
 ghost use Rattle.transport_theory.proofs.TransportRows.{Roomy, Carried, Loadable, Transported};
 
 use crate::plan;
@@ -61,8 +61,8 @@ fn transport_in(
     )
 }
 
-// At most 8 masses on a side: at most 80 links are added.
-pub(crate) fn transport_small(
+// With N places for the links and their reverses.
+pub(crate) fn transport_with<const N: usize>(
     a: &[f64],
     b: &[f64],
     costs: &[f64],
@@ -71,43 +71,13 @@ pub(crate) fn transport_small(
     masses: &mut [f64],
 ) -> Plan
     requires roomy { Roomy a.now b.now costs.now rows.old columns.old masses.old }
-    requires a_len_bound { (length a.now ≤ 8) × (length b.now ≤ 8) }
+    requires places { (2 * (length a.now + length b.now + length a.now * length b.now) ≤ N) × (N ≤ 2176) }
     ensures { Transported a.now b.now costs.now rows.old columns.old masses.old result.total result.cells rows.new columns.new masses.new }
 {
-    let mut heads = [0u32; 160];
-    let mut caps = [0.0f64; 160];
-    let mut prices = [0.0f64; 160];
-    let mut list = [0u32; 160];
-    transport_in(
-        a,
-        b,
-        costs,
-        &mut heads,
-        &mut caps,
-        &mut prices,
-        &mut list,
-        rows,
-        columns,
-        masses,
-    )
-}
-
-// Any masses: at most 1,088 links are added.
-pub(crate) fn transport_large(
-    a: &[f64],
-    b: &[f64],
-    costs: &[f64],
-    rows: &mut [u32],
-    columns: &mut [u32],
-    masses: &mut [f64],
-) -> Plan
-    requires { Roomy a.now b.now costs.now rows.old columns.old masses.old }
-    ensures { Transported a.now b.now costs.now rows.old columns.old masses.old result.total result.cells rows.new columns.new masses.new }
-{
-    let mut heads = [0u32; 2176];
-    let mut caps = [0.0f64; 2176];
-    let mut prices = [0.0f64; 2176];
-    let mut list = [0u32; 2176];
+    let mut heads = [0u32; N];
+    let mut caps = [0.0f64; N];
+    let mut prices = [0.0f64; N];
+    let mut list = [0u32; N];
     transport_in(
         a,
         b,

@@ -1,16 +1,10 @@
 -- `check::costs_fit` meets its contract: the front of the costs, or all of them where they are fewer than the cells.
 use mathlib.Core.Path.{sym, ◌∙◌}
-use lib.ListN.{length}
-use lib.Seq.{length-take-le}
-use Prim.Native.Nat.{◌*◌}
-use Rattle.transport.proofs.Refusing.{costs_whole, costs_front, product_in}
+use Rattle.transport.proofs.Refusing.{costs_whole, costs_front}
 use Rattle.transport.proofs.check.costs_fit.Goals as goal
 
 pub returns-then-lacks : goal.returns-then-lacks
 returns-then-lacks c = costs_whole c.args.m c.args.n c.args.costs.now (sym c.lacks.ensures ∙ c.if-lacks.true) _ c.values_fit.ensures
-
-pub slice_bounds-values_fit-end : goal.slice_bounds-values_fit-end
-slice_bounds-values_fit-end c = sym (length-take-le (c.args.m * c.args.n) c.args.costs.now (product_in (length c.args.costs.now) c.args.m c.args.n (sym c.lacks.ensures ∙ c.if-lacks.false)))
 
 pub returns : goal.returns
 returns c = costs_front c.args.m c.args.n c.args.costs.now _ c.values_fit-2.ensures

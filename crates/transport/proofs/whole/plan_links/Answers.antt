@@ -3,12 +3,6 @@ use native.Mathlib.Omega.{arith}
 use Rattle.transport.proofs.Carries.{plannable, planned}
 use Rattle.transport.proofs.whole.plan_links.Goals as goal
 
-pub overflow_add-m : goal.overflow_add-m
-overflow_add-m c = let f = c.requires.base.few_a in let g = c.requires.base.few_b in record { fits = omega arith }
-
-pub overflow_mul-m : goal.overflow_mul-m
-overflow_mul-m c = let f = c.requires.base.few_a in let g = c.requires.base.few_b in record { fits = omega arith }
-
 pub write_plan-requires : goal.write_plan-requires
 write_plan-requires c = plannable c.requires c.ship_rows.ensures (omega (arith, c.ship_rows.auto.caps))
 
