@@ -46,10 +46,9 @@ fn check(
     edge_targets: &mut [u32],
     edge_weights: &mut [f64],
 ) -> Reader {
-    let initial = x.initial;
     let a = outcomes::of_built(builder::build(
         x.states,
-        initial,
+        x.initial,
         sources,
         labels,
         targets,
@@ -139,10 +138,9 @@ pub fn run(buf: &[u8], r: Reader, counts: &mut [u64; 48]) -> Reader {
     let states = text::number_field(buf, r);
     let initial = text::number_field(buf, states.r);
     let given = text::number_field(buf, initial.r);
-    let start = columns::to_initial(initial.x);
     let x = Asked {
         states: states.x as usize,
-        initial: start,
+        initial: columns::to_initial(initial.x),
         given: given.x as usize,
     };
     let s = run_columns(buf, given.r, x);

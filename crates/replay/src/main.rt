@@ -26,22 +26,14 @@ const BUILD: u64 = 0x6275696c64;
 const MODEL: u64 = 0x6d6f64656c;
 
 fn run_kind(buf: &[u8], r: Reader, counts: &mut [u64; 48], kind: u64) -> Reader {
-    if kind == REAL {
-        return reals::run(buf, r, counts);
+    match kind {
+        REAL => reals::run(buf, r, counts),
+        INTERN => labels::run_intern(buf, r, counts),
+        LABEL => labels::run_label(buf, r, counts),
+        BUILD => builds::run(buf, r, counts),
+        MODEL => models::run(buf, r, counts),
+        _ => tally::unknown(r, counts),
     }
-    if kind == INTERN {
-        return labels::run_intern(buf, r, counts);
-    }
-    if kind == LABEL {
-        return labels::run_label(buf, r, counts);
-    }
-    if kind == BUILD {
-        return builds::run(buf, r, counts);
-    }
-    if kind == MODEL {
-        return models::run(buf, r, counts);
-    }
-    tally::unknown(r, counts)
 }
 
 fn run_case(buf: &[u8], r: Reader, counts: &mut [u64; 48]) -> Reader {
@@ -53,10 +45,11 @@ fn run_case(buf: &[u8], r: Reader, counts: &mut [u64; 48]) -> Reader {
 
 fn run_all(buf: &[u8], counts: &mut [u64; 48]) {
     let mut r = text::start(buf);
-    let mut turns: u32 = 0;
-    while turns < 1000000 && !text::at_end(r) {
+    for _ in 0..1000000 {
+        if text::at_end(r) {
+            return;
+        }
         r = run_case(buf, r, counts);
-        turns += 1;
     }
 }
 

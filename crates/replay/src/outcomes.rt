@@ -7,20 +7,14 @@ use replay_text::text;
 
 pub fn of_interned(a: Interned) -> Answer {
     match a {
-        Interned::Id(id, n) => {
-            let i = id.0;
-            given(i as u64, n as u64)
-        }
+        Interned::Id(id, n) => given(id.0 as u64, n as u64),
         Interned::Refused(k) => refused(k),
     }
 }
 
 pub fn of_found(a: Found) -> Answer {
     match a {
-        Found::Id(id) => {
-            let i = id.0;
-            given(i as u64, 0)
-        }
+        Found::Id(id) => given(id.0 as u64, 0),
         Found::Absent => given(text::ABSENT, 0),
         Found::Refused(k) => refused(k),
     }
@@ -42,10 +36,7 @@ pub fn of_counted(a: Counted) -> Answer {
 
 pub fn of_start(a: Start) -> Answer {
     match a {
-        Start::At(s) => {
-            let i = s.0;
-            given(i as u64, 0)
-        }
+        Start::At(s) => given(s.0 as u64, 0),
         Start::Absent => given(text::ABSENT, 0),
         Start::Refused(k) => refused(k),
     }

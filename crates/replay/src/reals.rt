@@ -4,15 +4,10 @@ use numbers::Real;
 use replay_text::text::Reader;
 use replay_text::{answers, lists, tally, text};
 
-fn bit(b: bool) -> u64 {
-    if b { 1 } else { 0 }
-}
-
 fn check_sum(buf: &[u8], r: Reader, counts: &mut [u64; 48], xs: &[f64]) -> Reader {
     let s = text::name(buf, r);
     let t = text::expect(buf, s, 0);
-    let sum = Real::sum(xs);
-    let u = text::expect_real(buf, t, sum.0);
+    let u = text::expect_real(buf, t, Real::sum(xs).0);
     tally::count(counts, entries::SUM, u)
 }
 
@@ -23,14 +18,14 @@ fn check(buf: &[u8], r: Reader, counts: &mut [u64; 48], x: f64, xs: &[f64]) -> R
         r,
         counts,
         entries::IS_VALID,
-        answers::given(bit(v.is_valid()), 0),
+        answers::given(u64::from(v.is_valid()), 0),
     );
     let t = answers::check_one(
         buf,
         s,
         counts,
         entries::IS_ZERO,
-        answers::given(bit(v.is_zero()), 0),
+        answers::given(u64::from(v.is_zero()), 0),
     );
     check_sum(buf, t, counts, xs)
 }

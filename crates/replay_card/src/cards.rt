@@ -9,24 +9,9 @@ use replay_text::{answers, hex, lists, tally, text};
 // The place of its counts.
 pub const REPORT: usize = 0;
 
-fn fill(out: &mut [u8], byte: u8) {
-    let mut i: usize = 0;
-    while i < out.len() {
-        out[i] = byte;
-        i += 1;
-    }
-}
-
 // All bytes from `from` on are that byte.
 fn filled_from(out: &[u8], from: usize, byte: u8) -> bool {
-    let mut i: usize = 0;
-    while i < out.len() {
-        if from <= i && out[i] != byte {
-            return false;
-        }
-        i += 1;
-    }
-    true
+    out.iter().skip(from).all(|b| *b == byte)
 }
 
 // The answer as numbers, and how many bytes of the store are text.
@@ -57,7 +42,7 @@ fn expect_store(buf: &[u8], r: Reader, out: &[u8], written: usize, byte: u8) -> 
 
 // The report of a card in a store that holds the byte everywhere.
 fn answer(card: &[u8], out: &mut [u8], byte: u8) -> Told {
-    fill(out, byte);
+    out.fill(byte);
     numbers_of(report(card, out))
 }
 
@@ -75,12 +60,11 @@ fn read(buf: &[u8], r: Reader, card: &mut [u8], most: usize) -> Given {
     let room = text::number_field(buf, bytes.r);
     let l = lists::sized(room, most);
     let byte = text::short_field(buf, l.r);
-    let s = byte.r;
     Given {
         size: bytes.n,
         room: l.n,
         byte: (byte.x % 256) as u8,
-        r: s,
+        r: byte.r,
     }
 }
 

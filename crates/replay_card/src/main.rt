@@ -21,20 +21,21 @@ fn run_case(
 ) -> Reader {
     let named = text::name(buf, r);
     let kind = text::word(buf, named);
-    if kind.x == CARD {
-        let s = cards::run(buf, kind.r, counts, card, out);
-        return tally::next_case(buf, s, counts);
-    }
-    let s = tally::unknown(kind.r, counts);
+    let s = if kind.x == CARD {
+        cards::run(buf, kind.r, counts, card, out)
+    } else {
+        tally::unknown(kind.r, counts)
+    };
     tally::next_case(buf, s, counts)
 }
 
 fn run_all(buf: &[u8], counts: &mut [u64; 48], card: &mut [u8], out: &mut [u8]) {
     let mut r = text::start(buf);
-    let mut turns: u32 = 0;
-    while turns < 1000000 && !text::at_end(r) {
+    for _ in 0..1000000 {
+        if text::at_end(r) {
+            return;
+        }
         r = run_case(buf, r, counts, card, out);
-        turns += 1;
     }
 }
 

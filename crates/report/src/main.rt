@@ -12,14 +12,9 @@ use std::io::{Read, Write};
 
 fn print_text(rt: &impl Print, text: Text, out: &[u8]) -> io::Result<()> {
     match text {
-        Text::Written(n) => {
-            if n <= out.len() {
-                io::writer(rt).write_all(&out[..n])?;
-            }
-        }
-        Text::Refused(_) => {}
+        Text::Written(n) if n <= out.len() => io::writer(rt).write_all(&out[..n]),
+        _ => Ok(()),
     }
-    Ok(())
 }
 
 // Reads until the bytes are full, or the input ends: how many were read.
