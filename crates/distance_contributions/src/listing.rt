@@ -13,29 +13,11 @@ use distance_theory::{MetricOptions, PairContribution};
 use distance_words::told::Listed;
 use numbers::apart;
 
-// Whether each of the first n states is below a count.
-fn all_below(states: &[u32], n: usize, count: usize) -> bool
-    requires { n ≤ length states.now }
-    ensures { result ≡ all (below count) (take n states.now) }
-{
-    let mut i: usize = 0;
-    while i < n {
-        if states[i] as usize >= count {
-            return false;
-        }
-        i += 1;
-    }
-    true
-}
-
 // Whether there are n states, each below a count.
 fn known(n: usize, states: &[u32], count: usize) -> bool
     ensures { result ≡ Listing.known n states.now count }
 {
-    if n <= states.len() {
-        return all_below(states, n, count);
-    }
-    false
+    n <= states.len() && states[..n].iter().all(|state| (*state as usize) < count)
 }
 
 // Whether the contributions of n pairs can be listed, `top` of them.
@@ -99,11 +81,8 @@ fn weigh(
     requires { (k : ℕ) → k < length shares.old → Read lefts.now rights.now left_seen.now right_seen.now spent.now k }
     ensures { shares.new ≡ map (share_of lefts.now rights.now left_seen.now right_seen.now spent.now) (span 0 (length shares.old)) }
 {
-    let mut k: usize = 0;
-    while k < shares.len() {
-        let c = record_of(lefts, rights, left_seen, right_seen, spent, k);
-        shares[k] = c.contribution;
-        k += 1;
+    for (k, share) in shares.iter_mut().enumerate() {
+        *share = record_of(lefts, rights, left_seen, right_seen, spent, k).contribution;
     }
 }
 
@@ -134,12 +113,8 @@ fn records_of(
     ensures { result ≡ row (map (record_of lefts.now rights.now left_seen.now right_seen.now spent.now) chosen.now) }
 {
     let mut records = blank();
-    let mut i: usize = 0;
-    while i < chosen.len() {
-        let k = chosen[i] as usize;
-        let c = record_of(lefts, rights, left_seen, right_seen, spent, k);
-        records[i] = c;
-        i += 1;
+    for (i, k) in chosen.iter().enumerate() {
+        records[i] = record_of(lefts, rights, left_seen, right_seen, spent, *k as usize);
     }
     records
 }

@@ -18,10 +18,6 @@ pub fn write_contributions(
     if count > 64 {
         return 14;
     }
-    let mut i: usize = 0;
-    while i < count {
-        records[i] = from[i];
-        i += 1;
-    }
+    records[..count].copy_from_slice(&from[..count]);
     0
 }

@@ -9,12 +9,6 @@ ghost use Rattle.distance_words.proofs.Costs;
 use distance_couplings::shares::value_at;
 use numbers::{ONE, apart};
 
-fn wide(x: u32) -> usize
-    ensures { result ≡ x }
-{
-    x as usize
-}
-
 // An entry for each of n pairs.
 fn counted(n: usize, lefts: usize, rights: usize, cost: usize) -> bool
     ensures { result ≡ Costs.counted n lefts rights cost }
@@ -41,12 +35,10 @@ fn price_each(
     ensures { cost.new ≡ over (costs lefts.now rights.now left_seen.now right_seen.now gamma n) cost.old }
 {
     let weight = ONE - gamma;
-    let mut k = 0;
-    while k < n {
-        let x = value_at(left_seen, wide(lefts[k]));
-        let y = value_at(right_seen, wide(rights[k]));
+    for k in 0..n {
+        let x = value_at(left_seen, lefts[k] as usize);
+        let y = value_at(right_seen, rights[k] as usize);
         cost[k] = weight * apart(x, y);
-        k += 1;
     }
 }
 

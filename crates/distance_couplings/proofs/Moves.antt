@@ -186,22 +186,18 @@ laid_all look xs ps ys qs codes R p p₀ m m₀ ep em =
     let cs : List Share = independent_by look (jumps_of xs ps) (jumps_of ys qs) in
     ap (λ (n : ℕ). laid true n p m) (sym (freely_length look xs ps ys qs codes R)) ∙ ap₂ (λ (u : List ℕ) (w : List Float). laid true (length cs) u w) ep em
 
--- the part of a list from f to t, which are two offsets
-pub part_read : {A : Type 0} (O : List ℕ) (x f t : ℕ) (l : List A) → f ≡ get_or O x 0 → t ≡ get_or O (x + 1) 0 → get_or O x 0 ≤ get_or O (x + 1) 0 → take (t - f) (drop f l) ≡ slice (get_or O x 0) (get_or O (x + 1) 0) l
-part_read O x f t l ef et h = part_is f t l (omega arith) ∙ ap₂ (λ (a b : ℕ). slice a b l) ef et
+module _ (O T : List ℕ) (P : List Float) (U S : List ℕ) (Q : List Float) (x y : ℕ) (RL : RowRead O T P x) (RR : RowRead U S Q y) (look : Look) (codes : ℕ) (p : List ℕ) (m : List Float) where
+  abbrev part : {A : Type 0} → List ℕ → ℕ → List A → List A
+  part O x l = take (get_or O (x + 1) 0 - get_or O x 0) (drop (get_or O x 0) l)
 
-module _ (O T : List ℕ) (P : List Float) (U S : List ℕ) (Q : List Float) (x y : ℕ) (RL : RowRead O T P x) (RR : RowRead U S Q y)
-    (f t g u : ℕ) (ef : f ≡ get_or O x 0) (et : t ≡ get_or O (x + 1) 0) (eg : g ≡ get_or U y 0) (eu : u ≡ get_or U (y + 1) 0) (look : Look) (codes : ℕ) (p : List ℕ) (m : List Float) where
-  pub read_laid : (r : Laid) → r ≡ lay_on look (take (t - f) (drop f T)) (take (t - f) (drop f P)) (take (u - g) (drop g S)) (take (u - g) (drop g Q)) codes p m
-      → r ≡ lay_read look (chain_columns O T P []) (chain_columns U S Q []) codes x y p m
-  read_laid r e =
-      let q₁ = part_read O x f t T ef et RL.rises in let q₂ = part_read O x f t P ef et RL.rises in
-      let q₃ = part_read U y g u S eg eu RR.rises in let q₄ = part_read U y g u Q eg eu RR.rises in
+  pub read_laid : {r : Laid} → r ≡ lay_on look (part O x T) (part O x P) (part U y S) (part U y Q) codes p m → r ≡ lay_read look (chain_columns O T P []) (chain_columns U S Q []) codes x y p m
+  read_laid e =
+      let q₁ = part_is _ _ T RL.rises in let q₂ = part_is _ _ P RL.rises in
+      let q₃ = part_is _ _ S RR.rises in let q₄ = part_is _ _ Q RR.rises in
       e ∙ (λ i. lay_on look (q₁ i) (q₂ i) (q₃ i) (q₄ i) codes p m)
 
-  pub read_bested : (v : List Float) (r : Bested) → r ≡ best_on look (take (t - f) (drop f T)) (take (t - f) (drop f P)) (take (u - g) (drop g S)) (take (u - g) (drop g Q)) codes p m v
-      → r ≡ best_read look (chain_columns O T P []) (chain_columns U S Q []) codes x y v p m
-  read_bested v r e =
-      let q₁ = part_read O x f t T ef et RL.rises in let q₂ = part_read O x f t P ef et RL.rises in
-      let q₃ = part_read U y g u S eg eu RR.rises in let q₄ = part_read U y g u Q eg eu RR.rises in
+  pub read_bested : (v : List Float) {r : Bested} → r ≡ best_on look (part O x T) (part O x P) (part U y S) (part U y Q) codes p m v → r ≡ best_read look (chain_columns O T P []) (chain_columns U S Q []) codes x y v p m
+  read_bested v e =
+      let q₁ = part_is _ _ T RL.rises in let q₂ = part_is _ _ P RL.rises in
+      let q₃ = part_is _ _ S RR.rises in let q₄ = part_is _ _ Q RR.rises in
       e ∙ (λ i. best_on look (q₁ i) (q₂ i) (q₃ i) (q₄ i) codes p m v)

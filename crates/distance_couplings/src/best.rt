@@ -10,7 +10,7 @@ ghost use Rattle.transport_theory.specs.Transport.{transport};
 ghost use Rattle.distance_theory.specs.Couplings.{point_mass};
 ghost use Rattle.distance_theory.proofs.Bests.{Beside, costs_by, places_by, Movable, moved_on, best_by, bested, best_if, best_on};
 
-use crate::shares::{cells_fit, expected_part, lay_shares, place, rows_fit, value_at, wide};
+use crate::shares::{cells_fit, expected_part, lay_shares, place, rows_fit, value_at};
 use bisim_core::ids::StateId;
 use distance_pairs::index::place_of;
 use numbers::Real;
@@ -23,12 +23,10 @@ fn lay_values(xs: &[u32], ys: &[u32], codes: &[u64], values: &[f64], costs: &mut
 {
     let n = ys.len();
     let cells = xs.len() * n;
-    let mut k = 0;
-    while k < cells {
+    for k in 0..cells {
         let x = xs[k / n];
         let y = ys[k % n];
         costs[k] = value_at(values, place_of(codes, StateId(x), StateId(y)));
-        k += 1;
     }
 }
 
@@ -39,10 +37,8 @@ fn fit(ps: &[f64], qs: &[f64], fitted: &mut [f64])
 {
     let left = Real::sum(ps).value();
     let right = Real::sum(qs).value();
-    let mut j = 0;
-    while j < qs.len() {
-        fitted[j] = qs[j] * left / right;
-        j += 1;
+    for (j, q) in qs.iter().enumerate() {
+        fitted[j] = *q * left / right;
     }
 }
 
@@ -60,12 +56,8 @@ fn lay_planned(
     requires by_index { (i : ℕ) → i < count → (get_or rows.now i 0 < length xs.now) × (get_or columns.now i 0 < length ys.now) }
     ensures { places.new ≡ over (places_by (look_up codes.now) xs.now ys.now rows.now columns.now count) places.old }
 {
-    let mut i = 0;
-    while i < count {
-        let row = wide(rows[i]);
-        let column = wide(columns[i]);
-        places[i] = place(codes, xs[row], ys[column]);
-        i += 1;
+    for i in 0..count {
+        places[i] = place(codes, xs[rows[i] as usize], ys[columns[i] as usize]);
     }
 }
 

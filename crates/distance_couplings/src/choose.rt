@@ -7,7 +7,6 @@ ghost use Rattle.distance_theory.proofs.PairRows.{RowRead, best_read, best_pair}
 
 use crate::best::{Best, best_coupling};
 use crate::pairs::row_reads;
-use crate::shares::wide;
 
 // The cheapest coupling of rows that can be read.
 fn best_read(
@@ -28,10 +27,10 @@ fn best_read(
     requires row_read_2 { RowRead right_offsets.now right_targets.now right_probs.now y }
     ensures { bested result.value result.cells places.new masses.new ≡ best_read (look_up codes.now) (chain_columns left_offsets.now left_targets.now left_probs.now []) (chain_columns right_offsets.now right_targets.now right_probs.now []) (length codes.now) x y values.now places.old masses.old }
 {
-    let left_from = wide(left_offsets[x]);
-    let left_to = wide(left_offsets[x + 1]);
-    let right_from = wide(right_offsets[y]);
-    let right_to = wide(right_offsets[y + 1]);
+    let left_from = left_offsets[x] as usize;
+    let left_to = left_offsets[x + 1] as usize;
+    let right_from = right_offsets[y] as usize;
+    let right_to = right_offsets[y + 1] as usize;
     best_coupling(
         &left_targets[left_from..left_to],
         &left_probs[left_from..left_to],

@@ -5,7 +5,7 @@ ghost use Rattle.distance_theory.proofs.Index.{look_up};
 ghost use Rattle.distance_theory.proofs.Bests.{laid};
 ghost use Rattle.distance_theory.proofs.PairRows.{reads_row, RowRead, lay_read, lay_pair};
 
-use crate::shares::{Part, lay_independent, wide};
+use crate::shares::{Part, lay_independent};
 
 // Whether the entries of state x can be read.
 pub fn row_reads(offsets: &[u32], targets: &[u32], probs: &[f64], x: usize) -> bool
@@ -17,8 +17,8 @@ pub fn row_reads(offsets: &[u32], targets: &[u32], probs: &[f64], x: usize) -> b
     if x + 1 >= offsets.len() {
         return false;
     }
-    let from = wide(offsets[x]);
-    let to = wide(offsets[x + 1]);
+    let from = offsets[x] as usize;
+    let to = offsets[x + 1] as usize;
     if from <= to {
         if to <= targets.len() {
             return to <= probs.len();
@@ -45,10 +45,10 @@ fn lay_read(
     requires row_read_2 { RowRead right_offsets.now right_targets.now right_probs.now y }
     ensures { laid result.done result.cells places.new masses.new ≡ lay_read (look_up codes.now) (chain_columns left_offsets.now left_targets.now left_probs.now []) (chain_columns right_offsets.now right_targets.now right_probs.now []) (length codes.now) x y places.old masses.old }
 {
-    let left_from = wide(left_offsets[x]);
-    let left_to = wide(left_offsets[x + 1]);
-    let right_from = wide(right_offsets[y]);
-    let right_to = wide(right_offsets[y + 1]);
+    let left_from = left_offsets[x] as usize;
+    let left_to = left_offsets[x + 1] as usize;
+    let right_from = right_offsets[y] as usize;
+    let right_to = right_offsets[y + 1] as usize;
     lay_independent(
         &left_targets[left_from..left_to],
         &left_probs[left_from..left_to],

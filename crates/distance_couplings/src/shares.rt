@@ -23,27 +23,13 @@ pub fn value_at(values: &[f64], i: usize) -> f64
     0.0 / 0.0
 }
 
-pub(crate) fn wide(x: u32) -> usize
-    ensures { result ≡ x }
-{
-    x as usize
-}
-
 // Σ mass × value of the shares from..to.
 pub fn expected_part(values: &[f64], places: &[u32], masses: &[f64], from: usize, to: usize) -> f64
     ensures { result ≡ expected values.now (shares_of (slice from to places.now) (slice from to masses.now)) }
 {
     let mut total = 0.0;
-    let mut i = from;
-    while i < to {
-        if i >= places.len() {
-            return total;
-        }
-        if i >= masses.len() {
-            return total;
-        }
-        total = total + masses[i] * value_at(values, wide(places[i]));
-        i += 1;
+    for i in from..to.min(places.len()).min(masses.len()) {
+        total += masses[i] * value_at(values, places[i] as usize);
     }
     total
 }
@@ -73,13 +59,11 @@ pub(crate) fn lay_shares(
 {
     let n = ys.len();
     let cells = xs.len() * n;
-    let mut k = 0;
-    while k < cells {
+    for k in 0..cells {
         let i = k / n;
         let j = k % n;
         places[k] = place(codes, xs[i], ys[j]);
         masses[k] = ps[i] * qs[j];
-        k += 1;
     }
 }
 
@@ -104,10 +88,7 @@ pub(crate) fn cells_fit(m: usize, n: usize, places: usize, masses: usize) -> boo
     requires { (m ≤ 32) × (n ≤ 32) }
     ensures { result ≡ cells_fit m n places masses }
 {
-    if m * n <= places {
-        return m * n <= masses;
-    }
-    false
+    m * n <= places && m * n <= masses
 }
 
 // Whether shares were laid, and how many.

@@ -22,7 +22,7 @@ use Rattle.distance_theory.specs.Pairs.{pair, pair_at}
 use Rattle.distance_theory.specs.Couplings.{Metric, row_l, row_r, fitted, even}
 use Rattle.distance_theory.proofs.Crossings.{map_at}
 use Rattle.distance_theory.proofs.PairRows.{RowRead, row_targets, row_rates, reads_row}
-use Rattle.distance_couplings.proofs.Moves.{part_read}
+use Rattle.chain_check.proofs.Checks.{part_is}
 use Rattle.distance_store.proofs.Kept.{Ready, beside_rows}
 use Rattle.distance_words.proofs.Even.{fitted_by, even_rows, even_when, even_pair, even_pairs, all_even}
 
@@ -61,9 +61,10 @@ module _ (ps qs : List Float) where
 
 -- ---- read from columns
 
-pub read_even : (O T : List ℕ) (P : List Float) (U S : List ℕ) (Q : List Float) (x y : ℕ) → RowRead O T P x → RowRead U S Q y → (f t g u : ℕ) → f ≡ get_or O x 0 → t ≡ get_or O (x + 1) 0 → g ≡ get_or U y 0 → u ≡ get_or U (y + 1) 0
-    → (r : Bool) → r ≡ even_rows (take (t - f) (drop f P)) (take (u - g) (drop g Q)) → r ≡ even_rows (row_rates (chain_columns O T P []) x) (row_rates (chain_columns U S Q []) y)
-read_even O T P U S Q x y RL RR f t g u ef et eg eu r e = e ∙ ap₂ even_rows (part_read O x f t P ef et RL.rises) (part_read U y g u Q eg eu RR.rises)
+pub read_even : (O T : List ℕ) (P : List Float) (U S : List ℕ) (Q : List Float) (x y : ℕ) → RowRead O T P x → RowRead U S Q y
+    → {r : Bool} → r ≡ even_rows (take (get_or O (x + 1) 0 - get_or O x 0) (drop (get_or O x 0) P)) (take (get_or U (y + 1) 0 - get_or U y 0) (drop (get_or U y 0) Q))
+    → r ≡ even_rows (row_rates (chain_columns O T P []) x) (row_rates (chain_columns U S Q []) y)
+read_even O T P U S Q x y RL RR e = e ∙ ap₂ even_rows (part_is _ _ P RL.rises) (part_is _ _ Q RR.rises)
 
 module _ (C D : ChainColumns) (x y : ℕ) (u : Bool) (eu : u ≡ reads_row C x) where
   abbrev rows : Bool

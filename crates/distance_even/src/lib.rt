@@ -11,21 +11,13 @@ ghost use Rattle.distance_words.proofs.Even;
 use distance_couplings::pairs::row_reads;
 use numbers::{ONE, Real, SLACK, apart, larger};
 
-fn wide(x: u32) -> usize
-    ensures { result ≡ x }
-{
-    x as usize
-}
-
 // The sum of the masses of a row, each times one total and divided by another.
 fn fitted_total(qs: &[f64], left: f64, right: f64) -> f64
     ensures { result ≡ sum (map (fitted_by left right) qs.now) }
 {
     let mut total = 0.0;
-    let mut j = 0;
-    while j < qs.len() {
-        total = total + qs[j] * left / right;
-        j += 1;
+    for q in qs {
+        total += *q * left / right;
     }
     total
 }
@@ -61,10 +53,10 @@ fn even_read(
     requires row_read_2 { RowRead right_offsets.now right_targets.now right_probs.now y }
     ensures { result ≡ even_rows (row_rates (chain_columns left_offsets.now left_targets.now left_probs.now []) x) (row_rates (chain_columns right_offsets.now right_targets.now right_probs.now []) y) }
 {
-    let left_from = wide(left_offsets[x]);
-    let left_to = wide(left_offsets[x + 1]);
-    let right_from = wide(right_offsets[y]);
-    let right_to = wide(right_offsets[y + 1]);
+    let left_from = left_offsets[x] as usize;
+    let left_to = left_offsets[x + 1] as usize;
+    let right_from = right_offsets[y] as usize;
+    let right_to = right_offsets[y + 1] as usize;
     even_rows(
         &left_probs[left_from..left_to],
         &right_probs[right_from..right_to],
@@ -122,10 +114,9 @@ pub fn all_even(
     if n > rights.len() {
         return false;
     }
-    let mut k = 0;
-    while k < n {
-        let x = wide(lefts[k]);
-        let y = wide(rights[k]);
+    for k in 0..n {
+        let x = lefts[k] as usize;
+        let y = rights[k] as usize;
         let even = even_pair(
             x,
             y,
@@ -139,7 +130,6 @@ pub fn all_even(
         if !even {
             return false;
         }
-        k += 1;
     }
     true
 }

@@ -7,23 +7,13 @@ ghost use Rattle.distance_words.proofs.Improving;
 use distance_couplings::shares::expected_part;
 use numbers::EPS;
 
-pub(crate) fn wide(x: u32) -> usize
-    ensures { (result ≡ x) × (result < 4294967296) }
-{
-    x as usize
-}
-
 // Shares over the front of two lists.
 fn put_shares(js: &[u32], ms: &[f64], places: &mut [u32], masses: &mut [f64])
     requires { (length ms.now ≡ length js.now) × (length js.now ≤ length places.old) × (length js.now ≤ length masses.old) }
     ensures { (places.new ≡ over js.now places.old) × (masses.new ≡ over ms.now masses.old) }
 {
-    let mut i = 0;
-    while i < js.len() {
-        places[i] = js[i];
-        masses[i] = ms[i];
-        i += 1;
-    }
+    places[..js.len()].copy_from_slice(js);
+    masses[..ms.len()].copy_from_slice(ms);
 }
 
 // The coupling of places js and masses ms, which comes to `value`, for pair k where it is better by more than 1e-12.
@@ -41,8 +31,8 @@ pub(crate) fn adopt(
     requires { (k < length starts.now) × (k < length lengths.old) × (length ms.now ≡ length js.now) × (length js.now ≤ 1024) }
     ensures { adopted result lengths.new places.new masses.new ≡ Improving.adopt value js.now ms.now values.now k starts.now lengths.old places.old masses.old }
 {
-    let from = wide(starts[k]);
-    let to = from + wide(lengths[k]);
+    let from = starts[k] as usize;
+    let to = from + lengths[k] as usize;
     let current = expected_part(values, places, masses, from, to);
     if !(value < current - EPS) {
         return false;

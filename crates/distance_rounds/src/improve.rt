@@ -5,15 +5,9 @@ ghost use Rattle.chain_theory.specs.Columns.{chain_columns};
 ghost use Rattle.distance_words.proofs.Improving.{bettered, better_from, best_of_pair};
 ghost use Rattle.distance_words.proofs.Improving;
 
-use crate::adopt::{adopt, wide};
+use crate::adopt::adopt;
 use distance_couplings::choose::best_pair;
 use numbers::{apart, larger};
-
-fn either(a: bool, b: bool) -> bool
-    ensures { result ≡ (a || b) }
-{
-    a || b
-}
 
 // The most that a value is off, and whether a coupling has changed.
 #[derive(Clone, Copy)]
@@ -75,11 +69,10 @@ fn improve_each(
     let mut ms = [0.0f64; 1024];
     let mut residual = 0.0;
     let mut improved = false;
-    let mut k = 0;
-    while k < n {
+    for k in 0..n {
         let best = best_pair(
-            wide(lefts[k]),
-            wide(rights[k]),
+            lefts[k] as usize,
+            rights[k] as usize,
             left_offsets,
             left_targets,
             left_probs,
@@ -104,8 +97,7 @@ fn improve_each(
             places,
             masses,
         );
-        improved = either(done, improved);
-        k += 1;
+        improved |= done;
     }
     Improvement { residual, improved }
 }

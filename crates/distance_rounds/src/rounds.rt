@@ -74,6 +74,7 @@ pub fn iterate(
 {
     let mut residual = infinity();
     let mut rounds = 0;
+    // Counted by hand: the count is answered, and a `for` would count beside it.
     while rounds < max_rounds {
         evaluate(n, starts, lengths, places, masses, cost, gamma, tol, values);
         let step = improve(

@@ -6,12 +6,6 @@ ghost use Rattle.distance_words.proofs.Store;
 
 use distance_couplings::pairs::lay_pair;
 
-fn wide(x: u32) -> usize
-    ensures { result ≡ x }
-{
-    x as usize
-}
-
 // At most 4,096 pairs, and an entry for each.
 fn counted(n: usize, lefts: usize, rights: usize, starts: usize, lengths: usize) -> bool
     ensures { result ≡ Store.counted n lefts rights starts lengths }
@@ -49,10 +43,9 @@ fn fill_each(
     ensures { filled result starts.new lengths.new places.new masses.new ≡ fill_from (laying_of lefts.now rights.now codes.now (chain_columns left_offsets.now left_targets.now left_probs.now []) (chain_columns right_offsets.now right_targets.now right_probs.now [])) n 0 0 starts.old lengths.old places.old masses.old }
 {
     let mut at = 0;
-    let mut k = 0;
-    while k < n {
-        let x = wide(lefts[k]);
-        let y = wide(rights[k]);
+    for k in 0..n {
+        let x = lefts[k] as usize;
+        let y = rights[k] as usize;
         let part = lay_pair(
             x,
             y,
@@ -73,7 +66,6 @@ fn fill_each(
         starts[k] = at as u32;
         lengths[k] = cells as u32;
         at += cells;
-        k += 1;
     }
     true
 }

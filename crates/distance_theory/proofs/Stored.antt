@@ -1,6 +1,7 @@
 -- Laws of the coupling store: shares in two lists, summed part by part.
 use mathlib.Core.Path.{◌≡◌, refl, sym, ap, ap₂, ◌∙◌}
-use Prim.Native.Nat.{ℕ, ◌≤◌, ◌<◌, ◌+◌}
+use mathlib.Core.Logic.{◌⊎◌, inl, inr}
+use Prim.Native.Nat.{ℕ, ◌≤◌, ◌<◌, ◌+◌, min}
 use mathlib.Core.List.{List, [], ◌∷◌, map}
 use native.Mathlib.Omega.{arith}
 use native.Mathlib.Numerals.{add-one}
@@ -10,7 +11,8 @@ use lib.Ieee.{Float, nan, binary64, add, mul}
 use Rattle.numbers.specs.Lists.{over}
 use Rattle.numbers.specs.Real.{nought, sum, sum_from}
 use Rattle.distance_theory.specs.Couplings.{Share, weighed, expected}
-use Rattle.distance_theory.proofs.Held.{shares_of}
+use Rattle.distance_theory.proofs.Held.{shares_of, no_shares}
+use Rattle.numbers.proofs.Bools.{lt_or_ge}
 use Rattle.distance_theory.proofs.Bests.{ats, parts}
 
 -- ---- shares in two lists
@@ -19,11 +21,6 @@ pub shares_of_lem : (cs : List Share) → shares_of (ats cs) (parts cs) ≡ cs
 unfolding shares_of
 shares_of_lem [] = refl
 shares_of_lem (c ∷ cs) = ap (λ (l : List Share). c ∷ l) (shares_of_lem cs)
-
-shares_none : (ps : List ℕ) → shares_of ps [] ≡ []
-unfolding shares_of
-shares_none [] = refl
-shares_none (p ∷ ps) = refl
 
 -- shares over the front of two lists
 pub shares_front : (cs : List Share) (p : List ℕ) (m : List Float) (n : ℕ) → n ≡ length cs → shares_of (slice 0 n (over (ats cs) p)) (slice 0 n (over (parts cs) m)) ≡ cs
@@ -43,9 +40,6 @@ slice_next : {A : Type 0} (l : List A) (i b : ℕ) (z : A) → i < b → i < len
 slice_next l i b z h k =
     drop-cons (take b l) i z (let e = length-take b l in omega arith) ∙ ap₂ (λ x r. x ∷ r) (get_or-take b l i z h) (ap (λ (n : ℕ). drop n (take b l)) (sym (add-one i)))
 
-slice_past : {A : Type 0} (l : List A) (i b : ℕ) → length l ≤ i → slice i b l ≡ []
-slice_past l i b h = drop_of_length-le (take b l) {i = i} (let e = length-take b l in omega arith)
-
 module _ (v : List Float) (P : List ℕ) (M : List Float) (x : Float) (i b : ℕ) where
   -- a turn
   pub sum_part_next : (n : ℕ) (y : Float) → n ≡ get_or P i 0 → y ≡ get_or v n nan → i < b → i < length P → i < length M → sum_part v P M (add binary64 x (mul binary64 (get_or M i nan) y)) (i + 1) b ≡ sum_part v P M x i b
@@ -55,14 +49,16 @@ module _ (v : List Float) (P : List ℕ) (M : List Float) (x : Float) (i b : ℕ
       ∙ sym (ap₂ (λ (p : List ℕ) (m : List Float). sum_from x (map (weighed v) (shares_of p m))) (slice_next P i b 0 h j) (slice_next M i b nan h k))
 
   -- no share is left
-  pub sum_part_places : length P ≤ i → x ≡ sum_part v P M x i b
+  pub sum_part_end : min (min b (length P)) (length M) ≤ i → x ≡ sum_part v P M x i b
   unfolding shares_of sum_from
-  sum_part_places h = sym (ap (λ (p : List ℕ). sum_from x (map (weighed v) (shares_of p (slice i b M)))) (slice_past P i b h))
+  sum_part_end h = sym (ap (λ (cs : List Share). sum_from x (map (weighed v) cs)) (no_shares (slice i b P) (slice i b M) (none (past i b P) (past i b M))))
+    where
+      past : (i b : ℕ) {A : Type 0} (l : List A) → min b (length l) ≤ i → slice i b l ≡ []
+      past i b l k = drop_of_length-le (take b l) {i = i} (let e = length-take b l in omega arith)
 
-  pub sum_part_masses : length M ≤ i → x ≡ sum_part v P M x i b
-  unfolding sum_from
-  sum_part_masses h = sym (ap (λ (m : List Float). sum_from x (map (weighed v) (shares_of (slice i b P) m))) (slice_past M i b h) ∙ ap (λ (cs : List Share). sum_from x (map (weighed v) cs)) (shares_none (slice i b P)))
-
-  pub sum_part_end : b ≤ i → x ≡ sum_part v P M x i b
-  unfolding shares_of sum_from
-  sum_part_end h = sym (ap (λ (p : List ℕ). sum_from x (map (weighed v) (shares_of p (slice i b M)))) (drop_of_length-le (take b P) {i = i} (let e = length-take b P in omega arith)))
+      none : (min b (length P) ≤ i → slice i b P ≡ []) → (min b (length M) ≤ i → slice i b M ≡ []) → (slice i b P ≡ []) ⊎ (slice i b M ≡ [])
+      none f g = pick (lt_or_ge i (min b (length P)))
+        where
+          pick : (i < min b (length P)) ⊎ (min b (length P) ≤ i) → (slice i b P ≡ []) ⊎ (slice i b M ≡ [])
+          pick (inl k) = inr (g (omega arith))
+          pick (inr k) = inl (f k)

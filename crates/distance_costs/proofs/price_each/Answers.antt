@@ -17,7 +17,7 @@ pub bounds-cost-k : goal.bounds-cost-k
 bounds-cost-k c = let h = c.loop-k-test.true in let e = c.loop-k.invariant.1 in let p = c.requires.2 in omega arith
 
 pub loop-k-preserved : goal.loop-k-preserved
-loop-k-preserved c = let h = c.loop-k-test.true in (omega arith, length-set c.loop-k.cost c.loop-k.k _ ∙ c.loop-k.invariant.1, cost_next c.args.lefts.now c.args.rights.now c.args.left_seen.now c.args.right_seen.now c.args.gamma c.args.n c.args.cost.now c.loop-k.cost c.loop-k.k c.loop-k.invariant.2 c.wide.result c.wide-in-loop-k.result c.value_at-x.result c.value_at-y.result c.apart.result c.wide.ensures c.wide-in-loop-k.ensures c.value_at-x.ensures c.value_at-y.ensures c.apart.ensures h c.requires.2)
+loop-k-preserved c = let h = c.loop-k-test.true in (omega arith, length-set c.loop-k.cost c.loop-k.k _ ∙ c.loop-k.invariant.1, cost_next c.args.lefts.now c.args.rights.now c.args.left_seen.now c.args.right_seen.now c.args.gamma c.args.n c.args.cost.now c.loop-k.cost c.loop-k.k c.loop-k.invariant.2 _ _ _ _ _ refl refl c.value_at-x.ensures c.value_at-y.ensures c.apart.ensures h c.requires.2)
 
 pub shape_of-cost : goal.shape_of-cost
 shape_of-cost c = c.loop-k.invariant.1

@@ -8,6 +8,3 @@ use Rattle.distance_costs.proofs.price_each.Given as goal
 
 abbrev pub invariant-loop-k : goal.invariant-loop-k
 invariant-loop-k l = (l.k ≤ l.n) × (length l.cost ≡ length l.initial.cost) × (l.cost ≡ over (costs l.lefts l.rights l.left_seen l.right_seen l.gamma l.n) l.k l.initial.cost)
-
-abbrev pub decreases-loop-k : goal.decreases-loop-k
-decreases-loop-k l = l.n - l.k

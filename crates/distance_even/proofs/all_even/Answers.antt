@@ -1,4 +1,4 @@
-use mathlib.Core.Path.{ap}
+use mathlib.Core.Path.{refl, ap}
 use mathlib.Core.Bool.{not}
 use mathlib.Core.List.{[]}
 use native.Mathlib.Omega.{arith}
@@ -16,17 +16,11 @@ returns-then-n-rights c = rights_short c.args.n c.args.lefts.now c.args.rights.n
 pub loop-k-init : goal.loop-k-init
 loop-k-init c = (omega arith, every_none _)
 
-pub bounds-lefts-k : goal.bounds-lefts-k
-bounds-lefts-k c = let h = c.loop-k-test.true in let p = c.if-n-lefts.false in omega arith
-
-pub bounds-rights-k : goal.bounds-rights-k
-bounds-rights-k c = let h = c.loop-k-test.true in let p = c.if-n-rights.false in omega arith
-
 pub returns-then-not-even : goal.returns-then-not-even
-returns-then-not-even c = even_stop c.args.n c.args.lefts.now c.args.rights.now (chain_columns c.args.left_offsets.now c.args.left_targets.now c.args.left_probs.now []) (chain_columns c.args.right_offsets.now c.args.right_targets.now c.args.right_probs.now []) c.if-n-lefts.false c.if-n-rights.false c.loop-k.k c.wide-x.result c.wide-y.result c.loop-k-test.true c.wide-x.ensures c.wide-y.ensures c.even_pair-even.result c.even_pair-even.ensures (ap not c.if-not-even.true)
+returns-then-not-even c = even_stop c.args.n c.args.lefts.now c.args.rights.now (chain_columns c.args.left_offsets.now c.args.left_targets.now c.args.left_probs.now []) (chain_columns c.args.right_offsets.now c.args.right_targets.now c.args.right_probs.now []) c.if-n-lefts.false c.if-n-rights.false c.loop-k.k _ _ c.loop-k-test.true refl refl c.even_pair-even.result c.even_pair-even.ensures (ap not c.if-not-even.true)
 
 pub loop-k-preserved : goal.loop-k-preserved
-loop-k-preserved c = let h = c.loop-k-test.true in (omega arith, even_next c.args.n c.args.lefts.now c.args.rights.now (chain_columns c.args.left_offsets.now c.args.left_targets.now c.args.left_probs.now []) (chain_columns c.args.right_offsets.now c.args.right_targets.now c.args.right_probs.now []) c.loop-k.k c.wide-x.result c.wide-y.result c.wide-x.ensures c.wide-y.ensures c.even_pair-even.result c.even_pair-even.ensures (ap not c.if-not-even.false) c.loop-k.invariant.1)
+loop-k-preserved c = let h = c.loop-k-test.true in (omega arith, even_next c.args.n c.args.lefts.now c.args.rights.now (chain_columns c.args.left_offsets.now c.args.left_targets.now c.args.left_probs.now []) (chain_columns c.args.right_offsets.now c.args.right_targets.now c.args.right_probs.now []) c.loop-k.k _ _ refl refl c.even_pair-even.result c.even_pair-even.ensures (ap not c.if-not-even.false) c.loop-k.invariant.1)
 
 pub returns : goal.returns
 returns c = even_end c.args.n c.args.lefts.now c.args.rights.now (chain_columns c.args.left_offsets.now c.args.left_targets.now c.args.left_probs.now []) (chain_columns c.args.right_offsets.now c.args.right_targets.now c.args.right_probs.now []) c.if-n-lefts.false c.if-n-rights.false c.loop-k.k c.loop-k.invariant.0 c.loop-k-test.false c.loop-k.invariant.1

@@ -6,6 +6,3 @@ use Rattle.distance_contributions.proofs.listing.records_of.Given as goal
 
 abbrev pub invariant-loop-i : goal.invariant-loop-i
 invariant-loop-i l = Recording l.lefts l.rights l.left_seen l.right_seen l.spent l.chosen l.records l.i
-
-abbrev pub decreases-loop-i : goal.decreases-loop-i
-decreases-loop-i l = length l.chosen - l.i

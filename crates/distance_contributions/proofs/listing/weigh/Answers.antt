@@ -11,11 +11,6 @@ record_of-c-requires c =
     let a = c.args in
     c.requires c.loop-k.k (let s = weighing_size a.lefts.now a.rights.now a.left_seen.now a.right_seen.now a.spent.now c.loop-k.invariant in let h = c.loop-k-test.true in omega arith)
 
-pub loop-k-smaller : goal.loop-k-smaller
-loop-k-smaller c =
-    let a = c.args in
-    let s = weighing_size a.lefts.now a.rights.now a.left_seen.now a.right_seen.now a.spent.now c.loop-k.invariant in let h = c.loop-k-test.true in omega arith
-
 pub loop-k-preserved : goal.loop-k-preserved
 loop-k-preserved c =
     let a = c.args in

@@ -6,6 +6,3 @@ use Rattle.distance_contributions.proofs.listing.weigh.Given as goal
 
 abbrev pub invariant-loop-k : goal.invariant-loop-k
 invariant-loop-k l = Weighing l.lefts l.rights l.left_seen l.right_seen l.spent l.initial.shares l.shares l.k
-
-abbrev pub decreases-loop-k : goal.decreases-loop-k
-decreases-loop-k l = length l.initial.shares - l.k

@@ -1,16 +1,8 @@
 -- The independent coupling, and what it comes to (Moves.alone-best).
-use native.Mathlib.Omega.{arith}
-use native.Mathlib.Nat.{mul-le-mul}
 use lib.ListN.{length}
 use Rattle.distance_theory.proofs.Index.{look_up}
 use Rattle.distance_couplings.proofs.Moves.{alone_best}
 use Rattle.distance_couplings.proofs.best.best_alone.Goals as goal
-
-pub overflow_mul-cells : goal.overflow_mul-cells
-overflow_mul-cells c = let R = c.requires.beside in let h = mul-le-mul R.few_left R.few_right in record { fits = omega arith }
-
-pub lay_shares-requires : goal.lay_shares-requires
-lay_shares-requires c = record { beside = c.requires.beside; ys_in_bounds = c.requires.ys_in_bounds }
 
 pub returns : goal.returns
 returns c = alone_best (look_up c.args.codes.now) c.args.xs.now c.args.ps.now c.args.ys.now c.args.qs.now (length c.args.codes.now) c.requires.beside c.args.values.now _ _ c.args.places.now _ c.args.masses.now c.lay_shares.ensures.0 c.lay_shares.ensures.1 c.expected_part-value.ensures

@@ -4,20 +4,11 @@ use Rattle.distance_theory.proofs.Index.{look_up}
 use Rattle.distance_couplings.proofs.Moves.{with_left_lem, with_right, with_several}
 use Rattle.distance_couplings.proofs.best.cheapest.Goals as goal
 
-pub best_alone-requires : goal.best_alone-requires
-best_alone-requires c = record { beside = c.requires.beside; ys_in_bounds = c.requires.ys_in_bounds }
-
 pub returns-then-xs-eq1 : goal.returns-then-xs-eq1
 returns-then-xs-eq1 c = with_left_lem (look_up c.args.codes.now) c.args.xs.now c.args.ps.now c.args.ys.now c.args.qs.now (length c.args.codes.now) c.requires.beside c.args.values.now c.args.places.now c.args.masses.now _ c.if-xs-eq1.true c.best_alone.ensures
 
-pub best_alone-requires-then-ys-eq1 : goal.best_alone-requires-then-ys-eq1
-best_alone-requires-then-ys-eq1 c = record { beside = c.requires.beside; ys_in_bounds = c.requires.ys_in_bounds }
-
 pub returns-then-ys-eq1 : goal.returns-then-ys-eq1
 returns-then-ys-eq1 c = with_right (look_up c.args.codes.now) c.args.xs.now c.args.ps.now c.args.ys.now c.args.qs.now (length c.args.codes.now) c.requires.beside c.args.values.now c.args.places.now c.args.masses.now _ c.if-xs-eq1.false c.if-ys-eq1.true c.best_alone-then-ys-eq1.ensures
-
-pub best_moved-requires : goal.best_moved-requires
-best_moved-requires c = record { beside = c.requires.beside; ys_in_bounds = c.requires.ys_in_bounds }
 
 pub returns : goal.returns
 returns c = with_several (look_up c.args.codes.now) c.args.xs.now c.args.ps.now c.args.ys.now c.args.qs.now (length c.args.codes.now) c.requires.beside c.args.values.now c.args.places.now c.args.masses.now _ c.if-xs-eq1.false c.if-ys-eq1.false c.best_moved.ensures

@@ -11,9 +11,6 @@ use Rattle.distance_couplings.proofs.best.fit.Goals as goal
 pub loop-j-init : goal.loop-j-init
 loop-j-init c = (omega arith, refl, refl)
 
-pub bounds-fitted-j : goal.bounds-fitted-j
-bounds-fitted-j c = let h = c.loop-j-test.true in let e = c.loop-j.invariant.1 in let r = c.requires in omega arith
-
 pub loop-j-preserved : goal.loop-j-preserved
 loop-j-preserved c =
     let I = c.loop-j.invariant in

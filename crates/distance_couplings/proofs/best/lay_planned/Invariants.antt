@@ -1,6 +1,6 @@
 -- The invariant: the places of the first i cells are laid. A turn lays one more.
 use mathlib.Core.Path.{◌≡◌}
-use Prim.Native.Nat.{◌-◌, ◌≤◌}
+use Prim.Native.Nat.{◌≤◌}
 use lib.ListN.{length}
 use Rattle.numbers.proofs.Over.{over}
 use Rattle.distance_theory.proofs.Index.{look_up}
@@ -9,6 +9,3 @@ use Rattle.distance_couplings.proofs.best.lay_planned.Given as goal
 
 abbrev pub invariant-loop-i : goal.invariant-loop-i
 invariant-loop-i l = (l.i ≤ l.count) × (length l.places ≡ length l.initial.places) × (l.places ≡ over (places_by (look_up l.codes) l.xs l.ys l.rows l.columns l.count) l.i l.initial.places)
-
-abbrev pub decreases-loop-i : goal.decreases-loop-i
-decreases-loop-i l = l.count - l.i

@@ -1,6 +1,6 @@
 -- The invariant: the values of the first k cells are laid. A turn lays one more.
 use mathlib.Core.Path.{◌≡◌}
-use Prim.Native.Nat.{◌-◌, ◌≤◌}
+use Prim.Native.Nat.{◌≤◌}
 use mathlib.Core.List.{List}
 use lib.Ieee.{Float}
 use lib.ListN.{length}
@@ -11,6 +11,3 @@ use Rattle.distance_couplings.proofs.best.lay_values.Given as goal
 
 abbrev pub invariant-loop-k : goal.invariant-loop-k
 invariant-loop-k l = (l.k ≤ l.cells) × (length l.costs ≡ length l.initial.costs) × ((ps qs : List Float) (B : Beside l.xs ps l.ys qs (length l.codes)) → l.costs ≡ over (costs_by (look_up l.codes) l.xs ps l.ys qs (length l.codes) B l.values) l.k l.initial.costs)
-
-abbrev pub decreases-loop-k : goal.decreases-loop-k
-decreases-loop-k l = l.cells - l.k

@@ -5,4 +5,4 @@ use Rattle.distance_couplings.proofs.Moves.{read_bested}
 use Rattle.distance_couplings.proofs.choose.best_read.Goals as goal
 
 pub returns : goal.returns
-returns c = read_bested c.args.left_offsets.now c.args.left_targets.now c.args.left_probs.now c.args.right_offsets.now c.args.right_targets.now c.args.right_probs.now c.args.x c.args.y c.requires.row_read c.requires.row_read_2 c.wide-left_from.result c.wide-left_to.result c.wide-right_from.result c.wide-right_to.result c.wide-left_from.ensures c.wide-left_to.ensures c.wide-right_from.ensures c.wide-right_to.ensures (look_up c.args.codes.now) (length c.args.codes.now) c.args.places.now c.args.masses.now c.args.values.now _ c.best_coupling.ensures
+returns c = read_bested c.args.left_offsets.now c.args.left_targets.now c.args.left_probs.now c.args.right_offsets.now c.args.right_targets.now c.args.right_probs.now c.args.x c.args.y c.requires.row_read c.requires.row_read_2 (look_up c.args.codes.now) (length c.args.codes.now) c.args.places.now c.args.masses.now c.args.values.now c.best_coupling.ensures

@@ -1,8 +1,6 @@
 -- By the cases of the tests.
 use mathlib.Core.Path.{ap, ◌∙◌}
 use mathlib.Core.Bool.{not, Bool}
-use native.Mathlib.Omega.{arith}
-use native.Mathlib.Nat.{mul-le-mul}
 use lib.ListN.{length}
 use Rattle.epsdelta_theory.specs.Jumps.{jumps_of}
 use Rattle.distance_theory.proofs.Index.{look_up}
@@ -21,9 +19,6 @@ returns-then-not-cells_fit c = ap (λ (b : Bool). lay_if b (independent_by (look
 
 pub lay_shares-requires : goal.lay_shares-requires
 lay_shares-requires c = record { beside = beside c.args.xs.now c.args.ps.now c.args.ys.now c.args.qs.now (length c.args.codes.now) c.rows_fit.result c.rows_fit.ensures (ap not c.if-not-rows_fit.false); ys_in_bounds = cells_room (length c.args.xs.now) (length c.args.ys.now) (length c.args.places.now) (length c.args.masses.now) c.cells_fit.result c.cells_fit.ensures (ap not c.if-not-cells_fit.false) }
-
-pub overflow_mul-result : goal.overflow_mul-result
-overflow_mul-result c = let B = beside c.args.xs.now c.args.ps.now c.args.ys.now c.args.qs.now (length c.args.codes.now) c.rows_fit.result c.rows_fit.ensures (ap not c.if-not-rows_fit.false) in let h = mul-le-mul B.few_left B.few_right in record { fits = omega arith }
 
 pub returns : goal.returns
 returns c = laid_all (look_up c.args.codes.now) c.args.xs.now c.args.ps.now c.args.ys.now c.args.qs.now (length c.args.codes.now) (beside c.args.xs.now c.args.ps.now c.args.ys.now c.args.qs.now (length c.args.codes.now) c.rows_fit.result c.rows_fit.ensures (ap not c.if-not-rows_fit.false)) _ c.args.places.now _ c.args.masses.now c.lay_shares.ensures.0 c.lay_shares.ensures.1 ∙ ap (λ (b : Bool). lay_if b (independent_by (look_up c.args.codes.now) (jumps_of c.args.xs.now c.args.ps.now) (jumps_of c.args.ys.now c.args.qs.now)) c.args.places.now c.args.masses.now) (both_fit (length c.args.xs.now) (length c.args.ps.now) (length c.args.ys.now) (length c.args.qs.now) (length c.args.codes.now) (length c.args.places.now) (length c.args.masses.now) c.rows_fit.result c.rows_fit.ensures (ap not c.if-not-rows_fit.false) c.cells_fit.result c.cells_fit.ensures (ap not c.if-not-cells_fit.false))

@@ -12,6 +12,3 @@ abbrev pub invariant-loop-k : goal.invariant-loop-k
 invariant-loop-k l =
     (length l.js ≡ 1024) × (length l.ms ≡ 1024) × (length l.places ≡ length l.initial.places) × (length l.masses ≡ length l.initial.masses)
     × Betters (best_of_pair l.lefts l.rights l.codes (chain_columns l.left_offsets l.left_targets l.left_probs []) (chain_columns l.right_offsets l.right_targets l.right_probs []) l.values) l.values l.gamma l.cost l.starts l.n l.initial.lengths l.initial.places l.initial.masses l.k l.residual l.improved l.lengths l.places l.masses
-
-abbrev pub decreases-loop-k : goal.decreases-loop-k
-decreases-loop-k l = l.n - l.k
