@@ -1,4 +1,3 @@
-pub mod Clearing
 pub mod Accounts
 pub mod Solving
 pub mod Founding

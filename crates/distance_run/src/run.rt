@@ -15,57 +15,30 @@ use chain_theory::ChainShape;
 use distance_pairs::discover::discover_from;
 use distance_theory::MetricOptions;
 use distance_words::told::{Told, refused};
-use numbers::lesser;
-
-fn wide(x: u32) -> usize
-    ensures { result ≡ x }
-{
-    x as usize
-}
 
 // Rows of at most 32 entries.
 fn slim(states: usize, offsets: &[u32]) -> bool
     requires { states < length offsets.now }
     ensures { result ≡ every (λ s. leb (get_or offsets.now (s + 1) 0) (get_or offsets.now s 0 + 32)) states }
 {
-    let mut s = 0;
-    while s < states {
-        let from = wide(offsets[s]);
-        let to = wide(offsets[s + 1]);
-        if to > from + 32 {
-            return false;
-        }
-        s += 1;
-    }
-    true
+    (0..states).all(|s| offsets[s + 1] as usize <= offsets[s] as usize + 32)
 }
 
 // A chain of at most 2,000 states that check 4 lets pass, with rows of at most 32 entries and an observation of each state.
 fn fits(chain: ChainShape, offsets: &[u32], targets: &[u32], probs: &[f64], seen: &[f64]) -> bool
     ensures { result ≡ Run.fits chain (chain_columns offsets.now targets.now probs.now seen.now) }
 {
-    if chain.states > 2000 {
-        return false;
-    }
-    if misshapen(chain, offsets, targets, probs) {
-        return false;
-    }
-    if !slim(chain.states, offsets) {
-        return false;
-    }
-    chain.states <= seen.len()
+    chain.states <= 2000
+        && !misshapen(chain, offsets, targets, probs)
+        && slim(chain.states, offsets)
+        && chain.states <= seen.len()
 }
 
 // At least 4,096 entries each.
 fn roomy(lefts: usize, rights: usize, codes: usize) -> bool
     ensures { result ≡ Run.roomy lefts rights codes }
 {
-    if lefts >= 4096 {
-        if rights >= 4096 {
-            return codes >= 4096;
-        }
-    }
-    false
+    lefts >= 4096 && rights >= 4096 && codes >= 4096
 }
 
 // Whether chains that fit or do not, with lists of pairs of these lengths, can be run.
@@ -153,7 +126,7 @@ fn run_pairs(
         rights,
         codes,
     );
-    let known = lesser(n, 4096);
+    let known = n.min(4096);
     let left_states = left.states;
     let right_states = right.states;
     run_found(

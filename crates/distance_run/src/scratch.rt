@@ -6,32 +6,20 @@ ghost use Rattle.distance_theory.specs.Outcome.{zeros, noughts};
 pub fn clear_states(list: &mut [u32])
     ensures { list.new ≡ zeros list.old }
 {
-    let mut k = 0;
-    while k < list.len() {
-        list[k] = 0;
-        k += 1;
-    }
+    list.fill(0);
 }
 
-fn clear_codes(list: &mut [u64])
-    ensures { list.new ≡ zeros list.old }
+fn clear_codes(codes: &mut [u64])
+    ensures { codes.new ≡ zeros codes.old }
 {
-    let mut i = 0;
-    while i < list.len() {
-        list[i] = 0;
-        i += 1;
-    }
+    codes.fill(0);
 }
 
 // Every entry of a list of masses or probabilities is 0.
 pub fn clear_masses(list: &mut [f64])
     ensures { list.new ≡ noughts list.old }
 {
-    let mut j = 0;
-    while j < list.len() {
-        list[j] = 0.0;
-        j += 1;
-    }
+    list.fill(0.0);
 }
 
 // Every entry of the lists of pairs and of the coupling store is 0.

@@ -34,25 +34,13 @@ fn unpack(
     spent: &mut [f64; 64],
     shares: &mut [f64; 64],
 ) {
-    let mut i: usize = 0;
-    while i < 64 {
-        let c = records[i];
+    for (i, c) in records.iter().enumerate() {
         lefts[i] = c.left.0;
         rights[i] = c.right.0;
         gaps[i] = c.gap;
         spent[i] = c.occupancy;
         shares[i] = c.contribution;
-        i += 1;
     }
-}
-
-// The first n entries of a list.
-fn part<'a>(xs: &'a [u32; 64], n: usize) -> &'a [u32] {
-    lists::front(xs, n)
-}
-
-fn reals_part<'a>(xs: &'a [f64; 64], n: usize) -> &'a [f64] {
-    lists::reals_front(xs, n)
 }
 
 // The floats of the first n records.
@@ -66,9 +54,9 @@ fn expect_weights(
 ) -> Reader
     ensures { Lasts r result }
 {
-    let s = lists::expect_reals(buf, r, reals_part(gaps, n));
-    let t = lists::expect_reals(buf, s, reals_part(spent, n));
-    lists::expect_reals(buf, t, reals_part(shares, n))
+    let s = lists::expect_reals(buf, r, lists::reals_front(gaps, n));
+    let t = lists::expect_reals(buf, s, lists::reals_front(spent, n));
+    lists::expect_reals(buf, t, lists::reals_front(shares, n))
 }
 
 // The first n records.
@@ -88,8 +76,8 @@ fn expect_records(buf: &[u8], r: Reader, records: [PairContribution; 64], n: usi
         &mut spent,
         &mut shares,
     );
-    let s = lists::expect_list(buf, r, part(&lefts, n));
-    let t = lists::expect_list(buf, s, part(&rights, n));
+    let s = lists::expect_list(buf, r, lists::front(&lefts, n));
+    let t = lists::expect_list(buf, s, lists::front(&rights, n));
     expect_weights(buf, t, n, &gaps, &spent, &shares)
 }
 

@@ -45,12 +45,8 @@ pub struct Rooms {
     pub r: Reader,
 }
 
-fn wide(x: u32) -> usize {
-    x as usize
-}
-
 fn room(rooms: &[u32], i: usize) -> usize {
-    if i < rooms.len() { wide(rooms[i]) } else { 0 }
+    rooms.get(i).map_or(0, |x| *x as usize)
 }
 
 pub fn read_rooms(buf: &[u8], r: Reader) -> Rooms

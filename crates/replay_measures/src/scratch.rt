@@ -23,49 +23,32 @@ const OTHERS: u64 = 2;
 fn codes_front_mut<'a>(xs: &'a mut [u64], n: usize) -> &'a mut [u64]
     ensures { result.now ≡ take n xs.old }
 {
-    if n <= xs.len() {
-        return &mut xs[..n];
-    }
-    xs
+    let front = n.min(xs.len());
+    &mut xs[..front]
 }
 
 pub fn codes_front<'a>(xs: &'a [u64], n: usize) -> &'a [u64]
     ensures { result.now ≡ take n xs.now }
 {
-    if n <= xs.len() {
-        return &xs[..n];
-    }
-    xs
+    &xs[..n.min(xs.len())]
 }
 
 fn mark(xs: &mut [u32])
     ensures { xs.new ≡ replicate (length xs.old) 77 }
 {
-    let mut i: usize = 0;
-    while i < xs.len() {
-        xs[i] = MARK;
-        i += 1;
-    }
+    xs.fill(MARK);
 }
 
 fn mark_codes(xs: &mut [u64])
     ensures { xs.new ≡ replicate (length xs.old) 7777 }
 {
-    let mut i: usize = 0;
-    while i < xs.len() {
-        xs[i] = CODE_MARK;
-        i += 1;
-    }
+    xs.fill(CODE_MARK);
 }
 
 fn mark_reals(xs: &mut [f64])
     ensures { xs.new ≡ replicate (length xs.old) mark }
 {
-    let mut i: usize = 0;
-    while i < xs.len() {
-        xs[i] = REAL_MARK;
-        i += 1;
-    }
+    xs.fill(REAL_MARK);
 }
 
 // The first n entries, marked.
@@ -90,74 +73,28 @@ pub fn reals_marked<'a>(xs: &'a mut [f64], n: usize) -> &'a mut [f64]
     fronts::reals_front_mut(xs, n)
 }
 
-fn all_are(xs: &[u32], x: u32) -> bool {
-    let mut i: usize = 0;
-    while i < xs.len() {
-        if xs[i] != x {
-            return false;
-        }
-        i += 1;
-    }
-    true
+fn all_are<T: Copy + PartialEq>(xs: &[T], x: T) -> bool {
+    xs.iter().all(|y| *y == x)
 }
 
-fn codes_are(xs: &[u64], x: u64) -> bool {
-    let mut i: usize = 0;
-    while i < xs.len() {
-        if xs[i] != x {
-            return false;
-        }
-        i += 1;
-    }
-    true
-}
-
-fn reals_are(xs: &[f64], x: f64) -> bool {
-    let mut i: usize = 0;
-    while i < xs.len() {
-        if xs[i] != x {
-            return false;
-        }
-        i += 1;
-    }
-    true
-}
-
-fn state_of(marked: bool, zero: bool) -> u64 {
-    if marked {
+// What a list that was filled with a mark holds.
+fn state<T: Copy + PartialEq>(xs: &[T], mark: T, zero: T) -> u64 {
+    if all_are(xs, mark) {
         return MARKS;
     }
-    if zero {
+    if all_are(xs, zero) {
         return ZEROS;
     }
     OTHERS
-}
-
-fn state(xs: &[u32]) -> u64 {
-    let marked = all_are(xs, MARK);
-    let zero = all_are(xs, 0);
-    state_of(marked, zero)
-}
-
-fn codes_state(xs: &[u64]) -> u64 {
-    let marked = codes_are(xs, CODE_MARK);
-    let zero = codes_are(xs, 0);
-    state_of(marked, zero)
-}
-
-fn reals_state(xs: &[f64]) -> u64 {
-    let marked = reals_are(xs, REAL_MARK);
-    let zero = reals_are(xs, 0.0);
-    state_of(marked, zero)
 }
 
 // What the lists of pairs hold is as stored.
 fn expect_pairs(buf: &[u8], r: Reader, lefts: &[u32], rights: &[u32], codes: &[u64]) -> Reader
     ensures { Lasts r result }
 {
-    let a = text::expect(buf, r, state(lefts));
-    let b = text::expect(buf, a, state(rights));
-    text::expect(buf, b, codes_state(codes))
+    let a = text::expect(buf, r, state(lefts, MARK, 0));
+    let b = text::expect(buf, a, state(rights, MARK, 0));
+    text::expect(buf, b, state(codes, CODE_MARK, 0))
 }
 
 // And what the coupling store holds.
@@ -173,8 +110,8 @@ pub fn expect_run(
     ensures { Lasts r result }
 {
     let a = expect_pairs(buf, r, lefts, rights, codes);
-    let b = text::expect(buf, a, state(places));
-    text::expect(buf, b, reals_state(masses))
+    let b = text::expect(buf, a, state(places, MARK, 0));
+    text::expect(buf, b, state(masses, REAL_MARK, 0.0))
 }
 
 // What the lists of a chain hold is as stored.
@@ -188,10 +125,10 @@ pub fn expect_chain(
 ) -> Reader
     ensures { Lasts r result }
 {
-    let a = text::expect(buf, r, state(offsets));
-    let b = text::expect(buf, a, state(targets));
-    let c = text::expect(buf, b, reals_state(probs));
-    text::expect(buf, c, reals_state(seen))
+    let a = text::expect(buf, r, state(offsets, MARK, 0));
+    let b = text::expect(buf, a, state(targets, MARK, 0));
+    let c = text::expect(buf, b, state(probs, REAL_MARK, 0.0));
+    text::expect(buf, c, state(seen, REAL_MARK, 0.0))
 }
 
 // The line begins: its name, and how many lists there are.

@@ -40,10 +40,8 @@ pub fn reals_at(buf: &[u8], r: Reader, store: &mut [f64], at: usize) -> Listed
 pub fn part<'a>(store: &'a [u32], a: usize, e: usize) -> &'a [u32]
     ensures { a ≤ e → e ≤ length store.now → result.now ≡ take (e - a) (drop a store.now) }
 {
-    if a <= e {
-        if e <= store.len() {
-            return &store[a..e];
-        }
+    if a <= e && e <= store.len() {
+        return &store[a..e];
     }
     store
 }
@@ -51,10 +49,8 @@ pub fn part<'a>(store: &'a [u32], a: usize, e: usize) -> &'a [u32]
 pub fn reals_part<'a>(store: &'a [f64], a: usize, e: usize) -> &'a [f64]
     ensures { a ≤ e → e ≤ length store.now → result.now ≡ take (e - a) (drop a store.now) }
 {
-    if a <= e {
-        if e <= store.len() {
-            return &store[a..e];
-        }
+    if a <= e && e <= store.len() {
+        return &store[a..e];
     }
     store
 }

@@ -1,11 +1,14 @@
--- `listing::known` meets its contract: enough states, and each below the count.
-use mathlib.Core.Path.{sym, ◌∙◌}
-use borrow.Author.Tests.{le-leb, lt-leb}
-use Rattle.numbers.proofs.Bools.{and_first, and_second}
+-- Enough states, and each below the count.
+use Rattle.std.proofs.Common.{rules, tests, ◌∙◌, take, length}
+use borrow.Author.Tests.{le-leb}
+use Rattle.std.proofs.lemmas.Iterator.{YieldsList-from_slice}
+use Rattle.std.proofs.lemmas.Iterator.Search.{all_from_yields_List}
+use Rattle.numbers.proofs.Loops.{list_all_is}
+use Rattle.distance_words.proofs.Listing.{below}
 use Rattle.distance_contributions.proofs.listing.known.Goals as goal
 
 pub returns-then-n-states : goal.returns-then-n-states
-returns-then-n-states c = and_second _ _ _ (le-leb _ _ c.if-n-states.true) c.all_below.ensures
-
-pub returns : goal.returns
-returns c = sym (lt-leb _ _ c.if-n-states.false) ∙ and_first _ _ (lt-leb _ _ c.if-n-states.false)
+returns-then-n-states c =
+    let front = take c.args.n c.args.states.now in
+    rw (le-leb c.args.n (length c.args.states.now) c.if-n-states.true)
+    (all_from_yields_List (below c.args.count) _ _ c.all.result c.all.ensures.ran (YieldsList-from_slice front cc) (λ x b q k. search (rules, tests)) ∙ list_all_is (below c.args.count) front)

@@ -1,63 +1,15 @@
 -- `listing::list` meets its contract: the contributions of all pairs, the largest of them, and their records (Records).
-use mathlib.Core.Path.{sym}
 use native.Mathlib.Omega.{arith}
 use lib.ListN.{drop, replicate}
 use Rattle.numbers.specs.Real.{nought}
-use Rattle.distance_contributions.proofs.Records.{few_pairs, few_asked, all_read, front_size, weighed_size, weighed_within, weighed_few, count_within, count_size, records_read, list_is}
+use Rattle.distance_contributions.proofs.Records.{few_pairs, few_asked, all_read, front_size, records_read, list_is}
 use Rattle.distance_contributions.proofs.listing.list.Goals as goal
-
-pub slice_bounds-shares-end : goal.slice_bounds-shares-end
-slice_bounds-shares-end c =
-    let a = c.args in
-    few_pairs a.n a.lefts.now a.rights.now a.left_seen.now a.right_seen.now a.spent.now a.options.top c.requires
-
-pub slice_bounds-weigh-end : goal.slice_bounds-weigh-end
-slice_bounds-weigh-end c =
-    let a = c.args in
-    sym (front_size a.n 4096 nought (few_pairs a.n a.lefts.now a.rights.now a.left_seen.now a.right_seen.now a.spent.now a.options.top c.requires))
 
 pub weigh-requires : goal.weigh-requires
 weigh-requires c =
     let p = c.requires in
     let a = c.args in
     λ k h. all_read a.n a.lefts.now a.rights.now a.left_seen.now a.right_seen.now a.spent.now a.options.top p k (let z = front_size a.n 4096 nought (few_pairs a.n a.lefts.now a.rights.now a.left_seen.now a.right_seen.now a.spent.now a.options.top p) in omega arith)
-
-pub slice_bounds-shares-end-2 : goal.slice_bounds-shares-end-2
-slice_bounds-shares-end-2 c =
-    let a = c.args in
-    weighed_within a.lefts.now a.rights.now a.left_seen.now a.right_seen.now a.spent.now a.n (few_pairs a.n a.lefts.now a.rights.now a.left_seen.now a.right_seen.now a.spent.now a.options.top c.requires) c.weigh.ensures (drop a.n (replicate 4096 nought))
-
-pub slice_bounds-rank-end : goal.slice_bounds-rank-end
-slice_bounds-rank-end c =
-    let a = c.args in
-    sym (weighed_size a.lefts.now a.rights.now a.left_seen.now a.right_seen.now a.spent.now a.n (few_pairs a.n a.lefts.now a.rights.now a.left_seen.now a.right_seen.now a.spent.now a.options.top c.requires) c.weigh.ensures (drop a.n (replicate 4096 nought)))
-
-pub slice_bounds-chosen-end : goal.slice_bounds-chosen-end
-slice_bounds-chosen-end c =
-    let a = c.args in
-    few_asked a.n a.lefts.now a.rights.now a.left_seen.now a.right_seen.now a.spent.now a.options.top c.requires
-
-pub slice_bounds-rank-end-2 : goal.slice_bounds-rank-end-2
-slice_bounds-rank-end-2 c =
-    let a = c.args in
-    sym (front_size a.options.top 64 0 (few_asked a.n a.lefts.now a.rights.now a.left_seen.now a.right_seen.now a.spent.now a.options.top c.requires))
-
-pub rank-count-requires : goal.rank-count-requires
-rank-count-requires c =
-    let a = c.args in
-    weighed_few a.lefts.now a.rights.now a.left_seen.now a.right_seen.now a.spent.now a.n (few_pairs a.n a.lefts.now a.rights.now a.left_seen.now a.right_seen.now a.spent.now a.options.top c.requires) c.weigh.ensures (drop a.n (replicate 4096 nought))
-
-pub slice_bounds-chosen-end-2 : goal.slice_bounds-chosen-end-2
-slice_bounds-chosen-end-2 c =
-    let p = c.requires in
-    let a = c.args in
-    count_within a.lefts.now a.rights.now a.left_seen.now a.right_seen.now a.spent.now a.n (few_pairs a.n a.lefts.now a.rights.now a.left_seen.now a.right_seen.now a.spent.now a.options.top p) c.weigh.ensures a.options (few_asked a.n a.lefts.now a.rights.now a.left_seen.now a.right_seen.now a.spent.now a.options.top p) (drop a.n (replicate 4096 nought)) c.rank-count.ensures (drop a.options.top (replicate 64 0))
-
-pub slice_bounds-records_of-end : goal.slice_bounds-records_of-end
-slice_bounds-records_of-end c =
-    let p = c.requires in
-    let a = c.args in
-    sym (count_size a.lefts.now a.rights.now a.left_seen.now a.right_seen.now a.spent.now a.n (few_pairs a.n a.lefts.now a.rights.now a.left_seen.now a.right_seen.now a.spent.now a.options.top p) c.weigh.ensures a.options (few_asked a.n a.lefts.now a.rights.now a.left_seen.now a.right_seen.now a.spent.now a.options.top p) (drop a.n (replicate 4096 nought)) c.rank-count.ensures (drop a.options.top (replicate 64 0)))
 
 pub records_of-records-requires : goal.records_of-records-requires
 records_of-records-requires c =

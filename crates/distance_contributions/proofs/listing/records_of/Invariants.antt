@@ -1,6 +1,4 @@
 -- `listing::records_of` meets its contract. The invariant: the records of the first i chosen pairs are there (Records.Recording).
-use Prim.Native.Nat.{◌-◌}
-use lib.ListN.{length}
 use Rattle.distance_contributions.proofs.Records.{Recording}
 use Rattle.distance_contributions.proofs.listing.records_of.Given as goal
 

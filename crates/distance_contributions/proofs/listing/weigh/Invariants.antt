@@ -1,6 +1,4 @@
 -- `listing::weigh` meets its contract. The invariant: the contributions of the pairs below k are there (Records.Weighing).
-use Prim.Native.Nat.{◌-◌}
-use lib.ListN.{length}
 use Rattle.distance_contributions.proofs.Records.{Weighing}
 use Rattle.distance_contributions.proofs.listing.weigh.Given as goal
 

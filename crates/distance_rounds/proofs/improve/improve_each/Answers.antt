@@ -1,4 +1,5 @@
 use mathlib.Core.Path.{refl, sym, ◌∙◌}
+use Rattle.std.proofs.Math.Bool.{or_comm}
 use Prim.Native.Nat.{ℕ}
 use mathlib.Core.List.{[]}
 use native.Mathlib.Omega.{arith}
@@ -52,11 +53,8 @@ slice_bounds-adopt-end-in-loop-k c = let W = worked_at c.args.lefts.now c.args.r
 pub adopt-done-requires : goal.adopt-done-requires
 adopt-done-requires c = let W = worked_at c.args.lefts.now c.args.rights.now c.args.codes.now (chain_columns c.args.left_offsets.now c.args.left_targets.now c.args.left_probs.now []) (chain_columns c.args.right_offsets.now c.args.right_targets.now c.args.right_probs.now []) c.args.values.now c.loop-k.k _ _ refl refl c.loop-k.js c.loop-k.ms c.loop-k.invariant.0 c.loop-k.invariant.1 c.best_pair-best.result.value c.best_pair-best.result.cells c.best_pair-best.new.places c.best_pair-best.new.masses c.best_pair-best.ensures in let f = W.few in let h = c.loop-k-test.true in let p = c.requires.4 in let q = c.requires.5 in let z = c.loop-k.invariant.4.lengths_size in let a = c.best_pair-best.auto.places in let b = c.loop-k.invariant.0 in let d = c.best_pair-best.auto.masses in let e = c.loop-k.invariant.1 in let s = length-take-le c.best_pair-best.result.cells c.best_pair-best.new.places (omega arith) in let t = length-take-le c.best_pair-best.result.cells c.best_pair-best.new.masses (omega arith) in (omega arith, omega arith, t ∙ sym s, omega arith)
 
-pub overflow_add-k : goal.overflow_add-k
-overflow_add-k c = let h = c.loop-k-test.true in let g = c.ranges.n in omega arith
-
 pub loop-k-preserved : goal.loop-k-preserved
-loop-k-preserved c = (c.best_pair-best.auto.places ∙ c.loop-k.invariant.0, c.best_pair-best.auto.masses ∙ c.loop-k.invariant.1, c.adopt-done.auto.places ∙ c.loop-k.invariant.2, c.adopt-done.auto.masses ∙ c.loop-k.invariant.3, betters_next c.loop-k.invariant.4 c.loop-k-test.true (worked_at c.args.lefts.now c.args.rights.now c.args.codes.now (chain_columns c.args.left_offsets.now c.args.left_targets.now c.args.left_probs.now []) (chain_columns c.args.right_offsets.now c.args.right_targets.now c.args.right_probs.now []) c.args.values.now c.loop-k.k _ _ refl refl c.loop-k.js c.loop-k.ms c.loop-k.invariant.0 c.loop-k.invariant.1 c.best_pair-best.result.value c.best_pair-best.result.cells c.best_pair-best.new.places c.best_pair-best.new.masses c.best_pair-best.ensures) c.apart.ensures c.larger-residual.ensures c.adopt-done.ensures c.adopt-done.auto.lengths c.either-improved.ensures)
+loop-k-preserved c = (c.best_pair-best.auto.places ∙ c.loop-k.invariant.0, c.best_pair-best.auto.masses ∙ c.loop-k.invariant.1, c.adopt-done.auto.places ∙ c.loop-k.invariant.2, c.adopt-done.auto.masses ∙ c.loop-k.invariant.3, betters_next c.loop-k.invariant.4 c.loop-k-test.true (worked_at c.args.lefts.now c.args.rights.now c.args.codes.now (chain_columns c.args.left_offsets.now c.args.left_targets.now c.args.left_probs.now []) (chain_columns c.args.right_offsets.now c.args.right_targets.now c.args.right_probs.now []) c.args.values.now c.loop-k.k _ _ refl refl c.loop-k.js c.loop-k.ms c.loop-k.invariant.0 c.loop-k.invariant.1 c.best_pair-best.result.value c.best_pair-best.result.cells c.best_pair-best.new.places c.best_pair-best.new.masses c.best_pair-best.ensures) c.apart.ensures c.larger-residual.ensures c.adopt-done.ensures c.adopt-done.auto.lengths (or_comm c.loop-k.improved c.adopt-done.result))
 
 pub shape_of-lengths : goal.shape_of-lengths
 shape_of-lengths c = c.loop-k.invariant.4.lengths_size

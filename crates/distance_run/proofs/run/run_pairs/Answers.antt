@@ -8,12 +8,12 @@ use Rattle.distance_run.proofs.run.run_pairs.Goals as goal
 pub slice_bounds-run_found-end : goal.slice_bounds-run_found-end
 slice_bounds-run_found-end c =
     let a = c.args in
-    known_in a.left (chain_columns a.left_offsets.now a.left_targets.now a.left_probs.now a.left_seen.now) a.right (chain_columns a.right_offsets.now a.right_targets.now a.right_probs.now a.right_seen.now) a.gamma a.options a.lefts.now a.rights.now a.codes.now a.places.now a.masses.now c.requires _ _ c.explore-n.new.codes c.lesser-known.ensures c.explore-n.auto.codes
+    known_in a.left (chain_columns a.left_offsets.now a.left_targets.now a.left_probs.now a.left_seen.now) a.right (chain_columns a.right_offsets.now a.right_targets.now a.right_probs.now a.right_seen.now) a.gamma a.options a.lefts.now a.rights.now a.codes.now a.places.now a.masses.now c.requires _ _ c.explore-n.new.codes c.min-known.ensures c.explore-n.auto.codes
 
 pub slice_bounds-run_found-end-2 : goal.slice_bounds-run_found-end-2
 slice_bounds-run_found-end-2 c =
     let a = c.args in
-    sym (length-take-le _ _ (known_in a.left (chain_columns a.left_offsets.now a.left_targets.now a.left_probs.now a.left_seen.now) a.right (chain_columns a.right_offsets.now a.right_targets.now a.right_probs.now a.right_seen.now) a.gamma a.options a.lefts.now a.rights.now a.codes.now a.places.now a.masses.now c.requires _ _ c.explore-n.new.codes c.lesser-known.ensures c.explore-n.auto.codes))
+    sym (length-take-le _ _ (known_in a.left (chain_columns a.left_offsets.now a.left_targets.now a.left_probs.now a.left_seen.now) a.right (chain_columns a.right_offsets.now a.right_targets.now a.right_probs.now a.right_seen.now) a.gamma a.options a.lefts.now a.rights.now a.codes.now a.places.now a.masses.now c.requires _ _ c.explore-n.new.codes c.min-known.ensures c.explore-n.auto.codes))
 
 pub slice_bounds-run_found-end-3 : goal.slice_bounds-run_found-end-3
 slice_bounds-run_found-end-3 c =
@@ -28,4 +28,4 @@ slice_bounds-run_found-end-4 c =
 pub returns : goal.returns
 returns c =
     let a = c.args in
-    pairs_told a.left (chain_columns a.left_offsets.now a.left_targets.now a.left_probs.now a.left_seen.now) a.right (chain_columns a.right_offsets.now a.right_targets.now a.right_probs.now a.right_seen.now) a.gamma a.options a.lefts.now a.rights.now a.codes.now a.places.now a.masses.now c.requires (c.explore-n.ensures a.left_seen.now a.right_seen.now) c.lesser-known.ensures c.run_found.ensures
+    pairs_told a.left (chain_columns a.left_offsets.now a.left_targets.now a.left_probs.now a.left_seen.now) a.right (chain_columns a.right_offsets.now a.right_targets.now a.right_probs.now a.right_seen.now) a.gamma a.options a.lefts.now a.rights.now a.codes.now a.places.now a.masses.now c.requires (c.explore-n.ensures a.left_seen.now a.right_seen.now) c.min-known.ensures c.run_found.ensures
