@@ -7,20 +7,8 @@ use Rattle.distance_costs.proofs.price_each.Goals as goal
 pub loop-k-init : goal.loop-k-init
 loop-k-init c = (omega arith, refl, refl)
 
-pub bounds-lefts-k : goal.bounds-lefts-k
-bounds-lefts-k c = let h = c.loop-k-test.true in let p = c.requires.0 in omega arith
-
-pub bounds-rights-k : goal.bounds-rights-k
-bounds-rights-k c = let h = c.loop-k-test.true in let p = c.requires.1 in omega arith
-
-pub bounds-cost-k : goal.bounds-cost-k
-bounds-cost-k c = let h = c.loop-k-test.true in let e = c.loop-k.invariant.1 in let p = c.requires.2 in omega arith
-
 pub loop-k-preserved : goal.loop-k-preserved
 loop-k-preserved c = let h = c.loop-k-test.true in (omega arith, length-set c.loop-k.cost c.loop-k.k _ ∙ c.loop-k.invariant.1, cost_next c.args.lefts.now c.args.rights.now c.args.left_seen.now c.args.right_seen.now c.args.gamma c.args.n c.args.cost.now c.loop-k.cost c.loop-k.k c.loop-k.invariant.2 _ _ _ _ _ refl refl c.value_at-x.ensures c.value_at-y.ensures c.apart.ensures h c.requires.2)
-
-pub shape_of-cost : goal.shape_of-cost
-shape_of-cost c = c.loop-k.invariant.1
 
 pub returns : goal.returns
 returns c = let h = c.loop-k-test.false in let b = c.loop-k.invariant.0 in cost_done c.args.lefts.now c.args.rights.now c.args.left_seen.now c.args.right_seen.now c.args.gamma c.args.n c.args.cost.now c.loop-k.cost c.loop-k.k c.loop-k.invariant.2 (omega arith)

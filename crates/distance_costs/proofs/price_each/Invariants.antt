@@ -1,6 +1,6 @@
 -- The invariant: the costs of the first k pairs stand in the list. A turn makes one more.
 use mathlib.Core.Path.{◌≡◌}
-use Prim.Native.Nat.{◌≤◌, ◌-◌}
+use Prim.Native.Nat.{◌≤◌}
 use lib.ListN.{length}
 use Rattle.numbers.proofs.Over.{over}
 use Rattle.distance_words.proofs.Costs.{costs}
