@@ -21,16 +21,12 @@ const UNIFORMI: u64 = 0x756e69666f726d69;
 const NORMALIS: u64 = 0x6e6f726d616c6973;
 
 fn run_kind(buf: &[u8], r: Reader, counts: &mut [u64; 48], kind: u64) -> Reader {
-    if kind == RATE {
-        return models::run(buf, r, counts, true);
+    match kind {
+        RATE => models::run(buf, r, counts, true),
+        UNIFORMI => models::run(buf, r, counts, false),
+        NORMALIS => scaled::run(buf, r, counts),
+        _ => tally::unknown(r, counts),
     }
-    if kind == UNIFORMI {
-        return models::run(buf, r, counts, false);
-    }
-    if kind == NORMALIS {
-        return scaled::run(buf, r, counts);
-    }
-    tally::unknown(r, counts)
 }
 
 fn run_case(buf: &[u8], r: Reader, counts: &mut [u64; 48]) -> Reader {
@@ -42,10 +38,11 @@ fn run_case(buf: &[u8], r: Reader, counts: &mut [u64; 48]) -> Reader {
 
 fn run_all(buf: &[u8], counts: &mut [u64; 48]) {
     let mut r = text::start(buf);
-    let mut turns: u32 = 0;
-    while turns < 1000000 && !text::at_end(r) {
+    for _ in 0..1000000 {
+        if text::at_end(r) {
+            return;
+        }
         r = run_case(buf, r, counts);
-        turns += 1;
     }
 }
 

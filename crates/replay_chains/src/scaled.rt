@@ -22,8 +22,10 @@ fn read_shape(buf: &[u8], r: Reader) -> ShapeRead {
         entries: entries.x as usize,
         initial: StateId(text::narrow(initial.x)),
     };
-    let s = initial.r;
-    ShapeRead { chain, r: s }
+    ShapeRead {
+        chain,
+        r: initial.r,
+    }
 }
 
 fn expect_scale(buf: &[u8], r: Reader, answer: Normalised) -> Reader {
