@@ -14,24 +14,6 @@ use Rattle.distance_words.proofs.Run.{slim, fits, roomy, runnable}
 stops : (a b : Bool) → a ≡ false → false ≡ (a && b)
 stops a b e = sym e ∙ and_first a b e
 
-module _ (H : ChainShape) (C : ChainColumns) where
-  pub large : 2000 < H.states → false ≡ fits H C
-  large h = stops _ _ (lt-leb H.states 2000 h)
-
-  module _ (few : H.states ≤ 2000) {b : Bool} (e : b ≡ misshapen H C) where
-    pub unfit : b ≡ true → false ≡ fits H C
-    unfit h = and_second _ _ _ (le-leb H.states 2000 few) (stops _ _ (ap not (sym e ∙ h)))
-
-    module _ (h : b ≡ false) {s : Bool} (f : s ≡ slim H C) where
-      shaped_on : {t : Bool} → t ≡ (slim H C && leb H.states (length C.observations)) → t ≡ fits H C
-      shaped_on g = and_second _ _ _ (le-leb H.states 2000 few) (and_second _ _ _ (ap not (sym e ∙ h)) g)
-
-      pub long_row : not s ≡ true → false ≡ fits H C
-      long_row k = shaped_on (stops _ _ (sym f ∙ not-true s k))
-
-      pub fits_seen : not s ≡ false → leb H.states (length C.observations) ≡ fits H C
-      fits_seen k = shaped_on (and_second _ _ _ (sym f ∙ not-false s k) refl)
-
 -- chains that fit or do not, x and y
 module _ (x y : Bool) (top l r c : ℕ) where
   abbrev able : Bool

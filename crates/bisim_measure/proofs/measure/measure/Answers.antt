@@ -5,73 +5,10 @@ use Rattle.chain_theory.specs.Columns.{chain_columns}
 use Rattle.bisim_measure.proofs.Measuring.{turned_back, measured}
 use Rattle.bisim_measure.proofs.measure.measure.Goals as goal
 
-pub shape_of-left_chain_offsets-then-made-ne0 : goal.shape_of-left_chain_offsets-then-made-ne0
-shape_of-left_chain_offsets-then-made-ne0 c = c.make_chains-made.auto.left_chain_offsets
-
-pub shape_of-left_chain_targets-then-made-ne0 : goal.shape_of-left_chain_targets-then-made-ne0
-shape_of-left_chain_targets-then-made-ne0 c = c.make_chains-made.auto.left_chain_targets
-
-pub shape_of-left_chain_probs-then-made-ne0 : goal.shape_of-left_chain_probs-then-made-ne0
-shape_of-left_chain_probs-then-made-ne0 c = c.make_chains-made.auto.left_chain_probs
-
-pub shape_of-left_chain_seen-then-made-ne0 : goal.shape_of-left_chain_seen-then-made-ne0
-shape_of-left_chain_seen-then-made-ne0 c = c.make_chains-made.auto.left_chain_seen
-
-pub shape_of-right_chain_offsets-then-made-ne0 : goal.shape_of-right_chain_offsets-then-made-ne0
-shape_of-right_chain_offsets-then-made-ne0 c = c.make_chains-made.auto.right_chain_offsets
-
-pub shape_of-right_chain_targets-then-made-ne0 : goal.shape_of-right_chain_targets-then-made-ne0
-shape_of-right_chain_targets-then-made-ne0 c = c.make_chains-made.auto.right_chain_targets
-
-pub shape_of-right_chain_probs-then-made-ne0 : goal.shape_of-right_chain_probs-then-made-ne0
-shape_of-right_chain_probs-then-made-ne0 c = c.make_chains-made.auto.right_chain_probs
-
-pub shape_of-right_chain_seen-then-made-ne0 : goal.shape_of-right_chain_seen-then-made-ne0
-shape_of-right_chain_seen-then-made-ne0 c = c.make_chains-made.auto.right_chain_seen
-
 pub returns-then-made-ne0 : goal.returns-then-made-ne0
 returns-then-made-ne0 c =
     let a = c.args in
     turned_back a.left (columns a.left_values.now a.left_offsets.now a.left_labels.now a.left_targets.now a.left_weights.now) a.left_state.0 a.left_observations.now (chain_columns a.left_chain_offsets.now a.left_chain_targets.now a.left_chain_probs.now a.left_chain_seen.now) a.right (columns a.right_values.now a.right_offsets.now a.right_labels.now a.right_targets.now a.right_weights.now) a.right_state.0 a.right_observations.now (chain_columns a.right_chain_offsets.now a.right_chain_targets.now a.right_chain_probs.now a.right_chain_seen.now) a.gamma a.options a.lefts.now a.rights.now a.codes.now a.places.now a.masses.now a.records _ _ c.make_chains-made.ensures c.if-made-ne0.true c.refused.ensures
-
-pub shape_of-left_chain_offsets : goal.shape_of-left_chain_offsets
-shape_of-left_chain_offsets c = c.run_chains.auto.left_offsets ∙ c.make_chains-made.auto.left_chain_offsets
-
-pub shape_of-left_chain_targets : goal.shape_of-left_chain_targets
-shape_of-left_chain_targets c = c.run_chains.auto.left_targets ∙ c.make_chains-made.auto.left_chain_targets
-
-pub shape_of-left_chain_probs : goal.shape_of-left_chain_probs
-shape_of-left_chain_probs c = c.run_chains.auto.left_probs ∙ c.make_chains-made.auto.left_chain_probs
-
-pub shape_of-left_chain_seen : goal.shape_of-left_chain_seen
-shape_of-left_chain_seen c = c.run_chains.auto.left_seen ∙ c.make_chains-made.auto.left_chain_seen
-
-pub shape_of-right_chain_offsets : goal.shape_of-right_chain_offsets
-shape_of-right_chain_offsets c = c.run_chains.auto.right_offsets ∙ c.make_chains-made.auto.right_chain_offsets
-
-pub shape_of-right_chain_targets : goal.shape_of-right_chain_targets
-shape_of-right_chain_targets c = c.run_chains.auto.right_targets ∙ c.make_chains-made.auto.right_chain_targets
-
-pub shape_of-right_chain_probs : goal.shape_of-right_chain_probs
-shape_of-right_chain_probs c = c.run_chains.auto.right_probs ∙ c.make_chains-made.auto.right_chain_probs
-
-pub shape_of-right_chain_seen : goal.shape_of-right_chain_seen
-shape_of-right_chain_seen c = c.run_chains.auto.right_seen ∙ c.make_chains-made.auto.right_chain_seen
-
-pub shape_of-lefts : goal.shape_of-lefts
-shape_of-lefts c = c.run_chains.auto.lefts
-
-pub shape_of-rights : goal.shape_of-rights
-shape_of-rights c = c.run_chains.auto.rights
-
-pub shape_of-codes : goal.shape_of-codes
-shape_of-codes c = c.run_chains.auto.codes
-
-pub shape_of-places : goal.shape_of-places
-shape_of-places c = c.run_chains.auto.places
-
-pub shape_of-masses : goal.shape_of-masses
-shape_of-masses c = c.run_chains.auto.masses
 
 pub returns : goal.returns
 returns c =

@@ -1,50 +1,22 @@
 -- By the cases of the tests (Steps).
 use mathlib.Core.Path.{refl}
 use lib.ListN.{get_or}
-use Prim.Native.Nat.{ℕ, ◌+◌}
 use native.Mathlib.Omega.{arith}
 use Rattle.parts.proofs.Lent.{part_length}
 use Rattle.distance_rounds.proofs.Steps.{no_gain, no_places, no_masses, adopts}
 use Rattle.distance_rounds.proofs.adopt.adopt.Goals as goal
 
-pub overflow_add-to : goal.overflow_add-to
-overflow_add-to c = omega arith
-
 pub returns-then-not-value-current : goal.returns-then-not-value-current
 returns-then-not-value-current c = no_gain c.args.value c.args.js.now c.args.ms.now c.args.values.now c.args.k c.args.starts.now c.args.lengths.now c.args.places.now c.args.masses.now _ _ refl refl c.expected_part-current.result c.expected_part-current.ensures (c.if-not-value-current.true)
-
-pub overflow_add-from : goal.overflow_add-from
-overflow_add-from c = let p = c.requires.3 in omega arith
 
 pub returns-then-from-n : goal.returns-then-from-n
 returns-then-from-n c = no_places c.args.value c.args.js.now c.args.ms.now c.args.values.now c.args.k c.args.starts.now c.args.lengths.now c.args.places.now c.args.masses.now _ _ refl refl c.expected_part-current.result c.expected_part-current.ensures (c.if-not-value-current.false) c.if-from-n.true
 
-pub overflow_add-from-2 : goal.overflow_add-from-2
-overflow_add-from-2 c = let p = c.requires.3 in omega arith
-
 pub returns-then-from-n-2 : goal.returns-then-from-n-2
 returns-then-from-n-2 c = no_masses c.args.value c.args.js.now c.args.ms.now c.args.values.now c.args.k c.args.starts.now c.args.lengths.now c.args.places.now c.args.masses.now _ _ refl refl c.expected_part-current.result c.expected_part-current.ensures (c.if-not-value-current.false) c.if-from-n.false c.if-from-n-2.true
 
-pub slice_bounds-put_shares-count : goal.slice_bounds-put_shares-count
-slice_bounds-put_shares-count c = let h = c.if-from-n.false in omega arith
-
-pub slice_bounds-put_shares-start : goal.slice_bounds-put_shares-start
-slice_bounds-put_shares-start c = let h = c.if-from-n.false in omega arith
-
-pub slice_bounds-put_shares-count-2 : goal.slice_bounds-put_shares-count-2
-slice_bounds-put_shares-count-2 c = let h = c.if-from-n-2.false in omega arith
-
-pub slice_bounds-put_shares-start-2 : goal.slice_bounds-put_shares-start-2
-slice_bounds-put_shares-start-2 c = let h = c.if-from-n-2.false in omega arith
-
 pub put_shares-requires : goal.put_shares-requires
 put_shares-requires c = let h = c.if-from-n.false in let i = c.if-from-n-2.false in let a = part_length (get_or c.args.starts.now c.args.k 0) c.args.places.now in let b = part_length (get_or c.args.starts.now c.args.k 0) c.args.masses.now in (c.requires.2, omega arith, omega arith)
-
-pub overflow_cast-lengths : goal.overflow_cast-lengths
-overflow_cast-lengths c = let p = c.requires.3 in omega arith
-
-pub bounds-lengths-k-2 : goal.bounds-lengths-k-2
-bounds-lengths-k-2 c = let p = c.requires.1 in omega arith
 
 pub returns : goal.returns
 returns c = adopts c.args.value c.args.js.now c.args.ms.now c.args.values.now c.args.k c.args.starts.now c.args.lengths.now c.args.places.now c.args.masses.now _ _ refl refl c.expected_part-current.result c.expected_part-current.ensures (c.if-not-value-current.false) c.if-from-n.false c.if-from-n-2.false _ _ c.put_shares.ensures.0 c.put_shares.ensures.1

@@ -14,30 +14,6 @@ use Rattle.distance_rounds.proofs.improve.improve_each.Goals as goal
 pub loop-k-init : goal.loop-k-init
 loop-k-init c = (length-replicate {A = ℕ} 1024 0, length-replicate {A = Float} 1024 nought, refl, refl, betters_start _ _ _ _ _ _ _ _ _)
 
-pub bounds-lefts-k : goal.bounds-lefts-k
-bounds-lefts-k c = let h = c.loop-k-test.true in let p = c.requires.0 in omega arith
-
-pub bounds-rights-k : goal.bounds-rights-k
-bounds-rights-k c = let h = c.loop-k-test.true in let p = c.requires.1 in omega arith
-
-pub slice_bounds-best_pair-end : goal.slice_bounds-best_pair-end
-slice_bounds-best_pair-end c = sym c.loop-k.invariant.0
-
-pub slice_bounds-best_pair-end-in-loop-k : goal.slice_bounds-best_pair-end-in-loop-k
-slice_bounds-best_pair-end-in-loop-k c = sym c.loop-k.invariant.1
-
-pub offset_bounds-cost-k : goal.offset_bounds-cost-k
-offset_bounds-cost-k c = let h = c.loop-k-test.true in let p = c.requires.3 in let g = c.well_formed.1.1.1.1.1.1.1.1.1.1.1.0.1 in omega arith
-
-pub bounds-cost-k : goal.bounds-cost-k
-bounds-cost-k c = let h = c.loop-k-test.true in let p = c.requires.3 in omega arith
-
-pub offset_bounds-values-k : goal.offset_bounds-values-k
-offset_bounds-values-k c = let h = c.loop-k-test.true in let p = c.requires.2 in let g = c.well_formed.1.1.1.1.1.1.1.1.1.1.0.1 in omega arith
-
-pub bounds-values-k : goal.bounds-values-k
-bounds-values-k c = let h = c.loop-k-test.true in let p = c.requires.2 in omega arith
-
 pub slice_bounds-js-end : goal.slice_bounds-js-end
 slice_bounds-js-end c = let W = worked_at c.args.lefts.now c.args.rights.now c.args.codes.now (chain_columns c.args.left_offsets.now c.args.left_targets.now c.args.left_probs.now []) (chain_columns c.args.right_offsets.now c.args.right_targets.now c.args.right_probs.now []) c.args.values.now c.loop-k.k _ _ refl refl c.loop-k.js c.loop-k.ms c.loop-k.invariant.0 c.loop-k.invariant.1 c.best_pair-best.result.value c.best_pair-best.result.cells c.best_pair-best.new.places c.best_pair-best.new.masses c.best_pair-best.ensures in let f = W.few in omega arith
 
@@ -55,15 +31,6 @@ adopt-done-requires c = let W = worked_at c.args.lefts.now c.args.rights.now c.a
 
 pub loop-k-preserved : goal.loop-k-preserved
 loop-k-preserved c = (c.best_pair-best.auto.places ∙ c.loop-k.invariant.0, c.best_pair-best.auto.masses ∙ c.loop-k.invariant.1, c.adopt-done.auto.places ∙ c.loop-k.invariant.2, c.adopt-done.auto.masses ∙ c.loop-k.invariant.3, betters_next c.loop-k.invariant.4 c.loop-k-test.true (worked_at c.args.lefts.now c.args.rights.now c.args.codes.now (chain_columns c.args.left_offsets.now c.args.left_targets.now c.args.left_probs.now []) (chain_columns c.args.right_offsets.now c.args.right_targets.now c.args.right_probs.now []) c.args.values.now c.loop-k.k _ _ refl refl c.loop-k.js c.loop-k.ms c.loop-k.invariant.0 c.loop-k.invariant.1 c.best_pair-best.result.value c.best_pair-best.result.cells c.best_pair-best.new.places c.best_pair-best.new.masses c.best_pair-best.ensures) c.apart.ensures c.larger-residual.ensures c.adopt-done.ensures c.adopt-done.auto.lengths (or_comm c.loop-k.improved c.adopt-done.result))
-
-pub shape_of-lengths : goal.shape_of-lengths
-shape_of-lengths c = c.loop-k.invariant.4.lengths_size
-
-pub shape_of-places : goal.shape_of-places
-shape_of-places c = c.loop-k.invariant.2
-
-pub shape_of-masses : goal.shape_of-masses
-shape_of-masses c = c.loop-k.invariant.3
 
 pub returns : goal.returns
 returns c = betters_end c.loop-k.invariant.4 c.loop-k-test.false

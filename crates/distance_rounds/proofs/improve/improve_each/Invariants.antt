@@ -1,6 +1,5 @@
 -- The invariant is `Betters`: what the definition leaves from pair k on is what it leaves from the first on. A turn improves one pair more.
 use mathlib.Core.Path.{◌≡◌}
-use Prim.Native.Nat.{◌-◌}
 use mathlib.Core.List.{[]}
 use lib.ListN.{length}
 use Rattle.chain_theory.specs.Columns.{chain_columns}

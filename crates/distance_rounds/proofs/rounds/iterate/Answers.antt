@@ -1,4 +1,3 @@
-use mathlib.Core.Path.{◌∙◌}
 use mathlib.Core.List.{[]}
 use native.Mathlib.Omega.{arith}
 use Rattle.chain_theory.specs.Columns.{chain_columns}
@@ -12,35 +11,11 @@ loop-rounds-init c = iterates_start (task c.args.n c.args.lefts.now c.args.right
 pub overflow_add-rounds : goal.overflow_add-rounds
 overflow_add-rounds c = let h = c.loop-rounds-test.true in let g = c.ranges.max_rounds in omega arith
 
-pub shape_of-lengths-then-ended : goal.shape_of-lengths-then-ended
-shape_of-lengths-then-ended c = c.improve-step.auto.lengths ∙ c.loop-rounds.invariant.lengths_size
-
-pub shape_of-places-then-ended : goal.shape_of-places-then-ended
-shape_of-places-then-ended c = c.improve-step.auto.places ∙ c.loop-rounds.invariant.places_size
-
-pub shape_of-masses-then-ended : goal.shape_of-masses-then-ended
-shape_of-masses-then-ended c = c.improve-step.auto.masses ∙ c.loop-rounds.invariant.masses_size
-
-pub shape_of-values-then-ended : goal.shape_of-values-then-ended
-shape_of-values-then-ended c = c.evaluate.auto.value ∙ c.loop-rounds.invariant.values_size
-
 pub returns-then-ended : goal.returns-then-ended
 returns-then-ended c = iterates_stop c.loop-rounds.invariant c.loop-rounds-test.true c.evaluate.ensures c.improve-step.ensures c.ended.ensures c.if-ended.true
 
 pub loop-rounds-preserved : goal.loop-rounds-preserved
 loop-rounds-preserved c = iterates_next c.loop-rounds.invariant c.loop-rounds-test.true c.evaluate.ensures c.improve-step.ensures c.ended.ensures c.if-ended.false c.evaluate.auto.value c.improve-step.auto.lengths c.improve-step.auto.places c.improve-step.auto.masses
-
-pub shape_of-lengths : goal.shape_of-lengths
-shape_of-lengths c = c.loop-rounds.invariant.lengths_size
-
-pub shape_of-places : goal.shape_of-places
-shape_of-places c = c.loop-rounds.invariant.places_size
-
-pub shape_of-masses : goal.shape_of-masses
-shape_of-masses c = c.loop-rounds.invariant.masses_size
-
-pub shape_of-values : goal.shape_of-values
-shape_of-values c = c.loop-rounds.invariant.values_size
 
 pub returns : goal.returns
 returns c = iterates_end c.loop-rounds.invariant c.loop-rounds-test.false

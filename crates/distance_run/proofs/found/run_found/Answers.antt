@@ -10,19 +10,10 @@ returns-then-n-gt4096 c =
     let a = c.args in
     too_many a.n a.lefts.now a.rights.now a.codes.now (chain_columns a.left_offsets.now a.left_targets.now a.left_probs.now []) (chain_columns a.right_offsets.now a.right_targets.now a.right_probs.now []) a.left_seen.now a.right_seen.now a.gamma a.options a.places.now a.masses.now c.if-n-gt4096.true c.refused.ensures
 
-pub slice_bounds-solve-end-4 : goal.slice_bounds-solve-end-4
-slice_bounds-solve-end-4 c = sym (blanks c.args.n c.if-n-gt4096.false)
-
 pub returns-then-solved-ne0 : goal.returns-then-solved-ne0
 returns-then-solved-ne0 c =
     let a = c.args in
     found_refused a.n a.lefts.now a.rights.now a.codes.now (chain_columns a.left_offsets.now a.left_targets.now a.left_probs.now []) (chain_columns a.right_offsets.now a.right_targets.now a.right_probs.now []) a.left_seen.now a.right_seen.now a.gamma a.options a.places.now a.masses.now c.if-n-gt4096.false c.price.ensures c.solve-solved.ensures c.if-solved-ne0.true c.refused-then-solved-ne0.ensures
-
-pub shape_of-places : goal.shape_of-places
-shape_of-places c = c.solve-solved.auto.places
-
-pub shape_of-masses : goal.shape_of-masses
-shape_of-masses c = c.solve-solved.auto.masses
 
 pub returns : goal.returns
 returns c =
