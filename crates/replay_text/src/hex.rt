@@ -49,17 +49,13 @@ fn closed(buf: &[u8], r: Reader, n: usize) -> Reader
 pub fn hex_field(buf: &[u8], r: Reader, out: &mut [u8]) -> Listed
     ensures { (result.n ≤ length out.old) × Lasts r result.r }
 {
-    let count = text::number_field(buf, r);
-    let l = lists::sized(count, out.len());
-    let mut s = l.r;
-    for byte in out[..l.n].iter_mut() {
-        let x = pair(buf, s);
-        *byte = lists::byte(x.x);
-        s = x.r;
-    }
+    let l = lists::field(buf, r, out, |s| {
+        let n = pair(buf, s);
+        (lists::byte(n.x), n.r)
+    });
     Listed {
         n: l.n,
-        r: closed(buf, s, l.n),
+        r: closed(buf, l.r, l.n),
     }
 }
 
@@ -75,10 +71,6 @@ fn expect_pair(buf: &[u8], r: Reader, x: u64) -> Reader
 pub fn expect_hex(buf: &[u8], r: Reader, xs: &[u8]) -> Reader
     ensures { Lasts r result }
 {
-    let named = text::name(buf, r);
-    let mut s = text::expect(buf, named, xs.len() as u64);
-    for x in xs {
-        s = expect_pair(buf, s, u64::from(*x));
-    }
+    let s = lists::expect_each(buf, r, xs, |s, x| expect_pair(buf, s, u64::from(x)));
     closed(buf, s, xs.len())
 }

@@ -28,34 +28,45 @@ pub fn sized(n: NumberRead, room: usize) -> Listed
     }
 }
 
-// A list of numbers of 32 bits, which goes to the front of `out`.
+// A list of what `read` takes from the text, entry by entry, which goes to the front of `out`.
+pub(crate) fn field<T: Copy, F: Fn(Reader) -> (T, Reader)>(
+    buf: &[u8],
+    r: Reader,
+    out: &mut [T],
+    read: F,
+) -> Listed
+    requires callable { F.IsAlwaysCallable read }
+    requires lasts { (s : _) (x : _) → F.post read s x → Lasts s x.1 }
+    ensures { (result.n ≤ length out.old) × Lasts r result.r }
+{
+    let l = sized(text::number_field(buf, r), out.len());
+    let mut s = l.r;
+    for entry in out[..l.n].iter_mut() {
+        let (x, next) = read(s);
+        *entry = x;
+        s = next;
+    }
+    Listed { n: l.n, r: s }
+}
+
+// A list of numbers of 32 bits.
 pub fn list_field(buf: &[u8], r: Reader, out: &mut [u32]) -> Listed
     ensures { (result.n ≤ length out.old) × Lasts r result.r }
 {
-    let count = text::number_field(buf, r);
-    let l = sized(count, out.len());
-    let mut s = l.r;
-    for entry in out[..l.n].iter_mut() {
-        let x = text::short(buf, s);
-        *entry = text::narrow(x.x);
-        s = x.r;
-    }
-    Listed { n: l.n, r: s }
+    field(buf, r, out, |s| {
+        let n = text::short(buf, s);
+        (text::narrow(n.x), n.r)
+    })
 }
 
 // A list of floats.
 pub fn reals_field(buf: &[u8], r: Reader, out: &mut [f64]) -> Listed
     ensures { (result.n ≤ length out.old) × Lasts r result.r }
 {
-    let count = text::number_field(buf, r);
-    let l = sized(count, out.len());
-    let mut s = l.r;
-    for entry in out[..l.n].iter_mut() {
-        let x = text::real(buf, s);
-        *entry = x.x;
-        s = x.r;
-    }
-    Listed { n: l.n, r: s }
+    field(buf, r, out, |s| {
+        let n = text::real(buf, s);
+        (n.x, n.r)
+    })
 }
 
 pub(crate) fn byte(x: u64) -> u8 {
@@ -66,15 +77,10 @@ pub(crate) fn byte(x: u64) -> u8 {
 pub fn bytes_field(buf: &[u8], r: Reader, out: &mut [u8]) -> Listed
     ensures { (result.n ≤ length out.old) × Lasts r result.r }
 {
-    let count = text::number_field(buf, r);
-    let l = sized(count, out.len());
-    let mut s = l.r;
-    for entry in out[..l.n].iter_mut() {
-        let x = text::short(buf, s);
-        *entry = byte(x.x);
-        s = x.r;
-    }
-    Listed { n: l.n, r: s }
+    field(buf, r, out, |s| {
+        let n = text::short(buf, s);
+        (byte(n.x), n.r)
+    })
 }
 
 // The first n entries; all where there are fewer.
@@ -102,36 +108,38 @@ pub fn bytes_front<'a>(xs: &'a [u8], n: usize) -> &'a [u8]
     first(xs, n)
 }
 
-// The list stored is the list given.
+// The list stored is the list given, by `expect` entry by entry.
+pub(crate) fn expect_each<T: Copy, F: Fn(Reader, T) -> Reader>(
+    buf: &[u8],
+    r: Reader,
+    xs: &[T],
+    expect: F,
+) -> Reader
+    requires callable { F.IsAlwaysCallable expect }
+    requires lasts { (s : _) (x : _) (t : _) → F.post expect s x t → Lasts s t }
+    ensures { Lasts r result }
+{
+    let mut s = text::expect(buf, text::name(buf, r), xs.len() as u64);
+    for x in xs {
+        s = expect(s, *x);
+    }
+    s
+}
+
 pub fn expect_list(buf: &[u8], r: Reader, xs: &[u32]) -> Reader
     ensures { Lasts r result }
 {
-    let named = text::name(buf, r);
-    let mut s = text::expect(buf, named, xs.len() as u64);
-    for x in xs {
-        s = text::expect(buf, s, u64::from(*x));
-    }
-    s
+    expect_each(buf, r, xs, |s, x| text::expect(buf, s, u64::from(x)))
 }
 
 pub fn expect_reals(buf: &[u8], r: Reader, xs: &[f64]) -> Reader
     ensures { Lasts r result }
 {
-    let named = text::name(buf, r);
-    let mut s = text::expect(buf, named, xs.len() as u64);
-    for x in xs {
-        s = text::expect_real(buf, s, *x);
-    }
-    s
+    expect_each(buf, r, xs, |s, x| text::expect_real(buf, s, x))
 }
 
 pub fn expect_bytes(buf: &[u8], r: Reader, xs: &[u8]) -> Reader
     ensures { Lasts r result }
 {
-    let named = text::name(buf, r);
-    let mut s = text::expect(buf, named, xs.len() as u64);
-    for x in xs {
-        s = text::expect(buf, s, u64::from(*x));
-    }
-    s
+    expect_each(buf, r, xs, |s, x| text::expect(buf, s, u64::from(x)))
 }
