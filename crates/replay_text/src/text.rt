@@ -124,21 +124,40 @@ fn lettered(x: u64, b: u32) -> u64 {
     x
 }
 
+// At most 32 bytes of a word, each taken by `step`, and how many they are.
+fn spelled<F: Fn(u64, Reader) -> NumberRead>(buf: &[u8], r: Reader, step: F) -> (NumberRead, u32)
+    requires callable { F.IsAlwaysCallable step }
+    requires lasts { (x : _) (s : _) (n : _) → F.post step x s n → Lasts s n.r }
+    ensures { Lasts r result.0.r }
+{
+    let mut s = r;
+    let mut x = 0;
+    for size in 0..32 {
+        if !within_word(s) {
+            return (NumberRead { x, r: s }, size);
+        }
+        let n = step(x, s);
+        x = n.x;
+        s = advance(buf, n.r);
+    }
+    (NumberRead { x, r: s }, 32)
+}
+
 // A word, as a number by its bytes: the first eight count.
 pub fn word(buf: &[u8], r: Reader) -> NumberRead
     ensures { Lasts r result.r }
 {
-    let mut s = r;
-    let mut x = 0;
-    let mut size = 0; // Counted by hand: `ended` asks how many bytes came.
-    while size < 32 && within_word(s) {
-        x = lettered(x, s.byte);
-        s = advance(buf, s);
-        size += 1;
-    }
+    let (w, size) = spelled(
+        buf,
+        r,
+        |x, s| NumberRead {
+            x: lettered(x, s.byte),
+            r: s,
+        },
+    );
     NumberRead {
-        x,
-        r: ended(buf, s, size),
+        x: w.x,
+        r: ended(buf, w.r, size),
     }
 }
 
@@ -173,21 +192,11 @@ fn longer(x: u64, d: u64, hex: bool, r: Reader) -> NumberRead
 fn digits(buf: &[u8], r: Reader, hex: bool) -> NumberRead
     ensures { Lasts r result.r }
 {
-    let mut s = r;
-    let mut x = 0;
-    let mut size = 0; // Counted by hand: `ended` asks how many bytes came.
-    while size < 32 && within_word(s) {
-        let n = longer(x, digit(s.byte), hex, s);
-        x = n.x;
-        s = advance(buf, n.r);
-        size += 1;
-    }
-    if hex && size != 16 {
-        size = 0;
-    }
+    let (n, size) = spelled(buf, r, |x, s| longer(x, digit(s.byte), hex, s));
+    let size = if hex && size != 16 { 0 } else { size };
     NumberRead {
-        x,
-        r: ended(buf, s, size),
+        x: n.x,
+        r: ended(buf, n.r, size),
     }
 }
 
@@ -291,8 +300,10 @@ pub(crate) fn within_line(r: Reader) -> bool {
     r.byte != LINE_FEED && r.byte != END
 }
 
-// The rest of a line.
-fn past_line(buf: &[u8], r: Reader) -> Reader
+// Steps on to the end of a line, and past it; 1,000,000 steps at most.
+fn past<F: Fn(Reader) -> Reader>(buf: &[u8], r: Reader, step: F) -> Reader
+    requires callable { F.IsAlwaysCallable step }
+    requires kept { (s : _) (t : _) → F.post step s t → Kept s t }
     ensures { Kept r result }
 {
     let mut s = r;
@@ -300,21 +311,21 @@ fn past_line(buf: &[u8], r: Reader) -> Reader
         if !within_line(s) {
             break;
         }
-        s = advance(buf, s);
+        s = step(s);
     }
     advance(buf, s)
+}
+
+// The rest of a line.
+fn past_line(buf: &[u8], r: Reader) -> Reader
+    ensures { Kept r result }
+{
+    past(buf, r, |s| advance(buf, s))
 }
 
 // The rest of a case: up to an empty line, and past it.
 pub(crate) fn past_case(buf: &[u8], r: Reader) -> Reader
     ensures { Kept r result }
 {
-    let mut s = r;
-    for _ in 0..1000000 {
-        if !within_line(s) {
-            break;
-        }
-        s = past_line(buf, s);
-    }
-    advance(buf, s)
+    past(buf, r, |s| past_line(buf, s))
 }
