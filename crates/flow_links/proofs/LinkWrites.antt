@@ -8,8 +8,8 @@ use native.Mathlib.Omega.{arith}
 use native.Mathlib.Numerals.{add-one}
 use native.Mathlib.Nat.{le_of_suc-le-suc, not-suc-le-zero, mul-suc, zero-add, zero-div}
 use lib.Dec.{eqb}
-use lib.ListN.{length, get_or, set, take, drop, length-append, length-set, get_or-eq_default}
-use lib.Seq.{drop-cons, drop-nil, drop-drop, drop-set-lt}
+use lib.ListN.{length, get_or, set, take, drop, length-append, length-set, get_or-eq_default, drop_of_length-le}
+use lib.Seq.{drop-cons, drop-drop, drop-set-lt}
 use lib.Ieee.{Float, nan, inf}
 use Rattle.numbers.specs.Real.{nought}
 use Rattle.numbers.specs.Bits.{bit_at, packed}
@@ -160,26 +160,21 @@ pub crosses_next : (store : List ℕ) (n k i : ℕ) (us ts : List ℕ) → i < l
 unfolding cross_rows
 crosses_next store n k i us ts h = ap (λ (l : List ℕ). cross_rows store n i k l ts) (drop-cons us i 0 h) ∙ rw (add-one i)
 
-past : {A : Type 0} (l : List A) (i : ℕ) → length l ≤ i → drop i l ≡ []
-past [] i h = drop-nil i
-past (x ∷ l) zero h = absurd (omega arith)
-past (x ∷ l) (suc i) h = past l i (le_of_suc-le-suc h)
-
 pub source_end : (s k i : ℕ) (ws : List Float) → length ws ≤ i → source_row s k (drop i ws) ≡ []
 unfolding source_row
-source_end s k i ws h = ap (source_row s k) (past ws i h)
+source_end s k i ws h = ap (source_row s k) (drop_of_length-le ws h)
 
 pub sink_end : (s k i : ℕ) (ws : List Float) → length ws ≤ i → sink_row s k (drop i ws) ≡ []
 unfolding sink_row
-sink_end s k i ws h = ap (sink_row s k) (past ws i h)
+sink_end s k i ws h = ap (sink_row s k) (drop_of_length-le ws h)
 
 pub cross_end : (store : List ℕ) (b i k j : ℕ) (ts : List ℕ) → length ts ≤ j → cross_row store b i k (drop j ts) ≡ []
 unfolding cross_row
-cross_end store b i k j ts h = ap (cross_row store b i k) (past ts j h)
+cross_end store b i k j ts h = ap (cross_row store b i k) (drop_of_length-le ts h)
 
 pub crosses_end : (store : List ℕ) (n k i : ℕ) (us ts : List ℕ) → length us ≤ i → cross_rows store n i k (drop i us) ts ≡ []
 unfolding cross_rows
-crosses_end store n k i us ts h = ap (λ (l : List ℕ). cross_rows store n i k l ts) (past us i h)
+crosses_end store n k i us ts h = ap (λ (l : List ℕ). cross_rows store n i k l ts) (drop_of_length-le us h)
 
 -- ---- the links of two rows are those of their jumps
 

@@ -43,16 +43,6 @@ pub record Sized (A₀ B₀ F₀ A B F : List Float) : Type 0 where
 pub pair_low : (a b i k : ℕ) → a ≤ 31 → b ≤ 31 → i < a → k < b → (i * b ≤ 961) × (i * b + k < a * b)
 pair_low a b i k ha hb hi hk = let l : i ≤ 31 = omega arith in let m : i * b ≤ 31 * 31 = mul-le-mul l hb in (omega arith, entry_low a b i k hi hk)
 
-pub room_sized : {us ts : List ℕ} {n : ℕ} {A₀ B₀ F₀ A B F : List Float} → Room us ts n A₀ B₀ F₀ → Sized A₀ B₀ F₀ A B F → Room us ts n A B F
-room_sized R Z =
-    let a = R.room_a in
-    let b = R.room_b in
-    let f = R.room_f in
-    let x = Z.size_a in
-    let y = Z.size_b in
-    let z = Z.size_f in
-    record { states = R.states; lefts = R.lefts; rights = R.rights; room_a = omega arith; room_b = omega arith; room_f = omega arith }
-
 -- ---- a search
 
 -- r is the first number below n of which P holds, or n
@@ -66,9 +56,6 @@ pub record FirstFrom (n j r : ℕ) (P : ℕ → Type 0) : Type 0 where
   pub upto : r ≤ n
   pub found : r < n → P r
   pub none : (i : ℕ) → j ≤ i → i < r → P i → ⊥
-
-pub from_begins : (n : ℕ) (P : ℕ → Type 0) → FirstFrom n n n P
-from_begins n P = record { upto = omega arith; found = λ h. absurd (omega arith); none = λ i h g. absurd (omega arith) }
 
 -- one number down: q is j where P holds of it, and else r
 pub from_down : {n j r : ℕ} {P : ℕ → Type 0} → FirstFrom n j r P → 0 < j → j ≤ n → {q : ℕ} → ((q ≡ j - 1) × P (j - 1)) ⊎ ((q ≡ r) × (P (j - 1) → ⊥)) → FirstFrom n (j - 1) q P
@@ -90,9 +77,6 @@ both_or_none true true (a, b, c) f g h k = inl (a refl refl, (f refl, h refl))
 both_or_none true false (a, b, c) f g h k = inr (c refl, λ p. k refl p.1)
 both_or_none false two (a, b, c) f g h k = inr (b refl, λ p. g refl p.0)
 
-pub from_ends : {n j r : ℕ} {P : ℕ → Type 0} → FirstFrom n j r P → j ≤ 0 → FirstOf n r P
-from_ends I h = record { upto = I.upto; found = I.found; none = λ i g. I.none i (omega arith) g }
-
 -- ---- a copy
 
 -- what was copied to the front stands there
@@ -108,21 +92,10 @@ pub record Shut (f : ℕ) (B : List Float) : Type 0 where
 pub shut_on : {f k : ℕ} {B : List Float} → Shut f B → f ≤ k → (x : Float) → Shut f (set B k x)
 shut_on {f} {k} {B} h l x = record { at = λ q m. ap (lt eps) (get_or-set_other B k q x nan (omega arith)) ∙ h.at q m }
 
--- nor of the next one
-pub shut_next : {f : ℕ} {B : List Float} → Shut f B → lt eps (get_or B f nan) ≡ false → Shut (f + 1) B
-shut_next {f} {B} h o = record { at = λ q m. pick q m (eq_or_ne q f) }
-  where
-    pick : (q : ℕ) → q < f + 1 → (q ≡ f) ⊎ (q ≢ f) → lt eps (get_or B q nan) ≡ false
-    pick q m (inl e) = ap (λ (y : ℕ). lt eps (get_or B y nan)) e ∙ o
-    pick q m (inr d) = h.at q (omega arith)
-
 -- from the state A₀ B₀ F₀ t₀ with the turn at i₀ to the state A B F t with the turn at i and k
 pub record Giving (us ts : List ℕ) (n : ℕ) (store : List ℕ) (A₀ B₀ F₀ : List Float) (t₀ : Float) (i₀ : ℕ) (A B F : List Float) (t : Float) (i k : ℕ) : Type 0 where
   pub sized : Sized A₀ B₀ F₀ A B F
   pub state : (G : Rows) → Reads G us ts n store → Standing G A₀ B₀ F₀ t₀ → Cursor G A₀ B₀ i₀ 0 → Standing G A B F t × Cursor G A B i k
-
-pub giving_begins : (us ts : List ℕ) (n : ℕ) (store : List ℕ) (A B F : List Float) (t : Float) (i : ℕ) → Giving us ts n store A B F t i A B F t i 0
-giving_begins us ts n store A B F t i = record { sized = record { size_a = refl; size_b = refl; size_f = refl }; state = λ G R S K. (S, K) }
 
 module _ {us ts : List ℕ} {n : ℕ} {store : List ℕ} {A₀ B₀ F₀ : List Float} {t₀ : Float} {i₀ : ℕ} {A B F : List Float} {t : Float} {i k : ℕ} (I : Giving us ts n store A₀ B₀ F₀ t₀ i₀ A B F t i k) where
   -- nothing is left of k
@@ -157,10 +130,6 @@ module _ {us ts : List ℕ} {n : ℕ} {store : List ℕ} {A₀ B₀ F₀ : List 
   -- the turn of the next i
   pub giving_turns : (lt eps (get_or A i nan) ≡ true → length ts ≤ k) → Giving us ts n store A₀ B₀ F₀ t₀ i₀ A B F t (i + 1) 0
   giving_turns f = record { sized = I.sized; state = λ G R S K. let (X, Y) = I.state G R S K in (X, cursor_turns Y (λ a. rw R.rights (f a))) }
-
-  -- the first targets of t have nothing left
-  pub giving_from : k ≡ 0 → {f : ℕ} → Shut f B → Giving us ts n store A₀ B₀ F₀ t₀ i₀ A B F t i f
-  giving_from e h = record { sized = I.sized; state = λ G R S K. let (X, Y) = I.state G R S K in (X, record { rows = Y.rows; row = λ q l m u o. h.at q l }) }
 
 -- the same lists and flow under other names
 pub giving_same : {us ts : List ℕ} {n : ℕ} {store : List ℕ} {A₀ B₀ F₀ : List Float} {t₀ : Float} {i₀ : ℕ} {A B F : List Float} {t : Float} {i k : ℕ} → Giving us ts n store A₀ B₀ F₀ t₀ i₀ A B F t i k
@@ -212,23 +181,6 @@ pub record Walking (us ts : List ℕ) (n : ℕ) (store : List ℕ) (F : List Flo
 -- its labels, and those of the next link back, are places of its lists
 pub walking_low : {us ts : List ℕ} {n : ℕ} {store : List ℕ} {F : List Float} {l r : List ℕ} {s start : ℕ} {Ls Rs : List ℕ} {g f : ℕ} → Walking us ts n store F l r s start Ls Rs g f → s ≤ 8 → (1 ≤ g) × (g ≤ s) × (g < 10)
 walking_low W h = let u = W.placed.upto in (W.placed.some, u, omega arith)
-
-pub walking_begins : (us ts : List ℕ) (n : ℕ) (store : List ℕ) (F : List Float) (l r : List ℕ) (s start : ℕ) (Ls Rs : List ℕ) → 1 ≤ s → s < length Ls → start < length us
-    → Walking us ts n store F l r s start (set Ls s start) Rs s s
-walking_begins us ts n store F l r s start Ls Rs lo hs h = record {
-  placed = record { some = lo; upto = omega arith; lefts = λ k a b. (let e = is k (omega arith) in omega arith); rights = λ k a b. absurd (omega arith) };
-  traced = λ G R A B t S I. record {
-    upto = omega arith;
-    on = ap (λ (y : ℕ). lt eps (get_or A y nan)) (is s refl) ∙ (I.found h).0;
-    first = λ j m o e. I.none j (let z = is s refl in omega arith) (o, e);
-    left = λ k a b. (let z : k ≡ s = omega arith in subst⁻¹ (λ (y : ℕ). LeftAt G l (get_or (set Ls s start) y 0) y) z (subst⁻¹ (λ (y : ℕ). LeftAt G l y s) (is s refl) (record { low = rw R.lefts h; label = (I.found h).1 })));
-    forth = λ k a b. absurd (omega arith);
-    back = λ k a b. absurd (omega arith);
-  };
-}
-  where
-    is : (k : ℕ) → k ≡ s → get_or (set Ls s start) k 0 ≡ start
-    is k e = ap (λ (y : ℕ). get_or (set Ls s start) y 0) e ∙ get_or-set_same Ls s start 0 hs
 
 -- a search over what target k of t can give back, once k stands at label g
 pub first_here : {n i : ℕ} {P : ℕ → Type 0} (F : List Float) (w : ℕ) (Rs : List ℕ) (g k : ℕ) → g < length Rs → FirstOf n i (λ j. P j × (lt eps (get_or F (j * w + k) nan) ≡ true))

@@ -105,10 +105,6 @@ pub record Stopped (us ts : List ℕ) (n : ℕ) (store : List ℕ) (F : List Flo
   pub sink : side ≢ 0 → side ≢ 1 → Walking us ts n store F l r s start Ls Rs 1 0 × (g ≡ 1)
 
 module _ {us ts : List ℕ} {n : ℕ} {store : List ℕ} {F : List Float} {l r : List ℕ} {s start : ℕ} {Ls Rs : List ℕ} {g : ℕ} where
-  pub stops_left : Walking us ts n store F l r s start Ls Rs g g → {k : ℕ} → FirstOf (length ts) k (λ j. (get_or r j 0 ≡ g) × (bit_at store (get_or us (get_or Ls g 0) 0 * n + get_or ts j 0) ≡ true)) → k ≡ length ts
-      → Stopped us ts n store F l r s start Ls Rs g 0
-  stops_left W I e = record { left = λ _. (W, λ j h p. I.none j (omega arith) p); right = λ z. absurd (omega arith); sink = λ a b. absurd (a refl) }
-
   pub stops_right : Walking us ts n store F l r s start Ls Rs g (g - 1) → g ≢ 1 → {i : ℕ} → FirstOf (length us) i (λ j. (get_or l j 0 ≡ g - 1) × (lt eps (get_or F (j * length ts + get_or Rs g 0) nan) ≡ true)) → i ≡ length us
       → Stopped us ts n store F l r s start Ls Rs g 1
   stops_right W d I e = record { left = λ z. absurd (omega arith); right = λ _. (W, (let o = W.placed.some in omega arith), λ j h p. I.none j (omega arith) p); sink = λ a b. absurd (b refl) }
@@ -125,10 +121,6 @@ module _ {us ts : List ℕ} {n : ℕ} {store : List ℕ} {F : List Float} {l r :
           → Walking us ts n store F l r s start Ls Rs g (g - 1) × (g ≢ 1 → (i : ℕ) → i < length us → (get_or l i 0 ≡ g - 1) × (lt eps (get_or F (i * length ts + get_or Rs g 0) nan) ≡ true) → ⊥)
       pick (inl e) = let (W, lo, none) = Q.right e in (W, λ _. none)
       pick (inr m) = let (W, e) = Q.sink d m in (subst⁻¹ (λ (y : ℕ). Walking us ts n store F l r s start Ls Rs y (y - 1)) e W, λ f. absurd (f e))
-
-  -- the target of t where it ends
-  pub right_placed : {f : ℕ} → Walking us ts n store F l r s start Ls Rs g f → f ≡ g - 1 → (g ≤ s) × (get_or Rs g 0 < length ts)
-  right_placed W e = let o = W.placed.some in (W.placed.upto, W.placed.rights g (omega arith) W.placed.upto)
 
 -- ---- one step: a label rises, or a push is made
 
@@ -228,17 +220,6 @@ pub record Settling (us ts : List ℕ) (n : ℕ) (store : List ℕ) (need : Floa
 abbrev pub Settled : List ℕ → List ℕ → ℕ → List ℕ → Float → List Float → List Float → List Float → List ℕ → List ℕ → Float → Bool → Bool → Type 0
 Settled us ts n store need A₀ B₀ F₀ l₀ r₀ t₀ known passes =
     known ≡ true → le need t₀ ≡ false → (G : Rows) → Reads G us ts n store → Standing G A₀ B₀ F₀ t₀ → Labelled G A₀ B₀ F₀ l₀ r₀ 2 → passes ≡ le need (flow_of G)
-
-pub settling_begins : (us ts : List ℕ) (n : ℕ) (store : List ℕ) (need : Float) (A B F : List Float) (l r : List ℕ) (t : Float) → Settling us ts n store need A B F l r t A B F l r 2 t
-settling_begins us ts n store need A B F l r t = record {
-  sized = record { size_a = refl; size_b = refl; size_f = refl };
-  size_l = refl;
-  size_r = refl;
-  some = omega arith;
-  few = omega arith;
-  short = λ h. h;
-  state = λ G R S J. (S, J);
-}
 
 module _ {us ts : List ℕ} {n : ℕ} {store : List ℕ} {need : Float} {A₀ B₀ F₀ : List Float} {l₀ r₀ : List ℕ} {t₀ : Float} {A B F : List Float} {l r : List ℕ} {s : ℕ} {t : Float} (I : Settling us ts n store need A₀ B₀ F₀ l₀ r₀ t₀ A B F l r s t) where
   -- the source's label rises

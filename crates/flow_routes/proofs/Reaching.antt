@@ -1,15 +1,12 @@
 -- Words of private contracts: one try of the search for a flow that is enough, its first labels, and its start from the rates of two rows.
-use mathlib.Core.Path.{◌≡◌, refl, sym, ap, subst⁻¹, ◌∙◌}
-use Prim.Native.Nat.{ℕ, ◌≤◌, ◌<◌, ◌+◌, ◌*◌}
+use mathlib.Core.Path.{◌≡◌, refl, sym, subst⁻¹, ◌∙◌}
+use Prim.Native.Nat.{ℕ, ◌≤◌, ◌<◌, ◌*◌}
 use mathlib.Core.Bool.{Bool, true, false, cond, not, true≢false, false≢true}
-use mathlib.Core.Logic.{◌≢◌, ◌⊎◌, inl, inr}
 use mathlib.Core.List.{List}
 use native.Mathlib.Omega.{arith}
-use lib.ListN.{length, get_or, set, length-set}
-use lib.Seq.{get_or-set_same, get_or-set_other}
+use lib.ListN.{length, get_or}
 use lib.Ieee.{Float, nan, binary64, lt, le, add}
 use Rattle.numbers.specs.Real.{nought, eps}
-use Rattle.numbers.proofs.Bools.{eq_or_ne}
 use Rattle.flow_theory.proofs.Accepted.{Accepted}
 use Rattle.flow_theory.proofs.Theorem.{accepted_good, accepted_caps}
 use Rattle.epsdelta_theory.specs.FlowTest.{links_of, caps}
@@ -21,7 +18,7 @@ use Rattle.flow_routes.proofs.Labelled.{mapped_first}
 use Rattle.flow_routes.proofs.Standing.{Rows, net, holding, flow_of, Standing, Labelled, enough}
 use Rattle.flow_routes.proofs.Giving.{Cursor, cursor_starts}
 use Rattle.flow_routes.proofs.Coding.{Reads, Room, StartsAt, Giving}
-use Rattle.flow_routes.proofs.Pathing.{Stepped, Settling, Settled, settling_rises, settling_stays, settling_pushes, settled_yes, settled_no, settled_unknown}
+use Rattle.flow_routes.proofs.Pathing.{Stepped, Settling, Settled, settling_pushes, settled_yes}
 
 -- ---- one try
 
@@ -31,18 +28,7 @@ pub record Tried (us ts : List ℕ) (n : ℕ) (store : List ℕ) (need : Float) 
   pub ends : {A₀ B₀ F₀ : List Float} {l₀ r₀ : List ℕ} {t₀ : Float} → on ≡ false → Settling us ts n store need A₀ B₀ F₀ l₀ r₀ t₀ A B F l r s t → Settled us ts n store need A₀ B₀ F₀ l₀ r₀ t₀ known passes
 
 module _ {us ts : List ℕ} {n : ℕ} {store : List ℕ} {need : Float} {A B F : List Float} {l r : List ℕ} {s : ℕ} {t : Float} where
-  -- the source's label rises
-  pub tried_rises : s < 8 → {start : ℕ} → StartsAt A l s (length us) start → start ≡ length us → Tried us ts n store need A B F l r s t A B F l r (s + 1) t true false false
-  tried_rises h Q e = record { keeps = λ _ I. settling_rises I h Q e; ends = λ z. absurd (true≢false z) }
-
-  -- the labels are too high
-  pub tried_unknown : Tried us ts n store need A B F l r s t A B F l r s t false false false
-  tried_unknown = record { keeps = λ z. absurd (false≢true z); ends = λ {A₀} {B₀} {F₀} {l₀} {r₀} {t₀} _ I. settled_unknown us ts n store need A₀ B₀ F₀ l₀ r₀ t₀ }
-
   module _ {start : ℕ} {A' B' F' : List Float} {l' r' : List ℕ} {pushed cut : Bool} {x : Float} (P : StartsAt A l s (length us) start) (Q : Stepped us ts n store A B F l r s start A' B' F' l' r' pushed cut x) where
-    pub tried_cut : cut ≡ true → Tried us ts n store need A B F l r s t A' B' F' l' r' s t false true false
-    tried_cut z = record { keeps = λ y. absurd (false≢true y); ends = λ _ I. settled_no I Q P z }
-
     tried_enough : pushed ≡ true → le need (add binary64 t x) ≡ true → Tried us ts n store need A B F l r s t A' B' F' l' r' s (add binary64 t x) false true true
     tried_enough z d = record { keeps = λ y. absurd (false≢true y); ends = λ _ I. settled_yes I Q P z d }
 
@@ -53,9 +39,6 @@ module _ {us ts : List ℕ} {n : ℕ} {store : List ℕ} {need : Float} {A B F :
     pub tried_push : pushed ≡ true → (b : Bool) → le need (add binary64 t x) ≡ b → Tried us ts n store need A B F l r s t A' B' F' l' r' s (add binary64 t x) (not b) b b
     tried_push z true d = tried_enough z d
     tried_push z false d = tried_pushes z d
-
-    pub tried_stays : pushed ≡ false → Tried us ts n store need A B F l r s t A' B' F' l' r' s t true false false
-    tried_stays z = record { keeps = λ _ I. settling_stays I Q P z; ends = λ y. absurd (true≢false y) }
 
 -- what a step of pushed, cut and x leads to, whatever the lists are
 pub record Judged (need : Float) (s : ℕ) (t : Float) (pushed cut : Bool) (x : Float) (s' : ℕ) (t' : Float) (on known passes : Bool) : Type 0 where
@@ -71,16 +54,6 @@ label_of some none x = cond (lt eps x) some none
 pub record Labelling (some none : ℕ) (B : List Float) (r₀ r : List ℕ) (k : ℕ) : Type 0 where
   pub size : length r ≡ length r₀
   pub are : (j : ℕ) → j < k → get_or r j 0 ≡ label_of some none (get_or B j nan)
-
-pub labelling_begins : (some none : ℕ) (B : List Float) (r : List ℕ) → Labelling some none B r r 0
-labelling_begins some none B r = record { size = refl; are = λ j h. absurd (omega arith) }
-
-pub labelling_on : {some none : ℕ} {B : List Float} {r₀ r : List ℕ} {k : ℕ} → Labelling some none B r₀ r k → k < length r₀ → {x : ℕ} → x ≡ label_of some none (get_or B k nan) → Labelling some none B r₀ (set r k x) (k + 1)
-labelling_on {some} {none} {B} {r₀} {r} {k} I h {x} e = record { size = length-set r k x ∙ I.size; are = λ j g. pick j g (eq_or_ne j k) }
-  where
-    pick : (j : ℕ) → j < k + 1 → (j ≡ k) ⊎ (j ≢ k) → get_or (set r k x) j 0 ≡ label_of some none (get_or B j nan)
-    pick j g (inl z) = ap (λ (y : ℕ). get_or (set r k x) y 0) z ∙ get_or-set_same r k x 0 (let q = I.size in omega arith) ∙ e ∙ ap (λ (y : ℕ). label_of some none (get_or B y nan)) (sym z)
-    pick j g (inr d) = get_or-set_other r k j x 0 d ∙ I.are j (omega arith)
 
 -- the first pushes are made: no target of s with rate left is held with a target of t with rate left
 pub first_labelled : {G : Rows} {us ts : List ℕ} {n : ℕ} {store : List ℕ} → Reads G us ts n store → {A B : List Float} {i : ℕ} → Cursor G A B i 0 → length us ≤ i → (F : List Float) (l r : List ℕ) → length us ≤ length l → length ts ≤ length r
