@@ -35,14 +35,13 @@ fn read_side(buf: &[u8], r: Reader, cells: &mut [u32], reals: &mut [f64]) -> Sid
     let t = stores::list_at(buf, o.r, cells, o.n);
     let p = stores::reals_at(buf, t.r, reals, 0);
     let s = stores::reals_at(buf, p.r, reals, p.n);
-    let end = s.r;
     Side {
         chain,
         offsets: o.n,
         targets: t.n,
         probs: p.n,
         seen: s.n,
-        r: end,
+        r: s.r,
     }
 }
 
