@@ -1,6 +1,6 @@
 // The levels of a phase: how many links with capacity left each node is away from the source.
 ghost use Rattle.flow_theory.proofs.LevelRows.{Scannable, Scanned, Searchable, InRows};
-ghost use Rattle.std.specs.Prelude.{◌≡◌, replicate};
+ghost use Rattle.std.specs.Prelude.{◌≡◌, length, replicate};
 ghost use Rattle.flow_theory.proofs.Links.{WellFormed};
 ghost use Rattle.flow_theory.specs.Levels;
 ghost use Rattle.flow_theory.specs.Network.{Net, nodes};
@@ -11,24 +11,22 @@ use numbers::EPS;
 // The level of a node that has none.
 pub(crate) const UNSET: usize = 18446744073709551615;
 
-// Looks along the links `list[from..to]`, which leave u: a head without a level gets the next one, and joins the queue.
+// Looks along the links that leave u: a head without a level gets the next one, and joins the queue.
 fn scan(
     heads: &[u32],
     caps: &[f64],
-    list: &[u32],
-    from: usize,
-    to: usize,
+    links: &[u32],
     u: usize,
     level: &mut [usize],
     queue: &mut [usize],
     tail: usize,
 ) -> usize
-    requires { Scannable heads.now list.now caps.now from to u level.old queue.old tail }
-    ensures { Scanned heads.now list.now caps.now from to u level.old queue.old level.new queue.new tail result }
+    requires { Scannable heads.now links.now caps.now 0 (length links.now) u level.old queue.old tail }
+    ensures { Scanned heads.now links.now caps.now 0 (length links.now) u level.old queue.old level.new queue.new tail result }
 {
     let mut t = tail;
-    for j in from..to {
-        let e = list[j] as usize;
+    for link in links {
+        let e = *link as usize;
         let v = heads[e] as usize;
         if caps[e] > EPS && level[v] == UNSET {
             level[v] = level[u] + 1;
@@ -61,6 +59,6 @@ pub(crate) fn levels(
         let from = starts[u] as usize;
         let to = starts[u + 1] as usize;
         head += 1;
-        tail = scan(heads, caps, list, from, to, u, level, queue, tail);
+        tail = scan(heads, caps, &list[from..to], u, level, queue, tail);
     }
 }

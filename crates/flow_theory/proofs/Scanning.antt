@@ -1,15 +1,16 @@
 -- The loop of `scan`: one link of the row is one `visit` of the definition.
-use mathlib.Core.Path.{◌≡◌, refl, sym, ap, ◌∙◌}
+use mathlib.Core.Path.{◌≡◌, refl, sym, ap, subst⁻¹, ◌∙◌}
 use mathlib.Core.Logic.{◌⊎◌, inl, inr}
 use mathlib.Core.Bool.{Bool, true, false, ◌&&◌, and-false}
-use Prim.Native.Nat.{ℕ, zero, suc, ◌+◌, ◌≤◌, ◌<◌}
+use Prim.Native.Nat.{ℕ, zero, suc, ◌+◌, ◌-◌, ◌≤◌, ◌<◌}
 use mathlib.Core.List.{List, [], ◌∷◌, ◌++◌}
 use native.Mathlib.Omega.{arith}
 use native.Mathlib.Numerals.{add-one}
 use native.Mathlib.Nat.{le_of_suc-le-suc, not-suc-le-zero}
 use lib.Dec.{eqb}
 use lib.ListN.{length, get_or, set, take, drop, length-set}
-use lib.Seq.{slice, slice_empty, slice-cons, take-suc-set, drop-append-le, length-take-le}
+use lib.Seq.{slice, slice_empty, slice-cons, length-slice, take-suc-set, take-length, drop-append-le, length-take-le, get_or-take}
+use Rattle.std.proofs.lemmas.List.{get_or-drop, drop-take}
 use lib.Ieee.{Float, of_bits, binary64, lt, nan}
 use Rattle.flow_theory.specs.Network.{Net, residual, head}
 use Rattle.flow_theory.specs.Levels.{Search, scan, visit, unset, level_of}
@@ -183,3 +184,38 @@ module _ {H list : List ℕ} {c : List Float} {a b u : ℕ} {L₀ q₀ L q : Lis
       let p = count_pos L _ inn free in
       let r = I.room in
       omega arith
+
+-- ---- a part of the row is a row of its own
+
+module _ {H list : List ℕ} {c : List Float} {a b u : ℕ} {L q : List ℕ} {t : ℕ} (S : Scannable H list c a b u L q t) where
+  abbrev part : List ℕ
+  part = take (b - a) (drop a list)
+
+  part_is : part ≡ slice a b list
+  part_is = let o = S.ordered in let e : a + (b - a) ≡ b = omega arith in sym (drop-take a (b - a) list) ∙ ap (λ (n : ℕ). drop a (take n list)) e
+
+  part_length : length part ≡ b - a
+  part_length = ap length part_is ∙ length-slice a b list S.within
+
+  part_at : (j : ℕ) → j < length part → get_or part j 0 ≡ get_or list (a + j) 0
+  part_at j h = let l = part_length in ap (λ (xs : List ℕ). get_or xs j 0) part_is ∙ get_or-drop a (take b list) j 0 ∙ get_or-take b list (a + j) 0 (omega arith)
+
+  pub part_scannable : Scannable H part c 0 (length part) u L q t
+  part_scannable = record {
+    ordered = omega arith;
+    within = omega arith;
+    links_in = λ j h k. let l = part_length in subst⁻¹ (λ (x : ℕ). (x < length H) × (x < length c)) (part_at j k) (S.links_in (a + j) (omega arith) (omega arith));
+    heads_in = S.heads_in;
+    here = S.here;
+    low = S.low;
+    room = S.room;
+  }
+
+  pub part_scanned : {L' q' : List ℕ} {t' : ℕ} → Scanned H part c 0 (length part) u L q L' q' t t' → Scanned H list c a b u L q L' q' t t'
+  part_scanned R = record {
+    level_length = R.level_length;
+    queue_length = R.queue_length;
+    longer = R.longer;
+    room = R.room;
+    same = λ N h p le. R.same N h p le ∙ ap (λ (es : List ℕ). scan N c u es (record { level = L; queue = slice h t q })) (take-length part ∙ part_is);
+  }
