@@ -16,20 +16,21 @@ const BISIM_DI: u64 = 0x626973696d5f6469;
 fn run_case(buf: &[u8], r: Reader, counts: &mut [u64; 48]) -> Reader {
     let named = text::name(buf, r);
     let kind = text::word(buf, named);
-    if kind.x != BISIM_DI {
-        let s = tally::unknown(kind.r, counts);
-        return tally::next_case(buf, s, counts);
-    }
-    let t = models::run(buf, kind.r, counts);
-    tally::next_case(buf, t, counts)
+    let s = if kind.x == BISIM_DI {
+        models::run(buf, kind.r, counts)
+    } else {
+        tally::unknown(kind.r, counts)
+    };
+    tally::next_case(buf, s, counts)
 }
 
 fn run_all(buf: &[u8], counts: &mut [u64; 48]) {
     let mut r = text::start(buf);
-    let mut turns: u32 = 0;
-    while turns < 1000000 && !text::at_end(r) {
+    for _ in 0..1000000 {
+        if text::at_end(r) {
+            return;
+        }
         r = run_case(buf, r, counts);
-        turns += 1;
     }
 }
 

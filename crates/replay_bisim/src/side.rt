@@ -31,10 +31,8 @@ pub fn read(buf: &[u8], r: Reader, cells: &mut [u32; 400], reals: &mut [f64; 200
     let state = text::short_field(buf, w.r);
     let s = stores::reals_at(buf, state.r, reals, w.n);
     let rooms = asked::read_rooms(buf, s.r);
-    let shape = x.shape;
-    let end = rooms.r;
     Side {
-        shape,
+        shape: x.shape,
         values: v.n,
         offsets: o.n,
         labels: l.n,
@@ -43,6 +41,6 @@ pub fn read(buf: &[u8], r: Reader, cells: &mut [u32; 400], reals: &mut [f64; 200
         seen: s.n,
         state: StateId(text::narrow(state.x)),
         rooms,
-        r: end,
+        r: rooms.r,
     }
 }

@@ -1,9 +1,0 @@
--- `run_all` is safe and ends: its turns are counted, and the measure is how many are left.
-use Prim.Native.Nat.{◌≤◌, ◌-◌}
-use Rattle.replay_bisim.proofs.run_all.Given as goal
-
-abbrev pub invariant-loop-turns : goal.invariant-loop-turns
-invariant-loop-turns l = (l.turns ≤ 1000000)
-
-abbrev pub decreases-loop-turns : goal.decreases-loop-turns
-decreases-loop-turns l = 1000000 - l.turns
