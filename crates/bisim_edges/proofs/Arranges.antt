@@ -1,12 +1,12 @@
 -- The checks of a plan, one after the other: what each that passed says, what the parts left behind, and the answer at the number of the first that fails.
-use mathlib.Core.Path.{◌≡◌, refl, sym, ap, ◌∙◌}
+use mathlib.Core.Path.{◌≡◌, refl, sym, subst, ap, ◌∙◌}
 use mathlib.Core.Bool.{Bool, true, false, ◌||◌, not}
 use mathlib.Core.Logic.{◌≢◌}
 use Prim.Native.Nat.{ℕ, ◌≤◌, ◌<◌}
-use mathlib.Core.List.{List, map}
+use mathlib.Core.List.{List, [], map}
 use native.Mathlib.Omega.{arith}
 use lib.Dec.{ltb}
-use lib.Ieee.{nan}
+use lib.Ieee.{Float, nan}
 use lib.ListN.{length, get_or, take, length-take}
 use lib.Seq.{get_or-take}
 use borrow.Author.Tests.{lt-ltb, le-ltb, ltb-true, not-false}
@@ -15,7 +15,7 @@ use Rattle.numbers.specs.Refuse.{check}
 use Rattle.numbers.proofs.Alls.{all_at}
 use Rattle.numbers.proofs.Bools.{or_f}
 use Rattle.numbers.proofs.Refuses.{check_hit, check_skip, check_none, first, first_hit, first_skip, hit, skip, none}
-use Rattle.bisim_core.specs.Data.{Edge, Transitions}
+use Rattle.bisim_core.specs.Data.{Edge, Transitions, transitions}
 use Rattle.bisim_core.specs.Edges.{crowded_in}
 use Rattle.build_theory.specs.Edges.{nonzero}
 use Rattle.bisim_core.specs.Model.{starts_outside}
@@ -44,6 +44,9 @@ pub record Call : Type 0 where
   pub given : ℕ
   pub count : ℕ
   pub full : Bool
+
+abbrev pub call_of : ℕ → Initial → List ℕ → List ℕ → List Float → ℕ → ℕ → Bool → Call
+call_of states initial S T W given count full = record { states = states; initial = initial; C = transitions S [] T W; given = given; count = count; full = full }
 
 module _ (Z : Call) where
   abbrev states : ℕ
@@ -121,23 +124,30 @@ module _ (Z : Call) where
         t_low = λ j h. let a : get_or C.targets j 0 < states = ltb-true _ _ (all_given (λ x. ltb x states) C.targets given inside.1 j (omega arith) (omega arith)) in omega arith;
       }
 
-      module _ {I K : List ℕ} (S : Sorted C.sources C.targets n I K) where
+      -- the first m keys are sorted, and b says whether a state of them has too many targets
+      module _ {I K : List ℕ} {m : ℕ} (y : m ≡ n) (S₀ : Sorted C.sources C.targets m I K) {b : Bool} (X₀ : Crowded K m C.weights b) where
+        S : Sorted C.sources C.targets n I K
+        S = subst (λ k. Sorted C.sources C.targets k I K) y S₀
+
+        X : Crowded K n C.weights b
+        X = subst (λ k. Crowded K k C.weights b) y X₀
+
         abbrev given_at : ℕ → Edge
         given_at j = record { source = get_or C.sources j 0; label = get_or I j 0; target = get_or C.targets j 0; weight = get_or C.weights j nan }
 
-        pub crowd_is : {b : Bool} → Crowded K n C.weights b → b ≡ c6
-        crowd_is X =
+        crowd_is : b ≡ c6
+        crowd_is =
             X.same states (S.under states s_low) ∙ ap (λ (l : List Edge). crowded_in (nonzero l) (span 0 states)) (S.edges C.weights given_at (λ j h. refl))
             ∙ sorted_crowd (map given_at (span 0 n)) (span 0 states) ∙ crowd_alike given_at (jump_at C) (λ i. (refl, refl, refl)) (span 0 n) (span 0 states)
 
-        pub crowds : c6 ≡ true → Answer I K 6
-        crowds h = after_3 6 (first_skip fault _ 6 sound (check_hit 6 c6 _ h)) (λ y. omega arith)
+        pub crowds : b ≡ true → Answer I K 6
+        crowds h = after_3 6 (first_skip fault _ 6 sound (check_hit 6 c6 _ (sym crowd_is ∙ h))) (λ y. omega arith)
 
-        pub crammed : c6 ≡ false → Z.full ≡ true → Answer I K 7
-        crammed h k = after_3 7 (first_skip fault _ 7 sound (check_skip 6 c6 _ 7 h (check_hit 7 Z.full 0 k))) (λ y. omega arith)
+        pub crammed : b ≡ false → Z.full ≡ true → Answer I K 7
+        crammed h k = after_3 7 (first_skip fault _ 7 sound (check_skip 6 c6 _ 7 (sym crowd_is ∙ h) (check_hit 7 Z.full 0 k))) (λ y. omega arith)
 
-        pub all_pass : c6 ≡ false → Z.full ≡ false → Answer I K 0
+        pub all_pass : b ≡ false → Z.full ≡ false → Answer I K 0
         all_pass h k = record {
-          number = sym (check_skip 3 c3 _ 0 passed_3 (two_first c4 c5 (check 6 c6 (check 7 Z.full 0)) ∙ first_skip fault _ 0 sound (check_skip 6 c6 _ 0 h (check_skip 7 Z.full 0 0 k refl))));
+          number = sym (check_skip 3 c3 _ 0 passed_3 (two_first c4 c5 (check 6 c6 (check 7 Z.full 0)) ∙ first_skip fault _ 0 sound (check_skip 6 c6 _ 0 (sym crowd_is ∙ h) (check_skip 7 Z.full 0 0 k refl))));
           sorted = λ y. S;
         }

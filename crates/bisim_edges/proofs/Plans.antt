@@ -41,6 +41,9 @@ pub record Asked : Type 0 where
   pub short : Bool
   pub M : Lists
 
+abbrev pub asked_of : ℕ → Initial → List ℕ → List ℕ → List ℕ → List Float → ℕ → Bool → Lists → Asked
+asked_of states initial S L T W given short M = record { states = states; initial = initial; C = transitions S L T W; given = given; short = short; M = M }
+
 module _ (Z : Asked) where
   abbrev states : ℕ
   states = Z.states
@@ -107,7 +110,11 @@ module _ (Z : Asked) where
             omega arith
         pick h j k (inr l) = let a = N.rest j l in let z = zeros j k in omega arith
 
-    module _ {full : Bool} (f : full ≡ (missing C given || cramped)) {K : List ℕ} {r : ℕ} (A : Arranged states initial (transitions C.sources [] C.targets C.weights) given count full I' K r) where
+    module _ {full : Bool} {least_column least_list p : ℕ} (t : least_column ≡ min (length C.sources) (min (length C.labels) (min (length C.targets) (length C.weights)))) (o : least_list ≡ min (length M.labels) p) (q : p ≡ min (length M.numbers) (length M.weights))
+        (w : full ≡ (ltb least_column given || (short || ltb least_list given))) {K : List ℕ} {r : ℕ} (A : Arranged states initial (transitions C.sources [] C.targets C.weights) given count full I' K r) where
+      f : full ≡ (missing C given || cramped)
+      f = w ∙ rw (t, o, q) refl
+
       number_is : r ≡ number
       number_is =
           A.number
