@@ -1,15 +1,13 @@
 -- The tests of whether two chains can be run, each made where those before it passed.
-use mathlib.Core.Path.{◌≡◌, refl, sym, ap, ap₂, ◌∙◌}
+use mathlib.Core.Path.{◌≡◌, sym, ap₂, ◌∙◌}
 use Prim.Native.Nat.{ℕ, ◌≤◌, ◌<◌}
 use mathlib.Core.Bool.{Bool, true, false, not, ◌&&◌}
 use lib.Dec.{leb}
-use lib.ListN.{length}
 use borrow.Author.Tests.{le-leb, lt-leb, not-true, not-false}
 use Rattle.numbers.proofs.Bools.{and_first, and_second}
 use Rattle.chain_theory.specs.Columns.{ChainColumns}
-use Rattle.chain_theory.specs.Check.{misshapen}
 use Rattle.chain_theory.specs.declared.ChainShape.{ChainShape}
-use Rattle.distance_words.proofs.Run.{slim, fits, roomy, runnable}
+use Rattle.distance_words.proofs.Run.{fits, roomy, runnable}
 
 stops : (a b : Bool) → a ≡ false → false ≡ (a && b)
 stops a b e = sym e ∙ and_first a b e

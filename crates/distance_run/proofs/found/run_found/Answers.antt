@@ -1,8 +1,7 @@
 -- By the ways that it ends.
-use mathlib.Core.Path.{sym}
 use mathlib.Core.List.{[]}
 use Rattle.chain_theory.specs.Columns.{chain_columns}
-use Rattle.distance_run.proofs.Founding.{blanks, too_many, found_refused, found_told}
+use Rattle.distance_run.proofs.Founding.{too_many, found_refused, found_told}
 use Rattle.distance_run.proofs.found.run_found.Goals as goal
 
 pub returns-then-n-gt4096 : goal.returns-then-n-gt4096
