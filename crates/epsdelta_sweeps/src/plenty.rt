@@ -63,10 +63,8 @@ pub(crate) fn plenty_between(starts: &[u32], s: usize, t: usize, plenty: f64) ->
     let b = starts[s + 1] as usize;
     let c = starts[t] as usize;
     let d = starts[t + 1] as usize;
-    if b - a <= ROW_MOST {
-        if d - c <= ROW_MOST {
-            return plenty;
-        }
+    if b - a <= ROW_MOST && d - c <= ROW_MOST {
+        return plenty;
     }
     0.0 / 0.0
 }
