@@ -1,5 +1,4 @@
 -- A refusal leaves all as it was; else the models are measured.
-use mathlib.Core.Path.{◌∙◌}
 use Rattle.bisim_core.specs.Data.{columns}
 use Rattle.chain_theory.specs.Columns.{chain_columns}
 use Rattle.bisim_measure.proofs.Measuring.{turned_back, measured}
