@@ -1,4 +1,6 @@
 -- What `build` makes passes the checks of a built model (`built_accepted`), and its rows are the edges of the transitions given (`read_back`).
+use Rattle.std.specs.Prelude.{Option}
+use Rattle.bisim_core.specs.declared.ids.StateId.{StateId}
 use mathlib.Core.Path.{◌≡◌, refl, sym, ap, ◌∙◌}
 use mathlib.Core.Bool.{Bool, true, false, not}
 use Prim.Native.Nat.{ℕ, zero, suc, ◌+◌, ◌≤◌, ◌<◌}
@@ -21,7 +23,6 @@ use Rattle.bisim_core.specs.Edges.{crowded_in}
 use Rattle.build_theory.specs.Edges.{edges, below, offsets}
 use Rattle.bisim_core.specs.Model.{begins, row, rows, large, thin, steady, rises, sound, unfit, joined_weighs, model_refusal}
 use Rattle.bisim_core.specs.declared.wlts.Shape.{Shape}
-use Rattle.bisim_core.specs.declared.wlts.Initial.{Initial}
 use Rattle.bisim_core.proofs.Distinct.{single_distinct}
 use Rattle.build_theory.specs.Checks.{labels_of, refusal}
 use Rattle.build_theory.proofs.Ranks.{AllE, all_map, all_both, Small, Of}
@@ -51,7 +52,7 @@ below_zero (a ∷ l) = let e = below_zero l in rw (le-ltb a.source 0 (omega arit
 
 -- ---- the model made
 
-module _ (states : ℕ) (initial : Initial) (C : Transitions) (given : ℕ) (M : Columns) (P : Passed states initial C given) where
+module _ (states : ℕ) (initial : Option StateId) (C : Transitions) (given : ℕ) (M : Columns) (P : Passed states initial C given) where
   abbrev D : List ℕ
   D = labels_of C given
 
@@ -188,7 +189,7 @@ none_refused (suc n) M done S h = let z : ◌≡◌ {A = ℕ} 0 1 = cc in absurd
 inner : {x y : Shape} → Model x ≡ Model y → x ≡ y
 inner {x} {y} p = cc
 
-module _ (states : ℕ) (initial : Initial) (C : Transitions) (given : ℕ) (M : Columns) (S : Shape) (h : (build states initial C given M).answer ≡ Model S) where
+module _ (states : ℕ) (initial : Option StateId) (C : Transitions) (given : ℕ) (M : Columns) (S : Shape) (h : (build states initial C given M).answer ≡ Model S) where
   unrefused : refusal states initial C given (short states given M) ≡ 0
   unfolding build
   unrefused = none_refused (refusal states initial C given (short states given M)) M (made states initial C given M) S h

@@ -1,4 +1,6 @@
 -- How `build` ends, by the plan: a refusal of the plan is its own, and else the columns are written from what the plan left.
+use Rattle.std.specs.Prelude.{Option}
+use Rattle.bisim_core.specs.declared.ids.StateId.{StateId}
 use mathlib.Core.Path.{◌≡◌, refl, sym, subst, ap, ◌∙◌}
 use mathlib.Core.Bool.{Bool, true, false, ◌||◌}
 use mathlib.Core.Logic.{◌⊎◌, inl, inr, ◌≢◌}
@@ -15,7 +17,6 @@ use Rattle.numbers.proofs.Bools.{lt_or_ge, or_f}
 use Rattle.numbers.proofs.Refuses.{check_same, hit, skip, none}
 use Rattle.bisim_core.specs.Data.{Edge, Transitions, Columns, columns}
 use Rattle.build_theory.specs.Edges.{edges, offsets}
-use Rattle.bisim_core.specs.declared.wlts.Initial.{Initial}
 use Rattle.build_theory.specs.Checks.{labels_of, oversized, outside, unweighed, crowded, missing, refusal}
 use Rattle.build_theory.proofs.Plan.{Lists, lists, weight_of, laid, shortest, Ending, ending, outcome, planned}
 use Rattle.build_theory.proofs.Steps.{rank, Rising, edges_in, Writable, Written}
@@ -72,7 +73,7 @@ done_is r M done e = subst (λ (x : ℕ). done ≡ settled x M done) (sym e) ref
 -- a call of `build`
 pub record Call : Type 0 where
   pub states : ℕ
-  pub initial : Initial
+  pub initial : Option StateId
   pub C : Transitions
   pub given : ℕ
   pub M : Columns
@@ -83,7 +84,7 @@ module _ (Z : Call) (few : Z.given ≤ 4096 → Z.given ≤ length Z.T) {s : Boo
   abbrev states : ℕ
   states = Z.states
 
-  abbrev initial : Initial
+  abbrev initial : Option StateId
   initial = Z.initial
 
   abbrev C : Transitions

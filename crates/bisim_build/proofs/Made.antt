@@ -1,4 +1,6 @@
 -- What no check refuses, and what then holds of the edges: sorting and joining leave edges that rise strictly, whose numbers are those of the transitions, and whose weights are sums of at most 4,096 weights.
+use Rattle.std.specs.Prelude.{Option}
+use Rattle.bisim_core.specs.declared.ids.StateId.{StateId}
 use mathlib.Core.Path.{◌≡◌, refl, subst, ap, ◌∙◌}
 use mathlib.Core.Bool.{Bool, true, false, ◌||◌, not}
 use Prim.Native.Nat.{ℕ, suc, min, ◌≤◌, ◌<◌}
@@ -20,7 +22,6 @@ use Rattle.bisim_core.specs.Data.{Edge, Transitions}
 use Rattle.bisim_core.specs.Edges.{crowded_in}
 use Rattle.build_theory.specs.Edges.{before, put, insert, sort_edges, same, taken, ended, runs, join, keep, nonzero, edges, numbered_at, numbered}
 use Rattle.bisim_core.specs.Model.{starts_outside, weighs}
-use Rattle.bisim_core.specs.declared.wlts.Initial.{Initial}
 use Rattle.bisim_core.proofs.Distinct.{intern_has}
 use Rattle.build_theory.specs.Checks.{labels_of, oversized, outside, unweighed, jump_at, crowded, missing, refusal}
 use Rattle.build_theory.proofs.Ranks.{AllE, all_map, all_sorted, all_nonzero, all_kept, all_span, Small, Of, all_join, sort_up, Strict, join_strict, nonzero_strict}
@@ -68,14 +69,14 @@ nonzero_length (a ∷ l) = pick (nonzero_length l) (is_zero a.weight)
 
 -- ---- transitions that no check refuses
 
-pub record Passed (states : ℕ) (initial : Initial) (C : Transitions) (given : ℕ) : Type 0 where
+pub record Passed (states : ℕ) (initial : Option StateId) (C : Transitions) (given : ℕ) : Type 0 where
   pub three : oversized states C given ≡ false
   pub four : outside states initial C given ≡ false
   pub five : unweighed C given ≡ false
   pub six : crowded states C given ≡ false
   pub there : missing C given ≡ false
 
-pub passes : (states : ℕ) (initial : Initial) (C : Transitions) (given : ℕ) (short : Bool) → refusal states initial C given short ≡ 0 → Passed states initial C given × (short ≡ false)
+pub passes : (states : ℕ) (initial : Option StateId) (C : Transitions) (given : ℕ) (short : Bool) → refusal states initial C given short ≡ 0 → Passed states initial C given × (short ≡ false)
 passes states initial C given short e =
     let (a, p) = check_none 2 (oversized states C given) _ e in
     let (b, q) = check_none 3 (outside states initial C given) _ p in
@@ -84,7 +85,7 @@ passes states initial C given short e =
     let (f, g) = or_f (missing C given) short (check_none 6 (missing C given || short) _ t).0 in
     (record { three = a; four = b; five = c; six = d; there = f }, g)
 
-module _ {states : ℕ} {initial : Initial} {C : Transitions} {given : ℕ} (P : Passed states initial C given) where
+module _ {states : ℕ} {initial : Option StateId} {C : Transitions} {given : ℕ} (P : Passed states initial C given) where
   abbrev D : List ℕ
   D = labels_of C given
 

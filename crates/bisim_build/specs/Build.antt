@@ -1,10 +1,11 @@
 -- `build`: what it refuses, and how it ends.
+use Rattle.std.specs.Prelude.{Option}
+use Rattle.bisim_core.specs.declared.ids.StateId.{StateId}
 use Rattle.std.specs.Prelude.{ℕ, zero, suc, ◌+◌, Bool, ◌||◌, List, map, length, ltb}
 use Rattle.numbers.specs.Lists.{span, all, over}
 use Rattle.bisim_core.specs.Data.{Edge, Transitions, Columns, columns}
 use Rattle.bisim_core.specs.Edges.{crowded_in}
 use Rattle.build_theory.specs.Edges.{nonzero, edges, offsets}
-use Rattle.bisim_core.specs.declared.wlts.Initial.{Initial}
 use Rattle.build_theory.specs.Checks.{labels_of, refusal}
 use Rattle.bisim_build.specs.declared.builder.Built.{Built}
 use Rattle.bisim_build.specs.declared.builder.Built.TheVariants.{Model, Refused}
@@ -25,7 +26,7 @@ abbrev pub ends : Built → Columns → Outcome
 ends r M = record { answer = r; memory = M }
 
 -- the model that has the label values D by their ids, and the edges E by source, label id and target
-abbrev pub modelled : ℕ → Initial → List ℕ → List Edge → Columns → Outcome
+abbrev pub modelled : ℕ → Option StateId → List ℕ → List Edge → Columns → Outcome
 modelled states initial D E M =
     ends (Model (record { states = states; edges = length E; labels = length D; initial = initial }))
     (columns (over D M.labels) (over (offsets states E) M.offsets)
@@ -34,7 +35,7 @@ modelled states initial D E M =
     (over (map (λ (a : Edge). a.weight) E) M.edge_weights))
 
 -- the model of the transitions given
-abbrev pub made : ℕ → Initial → Transitions → ℕ → Columns → Outcome
+abbrev pub made : ℕ → Option StateId → Transitions → ℕ → Columns → Outcome
 made states initial C given M = modelled states initial (labels_of C given) (edges C given) M
 
 -- a refusal returns its number only, and leaves the columns as they were
@@ -42,6 +43,6 @@ abbrev pub settled : ℕ → Columns → Outcome → Outcome
 settled zero M done = done
 settled (suc r) M done = ends (Refused (suc r)) M
 
-unfoldable pub build : ℕ → Initial → Transitions → ℕ → Columns → Outcome
+unfoldable pub build : ℕ → Option StateId → Transitions → ℕ → Columns → Outcome
 unfolding all nonzero crowded_in edges span
 build states initial C given M = settled (refusal states initial C given (short states given M)) M (made states initial C given M)

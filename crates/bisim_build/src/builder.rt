@@ -5,7 +5,8 @@ ghost use Rattle.bisim_build.specs.Build;
 ghost use Rattle.bisim_build.specs.Build.{ends};
 
 use crate::write;
-use bisim_core::wlts::{Initial, Shape};
+use bisim_core::ids::StateId;
+use bisim_core::wlts::Shape;
 use bisim_edges::planner::{Planned, plan};
 
 #[derive(Clone, Copy)]
@@ -17,7 +18,7 @@ pub enum Built {
 // `build`, with work space for the transitions given, if they are not too many.
 fn build_in(
     states: usize,
-    initial: Initial,
+    initial: Option<StateId>,
     sources: &[u32],
     labels: &[u32],
     targets: &[u32],
@@ -72,7 +73,7 @@ fn build_in(
 // The model of the transitions given, or the number of the first check that fails. Its columns go into the last five lists.
 pub fn build(
     states: usize,
-    initial: Initial,
+    initial: Option<StateId>,
     sources: &[u32],
     labels: &[u32],
     targets: &[u32],

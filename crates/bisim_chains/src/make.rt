@@ -1,6 +1,6 @@
 // The checks of all arguments, and the chains of both models, made in the lists that are lent for them.
 ghost use Rattle.std.specs.Prelude.{◌≡◌, [], ◌∷◌};
-ghost use Rattle.bisim_core.specs.Data.{columns};
+ghost use Rattle.bisim_core.specs.Data.{columns, columns_of};
 ghost use Rattle.bisim_core.specs.Model.{model};
 ghost use Rattle.chain_theory.specs.Columns.{chain_columns};
 ghost use Rattle.bisim_checks.proofs.Passed.{Side};
@@ -9,7 +9,7 @@ ghost use Rattle.bisim_chains.specs.Made.{no_chains, rate_of, made, made_of, bis
 use bisim_checks::rest::Rest;
 use bisim_checks::sides::bisim_refusal;
 use bisim_core::ids::StateId;
-use bisim_core::wlts::Shape;
+use bisim_core::wlts::{Shape, Wlts};
 use chain_theory::ChainShape;
 use chains::chain::{Rated, common_rate, lay_chain};
 use normalise::scale_together;
@@ -49,24 +49,14 @@ fn rate_of(rated: Rated) -> f64
 
 // Two models that passed all checks, at the common rate, from a state of each, their observations scaled together.
 fn lay_chains(
-    left: Shape,
-    left_values: &[u32],
-    left_offsets: &[u32],
-    left_labels: &[u32],
-    left_targets: &[u32],
-    left_weights: &[f64],
+    left: &Wlts,
     left_state: StateId,
     left_observations: &[f64],
     left_chain_offsets: &mut [u32],
     left_chain_targets: &mut [u32],
     left_chain_probs: &mut [f64],
     left_chain_seen: &mut [f64],
-    right: Shape,
-    right_values: &[u32],
-    right_offsets: &[u32],
-    right_labels: &[u32],
-    right_targets: &[u32],
-    right_weights: &[f64],
+    right: &Wlts,
     right_state: StateId,
     right_observations: &[f64],
     right_chain_offsets: &mut [u32],
@@ -74,32 +64,14 @@ fn lay_chains(
     right_chain_probs: &mut [f64],
     right_chain_seen: &mut [f64],
 ) -> Chains
-    requires side { Side left (columns left_values.now left_offsets.now left_labels.now left_targets.now left_weights.now) left_state.0 left_observations.now (chain_columns left_chain_offsets.old left_chain_targets.old left_chain_probs.old left_chain_seen.old) }
-    requires side_2 { Side right (columns right_values.now right_offsets.now right_labels.now right_targets.now right_weights.now) right_state.0 right_observations.now (chain_columns right_chain_offsets.old right_chain_targets.old right_chain_probs.old right_chain_seen.old) }
-    ensures { made result (chain_columns left_chain_offsets.new left_chain_targets.new left_chain_probs.new left_chain_seen.new) (chain_columns right_chain_offsets.new right_chain_targets.new right_chain_probs.new right_chain_seen.new) ≡ made_of (model left (columns left_values.now left_offsets.now left_labels.now left_targets.now left_weights.now)) left_state.0 left_observations.now (chain_columns left_chain_offsets.old left_chain_targets.old left_chain_probs.old left_chain_seen.old) (model right (columns right_values.now right_offsets.now right_labels.now right_targets.now right_weights.now)) right_state.0 right_observations.now (chain_columns right_chain_offsets.old right_chain_targets.old right_chain_probs.old right_chain_seen.old) }
+    requires side { Side left.now.shape (columns_of left.now) left_state.0 left_observations.now (chain_columns left_chain_offsets.old left_chain_targets.old left_chain_probs.old left_chain_seen.old) }
+    requires side_2 { Side right.now.shape (columns_of right.now) right_state.0 right_observations.now (chain_columns right_chain_offsets.old right_chain_targets.old right_chain_probs.old right_chain_seen.old) }
+    ensures { made result (chain_columns left_chain_offsets.new left_chain_targets.new left_chain_probs.new left_chain_seen.new) (chain_columns right_chain_offsets.new right_chain_targets.new right_chain_probs.new right_chain_seen.new) ≡ made_of (model left.now.shape (columns_of left.now)) left_state.0 left_observations.now (chain_columns left_chain_offsets.old left_chain_targets.old left_chain_probs.old left_chain_seen.old) (model right.now.shape (columns_of right.now)) right_state.0 right_observations.now (chain_columns right_chain_offsets.old right_chain_targets.old right_chain_probs.old right_chain_seen.old) }
 {
-    let rated = common_rate(
-        left,
-        left_values,
-        left_offsets,
-        left_labels,
-        left_targets,
-        left_weights,
-        right,
-        right_values,
-        right_offsets,
-        right_labels,
-        right_targets,
-        right_weights,
-    );
+    let rated = common_rate(left, right);
     let rate = rate_of(rated);
     let first = lay_chain(
         left,
-        left_values,
-        left_offsets,
-        left_labels,
-        left_targets,
-        left_weights,
         rate,
         left_observations,
         left_state,
@@ -110,11 +82,6 @@ fn lay_chains(
     );
     let second = lay_chain(
         right,
-        right_values,
-        right_offsets,
-        right_labels,
-        right_targets,
-        right_weights,
         rate,
         right_observations,
         right_state,
@@ -138,24 +105,14 @@ fn lay_chains(
 
 // The chains of two models, where no check of the arguments of `bisim_distance` fails; else the lists are as they were.
 pub fn make_chains(
-    left: Shape,
-    left_values: &[u32],
-    left_offsets: &[u32],
-    left_labels: &[u32],
-    left_targets: &[u32],
-    left_weights: &[f64],
+    left: &Wlts,
     left_state: StateId,
     left_observations: &[f64],
     left_chain_offsets: &mut [u32],
     left_chain_targets: &mut [u32],
     left_chain_probs: &mut [f64],
     left_chain_seen: &mut [f64],
-    right: Shape,
-    right_values: &[u32],
-    right_offsets: &[u32],
-    right_labels: &[u32],
-    right_targets: &[u32],
-    right_weights: &[f64],
+    right: &Wlts,
     right_state: StateId,
     right_observations: &[f64],
     right_chain_offsets: &mut [u32],
@@ -164,15 +121,10 @@ pub fn make_chains(
     right_chain_seen: &mut [f64],
     rest: Rest,
 ) -> Chains
-    ensures { made result (chain_columns left_chain_offsets.new left_chain_targets.new left_chain_probs.new left_chain_seen.new) (chain_columns right_chain_offsets.new right_chain_targets.new right_chain_probs.new right_chain_seen.new) ≡ bisim_made left (columns left_values.now left_offsets.now left_labels.now left_targets.now left_weights.now) left_state.0 left_observations.now (chain_columns left_chain_offsets.old left_chain_targets.old left_chain_probs.old left_chain_seen.old) right (columns right_values.now right_offsets.now right_labels.now right_targets.now right_weights.now) right_state.0 right_observations.now (chain_columns right_chain_offsets.old right_chain_targets.old right_chain_probs.old right_chain_seen.old) rest.gamma rest.options (rest.lefts ∷ rest.rights ∷ rest.codes ∷ []) rest.records }
+    ensures { made result (chain_columns left_chain_offsets.new left_chain_targets.new left_chain_probs.new left_chain_seen.new) (chain_columns right_chain_offsets.new right_chain_targets.new right_chain_probs.new right_chain_seen.new) ≡ bisim_made left.now.shape (columns_of left.now) left_state.0 left_observations.now (chain_columns left_chain_offsets.old left_chain_targets.old left_chain_probs.old left_chain_seen.old) right.now.shape (columns_of right.now) right_state.0 right_observations.now (chain_columns right_chain_offsets.old right_chain_targets.old right_chain_probs.old right_chain_seen.old) rest.gamma rest.options (rest.lefts ∷ rest.rights ∷ rest.codes ∷ []) rest.records }
 {
     let refusal = bisim_refusal(
         left,
-        left_values,
-        left_offsets,
-        left_labels,
-        left_targets,
-        left_weights,
         left_state,
         left_observations,
         left_chain_offsets,
@@ -180,11 +132,6 @@ pub fn make_chains(
         left_chain_probs,
         left_chain_seen,
         right,
-        right_values,
-        right_offsets,
-        right_labels,
-        right_targets,
-        right_weights,
         right_state,
         right_observations,
         right_chain_offsets,
@@ -198,11 +145,6 @@ pub fn make_chains(
     }
     lay_chains(
         left,
-        left_values,
-        left_offsets,
-        left_labels,
-        left_targets,
-        left_weights,
         left_state,
         left_observations,
         left_chain_offsets,
@@ -210,11 +152,6 @@ pub fn make_chains(
         left_chain_probs,
         left_chain_seen,
         right,
-        right_values,
-        right_offsets,
-        right_labels,
-        right_targets,
-        right_weights,
         right_state,
         right_observations,
         right_chain_offsets,

@@ -18,8 +18,7 @@ use Rattle.bisim_core.specs.Ids.{distinct}
 use Rattle.bisim_core.specs.Edges.{others, crowded_at, crowded_in}
 use Rattle.bisim_core.specs.declared.ids.StateId.{StateId}
 use Rattle.bisim_core.specs.declared.wlts.Shape.{Shape}
-use Rattle.bisim_core.specs.declared.wlts.Initial.{Initial}
-use Rattle.bisim_core.specs.declared.wlts.Initial.TheVariants.{At}
+use Rattle.std.specs.Prelude.{Option, Some}
 use Rattle.bisim_core.specs.Model.{begins, edge_at, row, rows, follows, rises, large, starts_outside, unfit, joined_weighs, model_refusal}
 use Rattle.bisim_core.proofs.Models.{begins_up, row_is, crowded_at_lem, crowded_by}
 use Rattle.bisim_core.proofs.RowChecks.{rise_at}
@@ -34,7 +33,7 @@ pub record Accepted (S : Shape) (M : Columns) : Type 0 where
   pub edge_targets_long : S.edges ≤ length M.edge_targets
   pub edge_weights_long : S.edges ≤ length M.edge_weights
   pub labels_long : S.labels ≤ length M.labels
-  pub start_in : (s : StateId) → S.initial ≡ At s → s.0 < S.states
+  pub start_in : (s : StateId) → S.initial ≡ Some s → s.0 < S.states
   pub begins_first : begins M 0 ≡ 0
   pub begins_last : begins M S.states ≡ S.edges
   pub begins_rise : (s : ℕ) → s < S.states → begins M s ≤ begins M (s + 1)
@@ -48,8 +47,8 @@ pub record Accepted (S : Shape) (M : Columns) : Type 0 where
   pub labels_single : (i : ℕ) → i < S.labels → seek (get_or M.labels i 0) (take S.labels M.labels) ≡ i
   pub others_few : (s : ℕ) → s < S.states → length (distinct (others s (row M s))) ≤ 31
 
-started_in : (initial : Initial) (n : ℕ) (s : StateId) → starts_outside initial n ≡ false → initial ≡ At s → s.0 < n
-started_in initial n s e f = ltb-true _ _ (not-false _ (ap (λ (i : Initial). starts_outside i n) (sym f) ∙ e))
+started_in : (initial : Option StateId) (n : ℕ) (s : StateId) → starts_outside initial n ≡ false → initial ≡ Some s → s.0 < n
+started_in initial n s e f = ltb-true _ _ (not-false _ (ap (λ (i : Option StateId). starts_outside i n) (sym f) ∙ e))
 
 module _ {S : Shape} {M : Columns} (F : Fit S M) where
   module _ (e : all joined_weighs (rows M 0 S.states) ≡ true) (i : ℕ) (h : i < S.edges) where

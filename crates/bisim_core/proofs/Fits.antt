@@ -1,6 +1,6 @@
 -- What the checks that a model passed say in plain facts, and its edges tested in order for its rows.
 use mathlib.Core.Path.{◌≡◌, refl, sym, ap, ◌∙◌}
-use mathlib.Core.Bool.{Bool, true, false, ◌&&◌, not}
+use mathlib.Core.Bool.{Bool, true, false, ◌&&◌, ◌||◌, not}
 use Prim.Native.Nat.{ℕ, ◌+◌, ◌≤◌, ◌<◌}
 use native.Mathlib.Omega.{arith}
 use lib.Dec.{ltb}
@@ -16,7 +16,7 @@ use Rattle.bisim_core.specs.Data.{Columns}
 use Rattle.bisim_core.specs.Ids.{single}
 use Rattle.bisim_core.specs.Edges.{crowded_in}
 use Rattle.bisim_core.specs.declared.wlts.Shape.{Shape}
-use Rattle.bisim_core.specs.Model.{begins, edge_at, row, rows, rises, large, starts_outside, thin, steady, sound, unfit, joined_weighs, model_refusal}
+use Rattle.bisim_core.specs.Model.{begins, edge_at, row, rows, rises, large, starts_outside, thin, steady, sound, unfit, joined_weighs, refusal_with}
 use Rattle.bisim_core.proofs.Models.{rows_every}
 
 pub record Small (S : Shape) : Type 0 where
@@ -116,26 +116,21 @@ module _ {S : Shape} {M : Columns} (F : Fit S M) where
 
 -- ---- the first check that fails
 
-module _ (S : Shape) (M : Columns) where
-  pub refused_3 : large S ≡ true → 3 ≡ model_refusal S M
-  unfolding model_refusal
+module _ (stray : Bool) (S : Shape) (M : Columns) where
+  pub refused_3 : large S ≡ true → 3 ≡ refusal_with stray S M
   refused_3 e = sym (check_hit _ _ _ e)
 
   module _ (c3 : large S ≡ false) where
-    pub refused_4 : unfit S M ≡ true → 4 ≡ model_refusal S M
-    unfolding model_refusal
+    pub refused_4 : (stray || unfit S M) ≡ true → 4 ≡ refusal_with stray S M
     refused_4 e = sym (check_skip _ _ _ _ c3 (check_hit _ _ _ e))
 
-    module _ (c4 : unfit S M ≡ false) where
-      pub refused_5 : not (all joined_weighs (rows M 0 S.states)) ≡ true → 5 ≡ model_refusal S M
-      unfolding model_refusal
+    module _ (c4 : (stray || unfit S M) ≡ false) where
+      pub refused_5 : not (all joined_weighs (rows M 0 S.states)) ≡ true → 5 ≡ refusal_with stray S M
       refused_5 e = sym (check_skip _ _ _ _ c3 (check_skip _ _ _ _ c4 (check_hit _ _ _ e)))
 
       module _ (c5 : not (all joined_weighs (rows M 0 S.states)) ≡ false) where
-        pub refused_6 : crowded_in (rows M 0 S.states) (span 0 S.states) ≡ true → 6 ≡ model_refusal S M
-        unfolding model_refusal
+        pub refused_6 : crowded_in (rows M 0 S.states) (span 0 S.states) ≡ true → 6 ≡ refusal_with stray S M
         refused_6 e = sym (check_skip _ _ _ _ c3 (check_skip _ _ _ _ c4 (check_skip _ _ _ _ c5 (check_hit _ _ _ e))))
 
-        pub refused_none : crowded_in (rows M 0 S.states) (span 0 S.states) ≡ false → 0 ≡ model_refusal S M
-        unfolding model_refusal
+        pub refused_none : crowded_in (rows M 0 S.states) (span 0 S.states) ≡ false → 0 ≡ refusal_with stray S M
         refused_none e = sym (check_skip _ _ _ _ c3 (check_skip _ _ _ _ c4 (check_skip _ _ _ _ c5 (check_skip _ _ _ _ e refl))))

@@ -1,5 +1,6 @@
 -- The records that the definitions of models speak of.
 use Rattle.std.specs.Prelude.{ℕ, List, Float}
+use Rattle.bisim_core.specs.declared.wlts.Wlts.{Wlts}
 
 -- a transition whose label has its id
 pub record Edge : Type 0 where
@@ -29,3 +30,7 @@ transitions s l t w = record { sources = s; labels = l; targets = t; weights = w
 
 abbrev pub columns : List ℕ → List ℕ → List ℕ → List ℕ → List Float → Columns
 columns l o el et ew = record { labels = l; offsets = o; edge_labels = el; edge_targets = et; edge_weights = ew }
+
+-- those that a model lends
+abbrev pub columns_of : Wlts → Columns
+columns_of M = columns M.label_values.now M.offsets.now M.edge_labels.now M.edge_targets.now M.edge_weights.now

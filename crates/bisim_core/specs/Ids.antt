@@ -1,18 +1,17 @@
 -- Label ids by first appearance, over a list of label values: `Interner` of ids.rs.
-use Rattle.std.specs.Prelude.{ℕ, zero, suc, Bool, true, false, ◌&&◌, ◌||◌, not, List, [], ◌∷◌, ◌++◌, length, get_or, take, eqb, ltb, leb}
-use Rattle.numbers.specs.Refuse.{check}
+use Rattle.std.specs.Prelude.{ℕ, zero, suc, Bool, true, false, ◌&&◌, ◌||◌, not, cond, Option, Some, None, Result, Ok, Err, List, [], ◌∷◌, ◌++◌, length, get_or, take, eqb, ltb, leb}
+use Rattle.numbers.specs.Refuse.{check, answered}
 use Rattle.numbers.specs.Lists.{every, over}
 use Rattle.numbers.specs.Search.{seek}
-use Rattle.bisim_core.specs.declared.ids.Interned.{Interned}
-use Rattle.bisim_core.specs.declared.ids.Interned.TheVariants as interned
-use Rattle.bisim_core.specs.declared.ids.Found.{Found}
-use Rattle.bisim_core.specs.declared.ids.Found.TheVariants as found
-use Rattle.bisim_core.specs.declared.ids.Resolved.{Resolved}
-use Rattle.bisim_core.specs.declared.ids.Resolved.TheVariants as resolved
+use Rattle.bisim_core.specs.declared.ids.LabelId.{LabelId}
 
 -- is x in the list
 abbrev pub listed : ℕ → List ℕ → Bool
 listed x l = ltb (seek x l) (length l)
+
+-- where it first stands, if it does
+abbrev pub place : ℕ → List ℕ → Option ℕ
+place x l = cond (listed x l) (Some (seek x l)) None
 
 abbrev pub noted : Bool → ℕ → List ℕ → List ℕ
 noted true x known = known
@@ -55,43 +54,35 @@ resolve_refusal labels count id = check 3 (ltb 256 count) (check 4 (leb count id
 
 -- ---- outcomes
 
--- how `intern` ends: its answer, and what is then in the list
+-- how `intern` ends: its answer, the id and how many values are then in use, and what is then in the list
 pub record Outcome : Type 0 where
-  pub answer : Interned
+  pub answer : Result (LabelId × ℕ) ℕ
   pub labels : List ℕ
 
-abbrev pub ends : Interned → List ℕ → Outcome
+abbrev pub ends : Result (LabelId × ℕ) ℕ → List ℕ → Outcome
 ends r l = record { answer = r; labels = l }
 
 -- the id of a value among those known then, and how many they are
 abbrev pub entered : List ℕ → ℕ → List ℕ → Outcome
-entered known value labels = ends (interned.Id (record { 0 = seek value known }) (length known)) (over known labels)
+entered known value labels = ends (Ok (record { 0 = seek value known }, length known)) (over known labels)
 
 abbrev pub intern_ends : ℕ → List ℕ → Outcome → Outcome
 intern_ends zero labels done = done
-intern_ends (suc n) labels done = ends (interned.Refused (suc n)) labels
+intern_ends (suc n) labels done = ends (Err (suc n)) labels
 
 unfoldable pub interning : List ℕ → ℕ → ℕ → Outcome
 unfolding intern seek every
 interning labels count value = intern_ends (intern_refusal labels count value) labels (entered (intern (take count labels) (value ∷ [])) value labels)
 
 -- the id of a value, if it has one
-abbrev pub id_of : Bool → ℕ → Found
-id_of true i = found.Id (record { 0 = i })
-id_of false i = found.Absent
+abbrev pub id_of : Bool → ℕ → Option LabelId
+id_of true i = Some (record { 0 = i })
+id_of false i = None
 
-abbrev pub get_ends : ℕ → Found → Found
-get_ends zero done = done
-get_ends (suc n) done = found.Refused (suc n)
-
-unfoldable pub get : List ℕ → ℕ → ℕ → Found
+unfoldable pub get : List ℕ → ℕ → ℕ → Result (Option LabelId) ℕ
 unfolding seek every
-get labels count value = get_ends (get_refusal labels count) (id_of (listed value (take count labels)) (seek value (take count labels)))
+get labels count value = answered (get_refusal labels count) (id_of (listed value (take count labels)) (seek value (take count labels)))
 
-abbrev pub resolve_ends : ℕ → ℕ → Resolved
-resolve_ends zero x = resolved.Label x
-resolve_ends (suc n) x = resolved.Refused (suc n)
-
-unfoldable pub resolve : List ℕ → ℕ → ℕ → Resolved
+unfoldable pub resolve : List ℕ → ℕ → ℕ → Result ℕ ℕ
 unfolding seek every
-resolve labels count id = resolve_ends (resolve_refusal labels count id) (get_or labels id 0)
+resolve labels count id = answered (resolve_refusal labels count id) (get_or labels id 0)

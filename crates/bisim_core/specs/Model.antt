@@ -1,25 +1,17 @@
 -- A built model that is handed in, its counts beside its columns: when it is accepted, and what its readers answer (`Wlts` of wlts.rs).
-use Rattle.std.specs.Prelude.{ℕ, zero, suc, ◌+◌, ◌-◌, Bool, true, false, ◌&&◌, ◌||◌, not, List, [], ◌∷◌, ◌++◌, map, length, get_or, take, eqb, ltb, leb, Float}
+use Rattle.std.specs.Prelude.{ℕ, zero, suc, ◌+◌, ◌-◌, Bool, true, false, ◌&&◌, ◌||◌, not, Option, Some, None, Result, List, [], ◌∷◌, ◌++◌, map, length, get_or, take, eqb, ltb, leb, Float}
 use Rattle.std.specs.Float.{nan}
 use Rattle.std.specs.Float.Ieee.{le}
-use Rattle.numbers.specs.Refuse.{check}
+use Rattle.numbers.specs.Refuse.{check, answered}
 use Rattle.numbers.specs.Lists.{span, every, all}
 use Rattle.numbers.specs.Search.{seek}
 use Rattle.numbers.specs.Real.{is_zero, least_weight, greatest_weight, greatest_joined}
 use Rattle.bisim_core.specs.Data.{Edge, Columns}
-use Rattle.bisim_core.specs.Ids.{listed, single, id_of, get_ends, resolve_ends}
+use Rattle.bisim_core.specs.Ids.{listed, single, id_of}
 use Rattle.bisim_core.specs.Edges.{crowded_in}
-use Rattle.bisim_core.specs.declared.ids.Found.{Found}
-use Rattle.bisim_core.specs.declared.ids.Resolved.{Resolved}
+use Rattle.bisim_core.specs.declared.ids.StateId.{StateId}
+use Rattle.bisim_core.specs.declared.ids.LabelId.{LabelId}
 use Rattle.bisim_core.specs.declared.wlts.Shape.{Shape}
-use Rattle.bisim_core.specs.declared.wlts.Initial.{Initial}
-use Rattle.bisim_core.specs.declared.wlts.Initial.TheVariants.{At, Absent}
-use Rattle.bisim_core.specs.declared.wlts.Counted.{Counted}
-use Rattle.bisim_core.specs.declared.wlts.Counted.TheVariants as counted
-use Rattle.bisim_core.specs.declared.wlts.Start.{Start}
-use Rattle.bisim_core.specs.declared.wlts.Start.TheVariants as start
-use Rattle.bisim_core.specs.declared.wlts.Successors.{Successors}
-use Rattle.bisim_core.specs.declared.wlts.Successors.TheVariants as successors
 
 -- ---- what the columns say
 
@@ -54,9 +46,9 @@ abbrev pub large : Shape → Bool
 large S = ltb 2000 S.states || (ltb 4096 S.edges || ltb 256 S.labels)
 
 -- an initial state that is not below the state count
-abbrev pub starts_outside : Initial → ℕ → Bool
-starts_outside (At s) states = not (ltb s.0 states)
-starts_outside Absent states = false
+abbrev pub starts_outside : Option StateId → ℕ → Bool
+starts_outside (Some s) states = not (ltb s.0 states)
+starts_outside None states = false
 
 -- too few offsets, edges or labels for the counts
 abbrev pub thin : Shape → Columns → Bool
@@ -125,51 +117,34 @@ model_refusal S M = refusal_with false S M
 
 -- ---- the readers
 
--- a count
-abbrev pub count_ends : ℕ → ℕ → Counted
-count_ends zero n = counted.Number n
-count_ends (suc r) n = counted.Refused (suc r)
-
-unfoldable pub num_states : Shape → Columns → Counted
+unfoldable pub num_states : Shape → Columns → Result ℕ ℕ
 unfolding model_refusal
-num_states S M = count_ends (model_refusal S M) S.states
+num_states S M = answered (model_refusal S M) S.states
 
-unfoldable pub num_transitions : Shape → Columns → Counted
+unfoldable pub num_transitions : Shape → Columns → Result ℕ ℕ
 unfolding model_refusal
-num_transitions S M = count_ends (model_refusal S M) S.edges
+num_transitions S M = answered (model_refusal S M) S.edges
 
-unfoldable pub num_labels : Shape → Columns → Counted
+unfoldable pub num_labels : Shape → Columns → Result ℕ ℕ
 unfolding model_refusal
-num_labels S M = count_ends (model_refusal S M) S.labels
+num_labels S M = answered (model_refusal S M) S.labels
 
 -- the initial state, if there is one
-abbrev pub start_of : Initial → Start
-start_of (At s) = start.At s
-start_of Absent = start.Absent
-
-abbrev pub start_ends : ℕ → Start → Start
-start_ends zero done = done
-start_ends (suc r) done = start.Refused (suc r)
-
-unfoldable pub initial : Shape → Columns → Start
+unfoldable pub initial : Shape → Columns → Result (Option StateId) ℕ
 unfolding model_refusal
-initial S M = start_ends (model_refusal S M) (start_of S.initial)
+initial S M = answered (model_refusal S M) S.initial
 
 -- the edges of state s: from where, and up to where
-abbrev pub row_ends : ℕ → ℕ → ℕ → Successors
-row_ends zero from to = successors.Edges from to
-row_ends (suc r) from to = successors.Refused (suc r)
-
-unfoldable pub successors_of : Shape → Columns → ℕ → Successors
+unfoldable pub successors_of : Shape → Columns → ℕ → Result (ℕ × ℕ) ℕ
 unfolding every all rises rows row span crowded_in
-successors_of S M s = row_ends (refusal_with (leb S.states s) S M) (begins M s) (begins M (s + 1))
+successors_of S M s = answered (refusal_with (leb S.states s) S M) (begins M s, begins M (s + 1))
 
 -- the label value of an id
-unfoldable pub label : Shape → Columns → ℕ → Resolved
+unfoldable pub label : Shape → Columns → ℕ → Result ℕ ℕ
 unfolding every all rises rows row span crowded_in
-label S M id = resolve_ends (refusal_with (leb S.labels id) S M) (get_or M.labels id 0)
+label S M id = answered (refusal_with (leb S.labels id) S M) (get_or M.labels id 0)
 
 -- the id of a label value, if it has one
-unfoldable pub label_id : Shape → Columns → ℕ → Found
+unfoldable pub label_id : Shape → Columns → ℕ → Result (Option LabelId) ℕ
 unfolding model_refusal seek
-label_id S M value = get_ends (model_refusal S M) (id_of (listed value (take S.labels M.labels)) (seek value (take S.labels M.labels)))
+label_id S M value = answered (model_refusal S M) (id_of (listed value (take S.labels M.labels)) (seek value (take S.labels M.labels)))

@@ -4,21 +4,15 @@ ghost use Rattle.std.specs.Float.Ieee.{le};
 ghost use Rattle.std.specs.Float.{nan};
 ghost use Rattle.numbers.specs.Lists.{span, every};
 ghost use Rattle.numbers.specs.Real.{is_zero, least_weight, greatest_joined};
-ghost use Rattle.bisim_core.specs.Data.{columns};
+ghost use Rattle.bisim_core.specs.Data.{columns, columns_of};
 ghost use Rattle.bisim_core.specs.Ids.{distinct};
 ghost use Rattle.bisim_core.specs.Edges.{others, crowded_in};
 ghost use Rattle.bisim_core.specs.Model;
 ghost use Rattle.bisim_core.specs.Model.{edge_at, rises, row, rows};
 
 use crate::ids::single;
-use crate::wlts::{Shape, starts_outside};
+use crate::wlts::{Shape, Wlts, starts_outside};
 use numbers::{GREATEST_JOINED, LEAST_WEIGHT};
-
-pub(crate) fn wide(x: u32) -> usize
-    ensures { result ≡ x }
-{
-    x as usize
-}
 
 // ---- check 3
 
@@ -30,47 +24,28 @@ pub(crate) fn large(shape: Shape) -> bool
 
 // ---- check 4
 
-fn thin(
-    shape: Shape,
-    label_values: &[u32],
-    offsets: &[u32],
-    edge_labels: &[u32],
-    edge_targets: &[u32],
-    edge_weights: &[f64],
-) -> bool
-    ensures { result ≡ Model.thin shape (columns label_values.now offsets.now edge_labels.now edge_targets.now edge_weights.now) }
+fn thin(model: &Wlts) -> bool
+    ensures { result ≡ Model.thin model.now.shape (columns_of model.now) }
 {
-    if offsets.len() <= shape.states {
-        return true;
-    }
-    if edge_labels.len() < shape.edges {
-        return true;
-    }
-    if edge_targets.len() < shape.edges {
-        return true;
-    }
-    if edge_weights.len() < shape.edges {
-        return true;
-    }
-    label_values.len() < shape.labels
+    let shape = model.shape;
+    model.offsets.len() <= shape.states
+        || (model.edge_labels.len() < shape.edges
+            || (model.edge_targets.len() < shape.edges
+                || (model.edge_weights.len() < shape.edges
+                    || model.label_values.len() < shape.labels)))
 }
 
 fn steady(states: usize, edges: usize, offsets: &[u32]) -> bool
     requires { states < length offsets.now }
     ensures { result ≡ (eqb (get_or offsets.now 0 0) 0 && (eqb (get_or offsets.now states 0) edges && every (λ s. leb (get_or offsets.now s 0) (get_or offsets.now (s + 1) 0)) states)) }
 {
-    if offsets[0] != 0 {
+    if offsets[0] != 0 || offsets[states] as usize != edges {
         return false;
     }
-    if wide(offsets[states]) != edges {
-        return false;
-    }
-    let mut s = 0;
-    while s < states {
+    for s in 0..states {
         if offsets[s] > offsets[s + 1] {
             return false;
         }
-        s += 1;
     }
     true
 }
@@ -87,8 +62,7 @@ fn row_rises(edge_labels: &[u32], edge_targets: &[u32], from: usize, to: usize) 
     requires { (from ≤ to) × (to ≤ length edge_labels.now) × (to ≤ length edge_targets.now) }
     ensures { (s : ℕ) (W : List Float) → result ≡ rises (map (edge_at (columns [] [] edge_labels.now edge_targets.now W) s) (span from (to - from))) }
 {
-    let mut i = from;
-    while i + 1 < to {
+    for i in from..to.saturating_sub(1) {
         if !follows(
             edge_labels[i],
             edge_targets[i],
@@ -97,23 +71,20 @@ fn row_rises(edge_labels: &[u32], edge_targets: &[u32], from: usize, to: usize) 
         ) {
             return false;
         }
-        i += 1;
     }
     true
 }
 
-fn rows_rise(states: usize, offsets: &[u32], edge_labels: &[u32], edge_targets: &[u32]) -> bool
-    requires { (states < length offsets.now) × (((s : ℕ) → s < states → get_or offsets.now s 0 ≤ get_or offsets.now (s + 1) 0)) × (get_or offsets.now states 0 ≤ length edge_labels.now) × (get_or offsets.now states 0 ≤ length edge_targets.now) }
-    ensures { (D : List ℕ) (W : List Float) → result ≡ every (λ s. rises (row (columns D offsets.now edge_labels.now edge_targets.now W) s)) states }
+fn rows_rise(model: &Wlts) -> bool
+    requires { (model.now.shape.states < length model.now.offsets.now) × (((s : ℕ) → s < model.now.shape.states → get_or model.now.offsets.now s 0 ≤ get_or model.now.offsets.now (s + 1) 0)) × (get_or model.now.offsets.now model.now.shape.states 0 ≤ length model.now.edge_labels.now) × (get_or model.now.offsets.now model.now.shape.states 0 ≤ length model.now.edge_targets.now) }
+    ensures { result ≡ every (λ s. rises (row (columns_of model.now) s)) model.now.shape.states }
 {
-    let mut s = 0;
-    while s < states {
-        let from = wide(offsets[s]);
-        let to = wide(offsets[s + 1]);
-        if !row_rises(edge_labels, edge_targets, from, to) {
+    for s in 0..model.shape.states {
+        let from = model.offsets[s] as usize;
+        let to = model.offsets[s + 1] as usize;
+        if !row_rises(model.edge_labels, model.edge_targets, from, to) {
             return false;
         }
-        s += 1;
     }
     true
 }
@@ -122,68 +93,48 @@ fn rows_rise(states: usize, offsets: &[u32], edge_labels: &[u32], edge_targets: 
 fn sound(states: usize, labels: usize, label: u32, target: u32, weight: f64) -> bool
     ensures { result ≡ (ltb target states && (ltb label labels && not (is_zero weight))) }
 {
-    wide(target) < states && (wide(label) < labels && !(weight == 0.0))
+    (target as usize) < states && ((label as usize) < labels && !(weight == 0.0))
 }
 
-fn sound_edges(
-    shape: Shape,
-    edge_labels: &[u32],
-    edge_targets: &[u32],
-    edge_weights: &[f64],
-) -> bool
-    requires { (shape.edges ≤ length edge_labels.now) × (shape.edges ≤ length edge_targets.now) × (shape.edges ≤ length edge_weights.now) }
-    ensures { result ≡ every (λ i. Model.sound shape (edge_at (columns [] [] edge_labels.now edge_targets.now edge_weights.now) 0 i)) shape.edges }
+fn sound_edges(model: &Wlts) -> bool
+    requires { (model.now.shape.edges ≤ length model.now.edge_labels.now) × (model.now.shape.edges ≤ length model.now.edge_targets.now) × (model.now.shape.edges ≤ length model.now.edge_weights.now) }
+    ensures { result ≡ every (λ i. Model.sound model.now.shape (edge_at (columns_of model.now) 0 i)) model.now.shape.edges }
 {
-    let mut i = 0;
-    while i < shape.edges {
+    let shape = model.shape;
+    for i in 0..shape.edges {
         if !sound(
             shape.states,
             shape.labels,
-            edge_labels[i],
-            edge_targets[i],
-            edge_weights[i],
+            model.edge_labels[i],
+            model.edge_targets[i],
+            model.edge_weights[i],
         ) {
             return false;
         }
-        i += 1;
     }
     true
 }
 
-pub(crate) fn unfit(
-    shape: Shape,
-    label_values: &[u32],
-    offsets: &[u32],
-    edge_labels: &[u32],
-    edge_targets: &[u32],
-    edge_weights: &[f64],
-) -> bool
-    ensures { result ≡ Model.unfit shape (columns label_values.now offsets.now edge_labels.now edge_targets.now edge_weights.now) }
+pub(crate) fn unfit(model: &Wlts) -> bool
+    ensures { result ≡ Model.unfit model.now.shape (columns_of model.now) }
 {
-    let initial = shape.initial;
-    if starts_outside(initial, shape.states) {
+    let shape = model.shape;
+    if starts_outside(shape.initial, shape.states) {
         return true;
     }
-    if thin(
-        shape,
-        label_values,
-        offsets,
-        edge_labels,
-        edge_targets,
-        edge_weights,
-    ) {
+    if thin(model) {
         return true;
     }
-    if !steady(shape.states, shape.edges, offsets) {
+    if !steady(shape.states, shape.edges, model.offsets) {
         return true;
     }
-    if !rows_rise(shape.states, offsets, edge_labels, edge_targets) {
+    if !rows_rise(model) {
         return true;
     }
-    if !sound_edges(shape, edge_labels, edge_targets, edge_weights) {
+    if !sound_edges(model) {
         return true;
     }
-    !single(label_values, shape.labels)
+    !single(model.label_values, shape.labels)
 }
 
 // ---- check 5
@@ -198,12 +149,10 @@ pub(crate) fn all_weigh(edge_weights: &[f64], edges: usize) -> bool
     requires { edges ≤ length edge_weights.now }
     ensures { result ≡ every (λ i. le least_weight (get_or edge_weights.now i nan) && le (get_or edge_weights.now i nan) greatest_joined) edges }
 {
-    let mut i = 0;
-    while i < edges {
+    for i in 0..edges {
         if !joined_weighs(edge_weights[i]) {
             return false;
         }
-        i += 1;
     }
     true
 }
@@ -218,14 +167,12 @@ fn count_others(edge_targets: &[u32], from: usize, to: usize, s: usize, marks: &
     let mark = s as u32 + 1;
     marks[s] = mark;
     let mut count = 0;
-    let mut i = from;
-    while i < to {
-        let t = wide(edge_targets[i]);
+    for i in from..to {
+        let t = edge_targets[i] as usize;
         if marks[t] != mark {
             marks[t] = mark;
             count += 1;
         }
-        i += 1;
     }
     count
 }
@@ -235,14 +182,12 @@ pub(crate) fn crowded(states: usize, offsets: &[u32], edge_targets: &[u32]) -> b
     ensures { (D L : List ℕ) (W : List Float) → result ≡ crowded_in (rows (columns D offsets.now L edge_targets.now W) 0 states) (span 0 states) }
 {
     let mut marks = [0u32; 2000];
-    let mut s = 0;
-    while s < states {
-        let from = wide(offsets[s]);
-        let to = wide(offsets[s + 1]);
+    for s in 0..states {
+        let from = offsets[s] as usize;
+        let to = offsets[s + 1] as usize;
         if count_others(edge_targets, from, to, s, &mut marks) > 31 {
             return true;
         }
-        s += 1;
     }
     false
 }

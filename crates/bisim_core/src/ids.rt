@@ -1,44 +1,24 @@
 // Ids of states and labels, and label values interned by first appearance.
-ghost use Rattle.std.specs.Prelude.{◌≡◌, ◌≤◌, length, take};
+ghost use Rattle.std.specs.Prelude.{◌≡◌, ◌≤◌, ◌&&◌, ◌||◌, not, length, take, eqb, ltb, is_some};
+ghost use Rattle.numbers.specs.Refuse.{code, numbered};
 ghost use Rattle.bisim_core.specs.Ids;
 ghost use Rattle.bisim_core.specs.Ids.{ends, listed};
 
+use numbers::refusal::Refusal;
+use numbers::seek;
+
 #[repr(C)]
-#[derive(Clone, Copy)]
+#[derive(Clone, Copy, Debug, PartialEq, Eq, PartialOrd, Ord)]
 pub struct StateId(pub u32);
 
-#[derive(Clone, Copy)]
+#[derive(Clone, Copy, Debug, PartialEq, Eq, PartialOrd, Ord)]
 pub struct LabelId(pub u32);
 
-// The id of a label value, and how many values the list then has.
-#[derive(Clone, Copy)]
-pub enum Interned {
-    Id(LabelId, usize),
-    Refused(u32),
-}
-
-#[derive(Clone, Copy)]
-pub enum Found {
-    Id(LabelId),
-    Absent,
-    Refused(u32),
-}
-
-#[derive(Clone, Copy)]
-pub enum Resolved {
-    Label(u32),
-    Refused(u32),
-}
-
-// Is the value among the first `count` entries.
-fn known(labels: &[u32], count: usize, value: u32) -> bool
-    ensures { result ≡ listed value (take count labels.now) }
-{
-    let at = numbers::seek(labels, count, value);
-    if count < labels.len() {
-        return at < count;
-    }
-    at < labels.len()
+// The label values known: a list of which the first `count` are in use.
+#[derive(Clone, Copy, Debug)]
+pub struct Interner<'a> {
+    pub labels: &'a [u32],
+    pub count: usize,
 }
 
 // No value of the first `count` is listed twice: each is found where it stands.
@@ -46,82 +26,97 @@ pub(crate) fn single(labels: &[u32], count: usize) -> bool
     requires { count ≤ length labels.now }
     ensures { result ≡ Ids.single (take count labels.now) }
 {
-    let mut i = 0;
-    while i < count {
-        if numbers::seek(labels, count, labels[i]) != i {
+    for i in 0..count {
+        if seek(labels, count, labels[i]) != i {
             return false;
         }
-        i += 1;
     }
     true
 }
 
-// Too few entries for the count, or a value listed twice.
-fn mislisted(labels: &[u32], count: usize) -> bool
-    ensures { result ≡ Ids.mislisted labels.now count }
+// Over 256 values, once one that is not known is added.
+fn overfull(count: usize, known: Option<usize>) -> bool
+    ensures { result ≡ (ltb 256 count || (eqb count 256 && not (is_some known))) }
 {
-    if labels.len() < count {
-        return true;
-    }
-    !single(labels, count)
+    count > 256 || (count == 256 && known.is_none())
 }
 
-// The id of a label value: a new value goes behind the `count` in use. 3: a 257th label; 4: mislisted; 7: no room.
-pub fn intern(labels: &mut [u32], count: usize, value: u32) -> Interned
-    ensures { ends result labels.new ≡ Ids.interning labels.old count value }
-{
-    if count > 256 {
-        return Interned::Refused(3);
+impl Interner<'_> {
+    // Where the value stands among those in use.
+    fn place(&self, value: u32) -> Option<usize>
+        ensures { result ≡ Ids.place value (take self.now.count self.now.labels.now) }
+    {
+        self.labels[..self.count.min(self.labels.len())]
+            .iter()
+            .position(|x| *x == value)
     }
-    let old = known(labels, count, value);
-    if count == 256 && !old {
-        return Interned::Refused(3);
+
+    // Too few entries for the count, or a value listed twice.
+    fn mislisted(&self) -> bool
+        ensures { result ≡ Ids.mislisted self.now.labels.now self.now.count }
+    {
+        self.labels.len() < self.count || !single(self.labels, self.count)
     }
-    if mislisted(labels, count) {
-        return Interned::Refused(4);
+
+    // Over 256 values in use, or mislisted.
+    fn check(&self) -> Result<(), Refusal>
+        ensures { code result ≡ Ids.get_refusal self.now.labels.now self.now.count }
+    {
+        if self.count > 256 {
+            Err(Refusal::ModelSize)
+        } else if self.mislisted() {
+            Err(Refusal::OutOfRange)
+        } else {
+            Ok(())
+        }
     }
-    if old {
-        let at = numbers::seek(labels, count, value);
-        return Interned::Id(LabelId(at as u32), count);
+
+    // The id of a label value, if it has one.
+    pub fn get(&self, value: u32) -> Result<Option<LabelId>, Refusal>
+        ensures { numbered result ≡ Ids.get self.now.labels.now self.now.count value }
+    {
+        self.check()?;
+        match self.place(value) {
+            Some(at) => Ok(Some(LabelId(at as u32))),
+            None => Ok(None),
+        }
     }
-    if labels.len() <= count {
-        return Interned::Refused(7);
+
+    // The label value of an id.
+    pub fn resolve(&self, id: LabelId) -> Result<u32, Refusal>
+        ensures { numbered result ≡ Ids.resolve self.now.labels.now self.now.count id.0 }
+    {
+        self.check()?;
+        let at = id.0 as usize;
+        if at >= self.count {
+            return Err(Refusal::OutOfRange);
+        }
+        Ok(self.labels[at])
     }
-    let more = count + 1;
-    labels[count] = value;
-    Interned::Id(LabelId(count as u32), more)
 }
 
-// The id of a label value, if it has one.
-pub fn get(labels: &[u32], count: usize, value: u32) -> Found
-    ensures { result ≡ Ids.get labels.now count value }
+// The id of a label value, and how many values the list then has: a new value goes behind the `count` in use. 3: a 257th label; 4: mislisted; 7: no room.
+// No method of `Interner`: a struct of a list lent by `&mut` would have to promise that it still holds that list.
+pub fn intern(labels: &mut [u32], count: usize, value: u32) -> Result<(LabelId, usize), Refusal>
+    ensures { ends (numbered result) labels.new ≡ Ids.interning labels.old count value }
 {
-    if count > 256 {
-        return Found::Refused(3);
+    let known = Interner { labels, count };
+    let place = known.place(value);
+    if overfull(count, place) {
+        return Err(Refusal::ModelSize);
     }
-    if mislisted(labels, count) {
-        return Found::Refused(4);
+    if known.mislisted() {
+        return Err(Refusal::OutOfRange);
     }
-    let at = numbers::seek(labels, count, value);
-    if at < count {
-        return Found::Id(LabelId(at as u32));
+    match place {
+        Some(at) => Ok((LabelId(at as u32), count)),
+        None => {
+            if labels.len() <= count {
+                return Err(Refusal::Store);
+            }
+            let more = count + 1;
+            labels[count] = value;
+            Ok((LabelId(count as u32), more))
+        }
     }
-    Found::Absent
-}
-
-// The label value of an id.
-pub fn resolve(labels: &[u32], count: usize, id: LabelId) -> Resolved
-    ensures { result ≡ Ids.resolve labels.now count id.0 }
-{
-    let at = id.0 as usize;
-    if count > 256 {
-        return Resolved::Refused(3);
-    }
-    if at >= count {
-        return Resolved::Refused(4);
-    }
-    if mislisted(labels, count) {
-        return Resolved::Refused(4);
-    }
-    Resolved::Label(labels[at])
 }

@@ -1,87 +1,66 @@
 // A built model: its counts and initial state by value, a lent slice for each column.
 ghost use Rattle.std.specs.Prelude.{◌≡◌};
-ghost use Rattle.bisim_core.specs.Data.{columns};
-ghost use Rattle.bisim_core.specs.Model.{model_refusal, starts_outside};
+ghost use Rattle.numbers.specs.Refuse.{code};
+ghost use Rattle.bisim_core.specs.Data.{columns_of};
+ghost use Rattle.bisim_core.specs.Model.{model_refusal, refusal_with, starts_outside};
 
 use crate::check;
 use crate::ids::StateId;
+use numbers::refusal::Refusal;
 
-#[derive(Clone, Copy)]
-pub enum Initial {
-    At(StateId),
-    Absent,
-}
-
-#[derive(Clone, Copy)]
+// The counts of a model, and its initial state.
+#[derive(Clone, Copy, Debug, PartialEq, Eq)]
 pub struct Shape {
     pub states: usize,
     pub edges: usize,
     pub labels: usize,
-    pub initial: Initial,
+    pub initial: Option<StateId>,
 }
 
-#[derive(Clone, Copy)]
-pub enum Counted {
-    Number(usize),
-    Refused(u32),
-}
-
-#[derive(Clone, Copy)]
-pub enum Start {
-    At(StateId),
-    Absent,
-    Refused(u32),
-}
-
-// The edges of a state: from the first number up to, and without, the second.
-#[derive(Clone, Copy)]
-pub enum Successors {
-    Edges(usize, usize),
-    Refused(u32),
+// Label values by id, where each state's edges begin, and the edges.
+#[derive(Clone, Copy, Debug)]
+pub struct Wlts<'a> {
+    pub shape: Shape,
+    pub label_values: &'a [u32],
+    pub offsets: &'a [u32],
+    pub edge_labels: &'a [u32],
+    pub edge_targets: &'a [u32],
+    pub edge_weights: &'a [f64],
 }
 
 // Whether there is an initial state that is not below the state count.
-pub fn starts_outside(initial: Initial, states: usize) -> bool
+pub fn starts_outside(initial: Option<StateId>, states: usize) -> bool
     ensures { result ≡ starts_outside initial states }
 {
     match initial {
-        Initial::At(s) => {
-            let k = s.0;
-            !(check::wide(k) < states)
-        }
-        Initial::Absent => false,
+        Some(s) => s.0 as usize >= states,
+        None => false,
     }
 }
 
-// The first check that a model handed in fails, 0 if it passes all.
-pub fn model_refusal(
-    shape: Shape,
-    label_values: &[u32],
-    offsets: &[u32],
-    edge_labels: &[u32],
-    edge_targets: &[u32],
-    edge_weights: &[f64],
-) -> u32
-    ensures { result ≡ model_refusal shape (columns label_values.now offsets.now edge_labels.now edge_targets.now edge_weights.now) }
-{
-    if check::large(shape) {
-        return 3;
+impl Wlts<'_> {
+    // Turned back with the first check that the model fails; check 4 fails too where a number handed in beside it is `stray`, not below its count.
+    pub fn check_with(&self, stray: bool) -> Result<(), Refusal>
+        ensures { code result ≡ refusal_with stray self.now.shape (columns_of self.now) }
+    {
+        if check::large(self.shape) {
+            return Err(Refusal::ModelSize);
+        }
+        if stray || check::unfit(self) {
+            return Err(Refusal::OutOfRange);
+        }
+        if !check::all_weigh(self.edge_weights, self.shape.edges) {
+            return Err(Refusal::Weight);
+        }
+        if check::crowded(self.shape.states, self.offsets, self.edge_targets) {
+            return Err(Refusal::Targets);
+        }
+        Ok(())
     }
-    if check::unfit(
-        shape,
-        label_values,
-        offsets,
-        edge_labels,
-        edge_targets,
-        edge_weights,
-    ) {
-        return 4;
+
+    pub fn check(&self) -> Result<(), Refusal>
+        ensures { code result ≡ model_refusal self.now.shape (columns_of self.now) }
+    {
+        self.check_with(false)
     }
-    if !check::all_weigh(edge_weights, shape.edges) {
-        return 5;
-    }
-    if check::crowded(shape.states, offsets, edge_targets) {
-        return 6;
-    }
-    0
 }

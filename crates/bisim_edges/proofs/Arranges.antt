@@ -1,4 +1,6 @@
 -- The checks of a plan, one after the other: what each that passed says, what the parts left behind, and the answer at the number of the first that fails.
+use Rattle.std.specs.Prelude.{Option}
+use Rattle.bisim_core.specs.declared.ids.StateId.{StateId}
 use mathlib.Core.Path.{◌≡◌, refl, sym, subst, ap, ◌∙◌}
 use mathlib.Core.Bool.{Bool, true, false, ◌||◌, not}
 use mathlib.Core.Logic.{◌≢◌}
@@ -19,7 +21,6 @@ use Rattle.bisim_core.specs.Data.{Edge, Transitions, transitions}
 use Rattle.bisim_core.specs.Edges.{crowded_in}
 use Rattle.build_theory.specs.Edges.{nonzero}
 use Rattle.bisim_core.specs.Model.{starts_outside}
-use Rattle.bisim_core.specs.declared.wlts.Initial.{Initial}
 use Rattle.build_theory.specs.Checks.{outside, unweighed, crowded, jump_at, reach}
 use Rattle.build_theory.proofs.Steps.{Sortable, Sorted, Crowded, Arrangeable, Arranged}
 use Rattle.build_theory.proofs.Targets.{sorted_crowd, crowd_alike}
@@ -39,13 +40,13 @@ all_given t l given h j k m =
 
 pub record Call : Type 0 where
   pub states : ℕ
-  pub initial : Initial
+  pub initial : Option StateId
   pub C : Transitions
   pub given : ℕ
   pub count : ℕ
   pub full : Bool
 
-abbrev pub call_of : ℕ → Initial → List ℕ → List ℕ → List Float → ℕ → ℕ → Bool → Call
+abbrev pub call_of : ℕ → Option StateId → List ℕ → List ℕ → List Float → ℕ → ℕ → Bool → Call
 call_of states initial S T W given count full = record { states = states; initial = initial; C = transitions S [] T W; given = given; count = count; full = full }
 
 module _ (Z : Call) where

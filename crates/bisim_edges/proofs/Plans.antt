@@ -1,4 +1,6 @@
 -- How a plan ends: the labels interned, the checks of `arranged`, and the edges joined make its outcome.
+use Rattle.std.specs.Prelude.{Option}
+use Rattle.bisim_core.specs.declared.ids.StateId.{StateId}
 use mathlib.Core.Path.{◌≡◌, refl, sym, subst, ap, ◌∙◌}
 use mathlib.Core.Bool.{Bool, true, false, ◌||◌}
 use mathlib.Core.Logic.{◌⊎◌, inl, inr, ◌≢◌}
@@ -17,7 +19,6 @@ use Rattle.numbers.proofs.Bools.{lt_or_ge, or_f}
 use Rattle.numbers.proofs.Refuses.{check_hit, check_none, hit, skip}
 use Rattle.bisim_core.specs.Data.{Edge, Transitions, transitions}
 use Rattle.build_theory.specs.Edges.{join, nonzero, edges, numbered_at}
-use Rattle.bisim_core.specs.declared.wlts.Initial.{Initial}
 use Rattle.bisim_core.proofs.Distinct.{intern_has, distinct_length}
 use Rattle.build_theory.specs.Checks.{labels_of, oversized, outside, unweighed, crowded, reach, missing, refusal}
 use Rattle.build_theory.proofs.Plan.{Lists, lists, weight_of, laid, shortest, ending, outcome, planned}
@@ -35,20 +36,20 @@ done_is r done old new e = subst (λ (x : ℕ). ending done new ≡ outcome x Re
 -- a plan that is asked for
 pub record Asked : Type 0 where
   pub states : ℕ
-  pub initial : Initial
+  pub initial : Option StateId
   pub C : Transitions
   pub given : ℕ
   pub short : Bool
   pub M : Lists
 
-abbrev pub asked_of : ℕ → Initial → List ℕ → List ℕ → List ℕ → List Float → ℕ → Bool → Lists → Asked
+abbrev pub asked_of : ℕ → Option StateId → List ℕ → List ℕ → List ℕ → List Float → ℕ → Bool → Lists → Asked
 asked_of states initial S L T W given short M = record { states = states; initial = initial; C = transitions S L T W; given = given; short = short; M = M }
 
 module _ (Z : Asked) where
   abbrev states : ℕ
   states = Z.states
 
-  abbrev initial : Initial
+  abbrev initial : Option StateId
   initial = Z.initial
 
   abbrev C : Transitions

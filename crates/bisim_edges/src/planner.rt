@@ -9,7 +9,7 @@ use crate::crowd::crowded;
 use crate::edges::join_runs;
 use crate::keys::arrange;
 use crate::labels::{intern_all, write_labels};
-use bisim_core::wlts::Initial;
+use bisim_core::ids::StateId;
 use build_theory::fault;
 use numbers::least;
 
@@ -30,7 +30,7 @@ fn cramped(given: usize, there: usize, room: usize, short: bool) -> bool
 // The number of the first check that fails, 0 if none does: `count` distinct labels are given, or too many, and the keys hold the label ids. The keys are then sorted.
 fn arranged(
     states: usize,
-    initial: Initial,
+    initial: Option<StateId>,
     sources: &[u32],
     targets: &[u32],
     weights: &[f64],
@@ -66,7 +66,7 @@ fn arranged(
 // `plan` of at most 4,096 transitions; the keys are work space, all zero.
 fn plan_in(
     states: usize,
-    initial: Initial,
+    initial: Option<StateId>,
     sources: &[u32],
     labels: &[u32],
     targets: &[u32],
@@ -105,7 +105,7 @@ fn plan_in(
 // Or the number of the first of checks 3 to 7 that fails, 7 also where the caller has a short list: then the lists are left as they were.
 pub fn plan(
     states: usize,
-    initial: Initial,
+    initial: Option<StateId>,
     sources: &[u32],
     labels: &[u32],
     targets: &[u32],

@@ -1,6 +1,6 @@
 // Two models measured: the run of their chains, and the lists that are lent all zero after it.
 ghost use Rattle.std.specs.Prelude.{◌≡◌};
-ghost use Rattle.bisim_core.specs.Data.{columns};
+ghost use Rattle.bisim_core.specs.Data.{columns, columns_of};
 ghost use Rattle.chain_theory.specs.Columns.{chain_columns};
 ghost use Rattle.distance_theory.specs.Outcome.{blank};
 ghost use Rattle.distance_words.specs.Told.{ran_as};
@@ -10,7 +10,7 @@ ghost use Rattle.bisim_measure.specs.Measure.{measuring, bisim_measure};
 use bisim_chains::make::make_chains;
 use bisim_checks::rest::Rest;
 use bisim_core::ids::StateId;
-use bisim_core::wlts::Shape;
+use bisim_core::wlts::{Shape, Wlts};
 use chain_theory::ChainShape;
 use distance_run::run::run;
 use distance_run::scratch::{clear_masses, clear_states};
@@ -75,24 +75,14 @@ fn run_chains(
 
 // Two models measured: a refusal of the arguments leaves all as it was; else the chains are made and run, and every list is all zero.
 pub fn measure(
-    left: Shape,
-    left_values: &[u32],
-    left_offsets: &[u32],
-    left_labels: &[u32],
-    left_targets: &[u32],
-    left_weights: &[f64],
+    left: &Wlts,
     left_state: StateId,
     left_observations: &[f64],
     left_chain_offsets: &mut [u32],
     left_chain_targets: &mut [u32],
     left_chain_probs: &mut [f64],
     left_chain_seen: &mut [f64],
-    right: Shape,
-    right_values: &[u32],
-    right_offsets: &[u32],
-    right_labels: &[u32],
-    right_targets: &[u32],
-    right_weights: &[f64],
+    right: &Wlts,
     right_state: StateId,
     right_observations: &[f64],
     right_chain_offsets: &mut [u32],
@@ -108,7 +98,7 @@ pub fn measure(
     masses: &mut [f64],
     records: usize,
 ) -> Told
-    ensures { measuring (ran_as result lefts.new rights.new codes.new places.new masses.new) (chain_columns left_chain_offsets.new left_chain_targets.new left_chain_probs.new left_chain_seen.new) (chain_columns right_chain_offsets.new right_chain_targets.new right_chain_probs.new right_chain_seen.new) ≡ bisim_measure left (columns left_values.now left_offsets.now left_labels.now left_targets.now left_weights.now) left_state.0 left_observations.now (chain_columns left_chain_offsets.old left_chain_targets.old left_chain_probs.old left_chain_seen.old) right (columns right_values.now right_offsets.now right_labels.now right_targets.now right_weights.now) right_state.0 right_observations.now (chain_columns right_chain_offsets.old right_chain_targets.old right_chain_probs.old right_chain_seen.old) gamma options lefts.old rights.old codes.old places.old masses.old records }
+    ensures { measuring (ran_as result lefts.new rights.new codes.new places.new masses.new) (chain_columns left_chain_offsets.new left_chain_targets.new left_chain_probs.new left_chain_seen.new) (chain_columns right_chain_offsets.new right_chain_targets.new right_chain_probs.new right_chain_seen.new) ≡ bisim_measure left.now.shape (columns_of left.now) left_state.0 left_observations.now (chain_columns left_chain_offsets.old left_chain_targets.old left_chain_probs.old left_chain_seen.old) right.now.shape (columns_of right.now) right_state.0 right_observations.now (chain_columns right_chain_offsets.old right_chain_targets.old right_chain_probs.old right_chain_seen.old) gamma options lefts.old rights.old codes.old places.old masses.old records }
 {
     let rest = Rest {
         gamma,
@@ -120,11 +110,6 @@ pub fn measure(
     };
     let made = make_chains(
         left,
-        left_values,
-        left_offsets,
-        left_labels,
-        left_targets,
-        left_weights,
         left_state,
         left_observations,
         left_chain_offsets,
@@ -132,11 +117,6 @@ pub fn measure(
         left_chain_probs,
         left_chain_seen,
         right,
-        right_values,
-        right_offsets,
-        right_labels,
-        right_targets,
-        right_weights,
         right_state,
         right_observations,
         right_chain_offsets,

@@ -1,225 +1,81 @@
 // What a built model that is handed in answers, once it has passed its check.
-ghost use Rattle.std.specs.Prelude.{◌≡◌, eqb};
-ghost use Rattle.numbers.specs.Refuse;
-ghost use Rattle.bisim_core.specs.Data.{columns};
+ghost use Rattle.std.specs.Prelude.{◌≡◌, leb, IfOk};
+ghost use Rattle.numbers.specs.Refuse.{code, numbered};
+ghost use Rattle.bisim_core.specs.Data.{columns_of};
 ghost use Rattle.bisim_core.specs.Model;
-ghost use Rattle.bisim_core.specs.Model.{count_ends, num_states, num_transitions, num_labels, start_of, start_ends, successors_of, label_id};
+ghost use Rattle.bisim_core.specs.Model.{model_refusal, num_states, num_transitions, num_labels, refusal_with, successors_of, label_id};
 
-use bisim_core::ids::{Found, LabelId, Resolved, StateId};
-use bisim_core::wlts::{Counted, Initial, Shape, Start, Successors, model_refusal};
+use bisim_core::ids::{LabelId, StateId};
+use bisim_core::wlts::{Shape, Wlts};
+use numbers::refusal::Refusal;
+use numbers::seek;
 
-fn wide(x: u32) -> usize
-    ensures { result ≡ x }
+// The counts of a model that passes.
+fn checked(model: &Wlts) -> Result<Shape, Refusal>
+    ensures refusal { code result ≡ model_refusal model.now.shape (columns_of model.now) }
+    ensures counts { IfOk result (λ shape. shape ≡ model.now.shape) }
 {
-    x as usize
+    model.check()?;
+    Ok(model.shape)
 }
 
-fn counted(refusal: u32, number: usize) -> Counted
-    ensures { result ≡ count_ends refusal number }
+#[tactic(auto, using(numbers::proofs::Refuses::answered_ok), unfolding(bisim_core::specs::Model::num_states))]
+pub fn num_states(model: &Wlts) -> Result<usize, Refusal>
+    ensures { numbered result ≡ num_states model.now.shape (columns_of model.now) }
 {
-    if refusal != 0 {
-        return Counted::Refused(refusal);
-    }
-    Counted::Number(number)
-}
-
-pub fn num_states(
-    shape: Shape,
-    label_values: &[u32],
-    offsets: &[u32],
-    edge_labels: &[u32],
-    edge_targets: &[u32],
-    edge_weights: &[f64],
-) -> Counted
-    ensures { result ≡ num_states shape (columns label_values.now offsets.now edge_labels.now edge_targets.now edge_weights.now) }
-{
-    let refusal = model_refusal(
-        shape,
-        label_values,
-        offsets,
-        edge_labels,
-        edge_targets,
-        edge_weights,
-    );
-    counted(refusal, shape.states)
+    Ok(checked(model)?.states)
 }
 
 // The edges, once equal transitions are joined and zero weights dropped.
-pub fn num_transitions(
-    shape: Shape,
-    label_values: &[u32],
-    offsets: &[u32],
-    edge_labels: &[u32],
-    edge_targets: &[u32],
-    edge_weights: &[f64],
-) -> Counted
-    ensures { result ≡ num_transitions shape (columns label_values.now offsets.now edge_labels.now edge_targets.now edge_weights.now) }
+#[tactic(auto, using(numbers::proofs::Refuses::answered_ok), unfolding(bisim_core::specs::Model::num_transitions))]
+pub fn num_transitions(model: &Wlts) -> Result<usize, Refusal>
+    ensures { numbered result ≡ num_transitions model.now.shape (columns_of model.now) }
 {
-    let refusal = model_refusal(
-        shape,
-        label_values,
-        offsets,
-        edge_labels,
-        edge_targets,
-        edge_weights,
-    );
-    counted(refusal, shape.edges)
+    Ok(checked(model)?.edges)
 }
 
-pub fn num_labels(
-    shape: Shape,
-    label_values: &[u32],
-    offsets: &[u32],
-    edge_labels: &[u32],
-    edge_targets: &[u32],
-    edge_weights: &[f64],
-) -> Counted
-    ensures { result ≡ num_labels shape (columns label_values.now offsets.now edge_labels.now edge_targets.now edge_weights.now) }
+#[tactic(auto, using(numbers::proofs::Refuses::answered_ok), unfolding(bisim_core::specs::Model::num_labels))]
+pub fn num_labels(model: &Wlts) -> Result<usize, Refusal>
+    ensures { numbered result ≡ num_labels model.now.shape (columns_of model.now) }
 {
-    let refusal = model_refusal(
-        shape,
-        label_values,
-        offsets,
-        edge_labels,
-        edge_targets,
-        edge_weights,
-    );
-    counted(refusal, shape.labels)
+    Ok(checked(model)?.labels)
 }
 
-fn started(refusal: u32, initial: Initial) -> Start
-    ensures { result ≡ start_ends refusal (start_of initial) }
+#[tactic(auto, using(numbers::proofs::Refuses::answered_ok), unfolding(bisim_core::specs::Model::initial))]
+pub fn initial(model: &Wlts) -> Result<Option<StateId>, Refusal>
+    ensures { numbered result ≡ Model.initial model.now.shape (columns_of model.now) }
 {
-    if refusal != 0 {
-        return Start::Refused(refusal);
-    }
-    match initial {
-        Initial::At(s) => Start::At(s),
-        Initial::Absent => Start::Absent,
-    }
-}
-
-pub fn initial(
-    shape: Shape,
-    label_values: &[u32],
-    offsets: &[u32],
-    edge_labels: &[u32],
-    edge_targets: &[u32],
-    edge_weights: &[f64],
-) -> Start
-    ensures { result ≡ Model.initial shape (columns label_values.now offsets.now edge_labels.now edge_targets.now edge_weights.now) }
-{
-    let refusal = model_refusal(
-        shape,
-        label_values,
-        offsets,
-        edge_labels,
-        edge_targets,
-        edge_weights,
-    );
-    let first = shape.initial;
-    started(refusal, first)
-}
-
-// What is refused of a model where a number handed in beside it is not below its count: check 4 fails.
-fn refused_with(stray: bool, refusal: u32) -> u32
-    ensures { result ≡ Refuse.check 3 (eqb refusal 3) (Refuse.check 4 stray refusal) }
-{
-    if refusal == 3 {
-        return 3;
-    }
-    if stray {
-        return 4;
-    }
-    refusal
+    let shape = checked(model)?;
+    Ok(shape.initial)
 }
 
 // Where the edges of s are: out of range, 4.
-pub fn successors(
-    shape: Shape,
-    label_values: &[u32],
-    offsets: &[u32],
-    edge_labels: &[u32],
-    edge_targets: &[u32],
-    edge_weights: &[f64],
-    s: StateId,
-) -> Successors
-    ensures { result ≡ successors_of shape (columns label_values.now offsets.now edge_labels.now edge_targets.now edge_weights.now) s.0 }
+pub fn successors(model: &Wlts, s: StateId) -> Result<(usize, usize), Refusal>
+    ensures { numbered result ≡ successors_of model.now.shape (columns_of model.now) s.0 }
 {
-    let refusal = model_refusal(
-        shape,
-        label_values,
-        offsets,
-        edge_labels,
-        edge_targets,
-        edge_weights,
-    );
-    let k = s.0;
-    let at = wide(k);
-    let all = refused_with(at >= shape.states, refusal);
-    if all != 0 {
-        return Successors::Refused(all);
-    }
-    let from = wide(offsets[at]);
-    let to = wide(offsets[at + 1]);
-    Successors::Edges(from, to)
+    let at = s.0 as usize;
+    model.check_with(at >= model.shape.states)?;
+    Ok((model.offsets[at] as usize, model.offsets[at + 1] as usize))
 }
 
 // The label value of an id: out of range, 4.
-pub fn label(
-    shape: Shape,
-    label_values: &[u32],
-    offsets: &[u32],
-    edge_labels: &[u32],
-    edge_targets: &[u32],
-    edge_weights: &[f64],
-    id: LabelId,
-) -> Resolved
-    ensures { result ≡ Model.label shape (columns label_values.now offsets.now edge_labels.now edge_targets.now edge_weights.now) id.0 }
+pub fn label(model: &Wlts, id: LabelId) -> Result<u32, Refusal>
+    ensures { numbered result ≡ Model.label model.now.shape (columns_of model.now) id.0 }
 {
-    let refusal = model_refusal(
-        shape,
-        label_values,
-        offsets,
-        edge_labels,
-        edge_targets,
-        edge_weights,
-    );
-    let k = id.0;
-    let at = wide(k);
-    let all = refused_with(at >= shape.labels, refusal);
-    if all != 0 {
-        return Resolved::Refused(all);
-    }
-    Resolved::Label(label_values[at])
+    let at = id.0 as usize;
+    model.check_with(at >= model.shape.labels)?;
+    Ok(model.label_values[at])
 }
 
 // The id of a label value, if it has one.
-pub fn label_id(
-    shape: Shape,
-    label_values: &[u32],
-    offsets: &[u32],
-    edge_labels: &[u32],
-    edge_targets: &[u32],
-    edge_weights: &[f64],
-    value: u32,
-) -> Found
-    ensures { result ≡ label_id shape (columns label_values.now offsets.now edge_labels.now edge_targets.now edge_weights.now) value }
+#[tactic(auto, unfolding(bisim_core::specs::Model::label_id))]
+pub fn label_id(model: &Wlts, value: u32) -> Result<Option<LabelId>, Refusal>
+    ensures { numbered result ≡ label_id model.now.shape (columns_of model.now) value }
 {
-    let refusal = model_refusal(
-        shape,
-        label_values,
-        offsets,
-        edge_labels,
-        edge_targets,
-        edge_weights,
-    );
-    if refusal != 0 {
-        return Found::Refused(refusal);
+    checked(model)?;
+    let at = seek(model.label_values, model.shape.labels, value);
+    if at < model.shape.labels {
+        return Ok(Some(LabelId(at as u32)));
     }
-    let at = numbers::seek(label_values, shape.labels, value);
-    if at < shape.labels {
-        return Found::Id(LabelId(at as u32));
-    }
-    Found::Absent
+    Ok(None)
 }

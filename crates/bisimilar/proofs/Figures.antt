@@ -1,4 +1,6 @@
 -- The worked card of document 01, and refusals in their order, run by computation.
+use Rattle.std.specs.Prelude.{Some, None, Option}
+use Rattle.bisim_core.specs.declared.ids.StateId.{StateId}
 use mathlib.Core.Path.{◌≡◌, refl}
 use Prim.Native.Nat.{ℕ}
 use mathlib.Core.Bool.{false}
@@ -8,8 +10,6 @@ use lib.Ieee.{Float, fin, nan, of_bits}
 use Rattle.numbers.specs.Real.{nought}
 use Rattle.bisim_core.specs.Data.{Columns, columns}
 use Rattle.bisim_core.specs.declared.wlts.Shape.{Shape}
-use Rattle.bisim_core.specs.declared.wlts.Initial.{Initial}
-use Rattle.bisim_core.specs.declared.wlts.Initial.TheVariants.{At, Absent}
 use Rattle.epsdelta_theory.specs.Refusal.{bisimilar_refusal}
 use Rattle.epsdelta_theory.specs.Bisimilar.{bisimilar}
 use Rattle.bisimilar.specs.Related.{related_outcome}
@@ -34,16 +34,16 @@ orders = refl
 
 -- ---- the card: a transition from 0 to 1, of weight 2 and of weight 4, ρ 2
 
-shape : Initial → Shape
+shape : Option StateId → Shape
 shape i = record { states = 2; edges = 1; labels = 1; initial = i }
 
 line : ℕ → Columns
 line k = columns (0 ∷ []) (0 ∷ 1 ∷ 1 ∷ []) (0 ∷ []) (1 ∷ []) (fin false 1 (pos k) ∷ [])
 
-from : ℕ → Initial
-from s = At (record { 0 = s })
+from : ℕ → Option StateId
+from s = Some (record { 0 = s })
 
-card : Initial → Initial → Float → List ℕ → Outcome Verdict
+card : Option StateId → Option StateId → Float → List ℕ → Outcome Verdict
 card i j ε store = bisimilar_outcome (shape i) (line 1) (shape j) (line 2) (0 ∷ 1 ∷ []) (0 ∷ 1 ∷ []) ε (fin false 1 (pos 1)) store
 
 -- bisimilar, and the third byte is zero too
@@ -57,6 +57,6 @@ unfolding card shape line from bisimilar_refusal bisimilar of_bits
 apart = refl
 
 -- 8 comes before 9, and the bytes are kept
-absent_first : card (from 0) Absent nan (7 ∷ 7 ∷ []) ≡ ends (Refused 8) (7 ∷ 7 ∷ [])
+absent_first : card (from 0) None nan (7 ∷ 7 ∷ []) ≡ ends (Refused 8) (7 ∷ 7 ∷ [])
 unfolding card shape line from bisimilar_refusal bisimilar of_bits
 absent_first = refl

@@ -1,4 +1,6 @@
 -- The words of `plan`: the edges of transitions as it hands them on, in three lists, and how it ends. An edge's source, label id and target stand in one number, whichever way they are numbered.
+use Rattle.std.specs.Prelude.{Option}
+use Rattle.bisim_core.specs.declared.ids.StateId.{StateId}
 use Prim.Native.Nat.{ℕ, zero, suc, min}
 use mathlib.Core.Bool.{Bool, ◌||◌}
 use mathlib.Core.List.{List, map}
@@ -8,7 +10,6 @@ use lib.ListN.{length}
 use Rattle.numbers.specs.Lists.{span, all, over}
 use Rattle.bisim_core.specs.Data.{Edge, Transitions}
 use Rattle.bisim_core.specs.Edges.{crowded_in}
-use Rattle.bisim_core.specs.declared.wlts.Initial.{Initial}
 use Rattle.build_theory.specs.Edges.{nonzero, edges}
 use Rattle.build_theory.specs.Checks.{labels_of, refusal}
 
@@ -46,7 +47,7 @@ abbrev pub shortest : Lists → ℕ
 shortest M = min (length M.labels) (min (length M.numbers) (length M.weights))
 
 -- the plan of the transitions given: a refusal by its number, or the counts of edges and labels
-unfoldable pub planned : {A : Type 0} → (Edge → ℕ) → (ℕ → A) → (ℕ → ℕ → A) → ℕ → Initial → Transitions → ℕ → Bool → Lists → Ending A
+unfoldable pub planned : {A : Type 0} → (Edge → ℕ) → (ℕ → A) → (ℕ → ℕ → A) → ℕ → Option StateId → Transitions → ℕ → Bool → Lists → Ending A
 unfolding all nonzero crowded_in edges span
 planned number refuse done states initial C given short M =
     outcome (refusal states initial C given (short || ltb (shortest M) given)) refuse (done (length (edges C given)) (length (labels_of C given))) M (laid number (labels_of C given) (edges C given) M)

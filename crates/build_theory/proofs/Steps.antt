@@ -1,4 +1,6 @@
 -- What the parts of `build` ask for and leave behind: the words of their contracts.
+use Rattle.std.specs.Prelude.{Option}
+use Rattle.bisim_core.specs.declared.ids.StateId.{StateId}
 use mathlib.Core.Path.{◌≡◌}
 use Prim.Native.Nat.{ℕ, zero, suc, ◌+◌, ◌*◌, ◌/◌, ◌%◌, ◌≤◌, ◌<◌}
 use mathlib.Core.List.{List, [], ◌∷◌, ◌++◌, map}
@@ -14,7 +16,6 @@ use Rattle.bisim_core.specs.Data.{Edge, Transitions}
 use Rattle.bisim_core.specs.Ids.{intern, distinct}
 use Rattle.bisim_core.specs.Edges.{crowded_in}
 use Rattle.build_theory.specs.Edges.{join, nonzero, sort_edges}
-use Rattle.bisim_core.specs.declared.wlts.Initial.{Initial}
 use Rattle.build_theory.specs.Checks.{outside, unweighed, crowded, reach}
 use Rattle.build_theory.proofs.Plan.{weight_of}
 
@@ -122,7 +123,7 @@ pub record Arrangeable (given count : ℕ) (I : List ℕ) : Type 0 where
   pub room : given ≤ length I
   pub low : count ≤ 256 → (j : ℕ) → j < given → get_or I j 0 < 256
 
-pub record Arranged (states : ℕ) (initial : Initial) (C : Transitions) (given count : ℕ) (full : Bool) (I K : List ℕ) (r : ℕ) : Type 0 where
+pub record Arranged (states : ℕ) (initial : Option StateId) (C : Transitions) (given count : ℕ) (full : Bool) (I K : List ℕ) (r : ℕ) : Type 0 where
   pub number : r ≡ check 3 (ltb 2000 states || ltb 256 count) (check 4 (outside states initial C given) (check 5 (unweighed C given) (check 6 (crowded states C given) (check 7 full 0))))
   pub sorted : r ≡ 0 → Sorted C.sources C.targets (reach C given) I K
 

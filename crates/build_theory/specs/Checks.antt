@@ -1,4 +1,6 @@
 -- The checks of the transitions given, each true where it fails. Each column is looked at as far as it goes, up to the count given.
+use Rattle.std.specs.Prelude.{Option}
+use Rattle.bisim_core.specs.declared.ids.StateId.{StateId}
 use Rattle.std.specs.Prelude.{ℕ, min, Bool, ◌||◌, not, List, map, length, get_or, take, ltb}
 use Rattle.std.specs.Float.{nan}
 use Rattle.numbers.specs.Lists.{span, all}
@@ -8,7 +10,6 @@ use Rattle.bisim_core.specs.Ids.{distinct}
 use Rattle.bisim_core.specs.Edges.{crowded_in}
 use Rattle.build_theory.specs.Edges.{nonzero}
 use Rattle.bisim_core.specs.Model.{starts_outside, weighs}
-use Rattle.bisim_core.specs.declared.wlts.Initial.{Initial}
 
 -- the label values by their ids
 abbrev pub labels_of : Transitions → ℕ → List ℕ
@@ -19,7 +20,7 @@ abbrev pub oversized : ℕ → Transitions → ℕ → Bool
 oversized states C given = ltb 2000 states || (ltb 4096 given || ltb 256 (length (labels_of C given)))
 
 -- 4: a state number that is not below the state count
-abbrev pub outside : ℕ → Initial → Transitions → ℕ → Bool
+abbrev pub outside : ℕ → Option StateId → Transitions → ℕ → Bool
 outside states initial C given = starts_outside initial states || (not (all (λ x. ltb x states) (take given C.sources)) || not (all (λ x. ltb x states) (take given C.targets)))
 
 -- 5: a weight that is neither zero nor from 2^-40 to 2^40
@@ -46,7 +47,7 @@ abbrev pub missing : Transitions → ℕ → Bool
 missing C given = ltb (min (length C.sources) (min (length C.labels) (min (length C.targets) (length C.weights)))) given
 
 -- the first check that fails, in the list's order, 0 if none does; 7 also where a list lent for results is short
-abbrev pub refusal : ℕ → Initial → Transitions → ℕ → Bool → ℕ
+abbrev pub refusal : ℕ → Option StateId → Transitions → ℕ → Bool → ℕ
 refusal states initial C given short =
     check 3 (oversized states C given)
     (check 4 (outside states initial C given)

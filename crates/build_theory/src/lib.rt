@@ -8,7 +8,8 @@ ghost use Rattle.bisim_core.specs.Data.{transitions};
 ghost use Rattle.bisim_core.specs.Model;
 ghost use Rattle.build_theory.specs.Checks;
 
-use bisim_core::wlts::{Initial, starts_outside};
+use bisim_core::ids::StateId;
+use bisim_core::wlts::starts_outside;
 use numbers::{GREATEST_WEIGHT, LEAST_WEIGHT};
 
 // Whether the first entries of a column, up to the count given, are below a bound.
@@ -19,7 +20,13 @@ fn all_below(column: &[u32], given: usize, bound: usize) -> bool
 }
 
 // 4: a state number that is not below the state count.
-fn outside(states: usize, initial: Initial, sources: &[u32], targets: &[u32], given: usize) -> bool
+fn outside(
+    states: usize,
+    initial: Option<StateId>,
+    sources: &[u32],
+    targets: &[u32],
+    given: usize,
+) -> bool
     ensures { result ≡ Checks.outside states initial (transitions sources.now [] targets.now []) given }
 {
     starts_outside(initial, states)
@@ -43,7 +50,7 @@ fn all_weigh(weights: &[f64], given: usize) -> bool
 // 4 or 5, the first of the two that fails; 0 if none does.
 pub fn fault(
     states: usize,
-    initial: Initial,
+    initial: Option<StateId>,
     sources: &[u32],
     targets: &[u32],
     weights: &[f64],

@@ -7,6 +7,7 @@ ghost use Rattle.card.specs.Printing.{printed};
 ghost use Rattle.card_models.proofs.Handing.{Room, Few, FewBoth, lists_text, right_text, heads_text};
 
 use bisim_build::builder::Built;
+use bisim_core::wlts::Wlts;
 use card_models::{Both, both_models, build_side};
 use card_reader::{Heads, Read, read_card};
 use card_relation::relation_text;
@@ -36,25 +37,33 @@ fn print_both(
     let end = middle + heads.right.states as usize;
     match models {
         Both::Refused(n) => refusal_text(n, out),
-        Both::Models(a, b) => relation_text(
-            a,
-            left_values,
-            left_offsets,
-            left_labels,
-            left_targets,
-            left_weights,
-            b,
-            right_values,
-            right_offsets,
-            right_labels,
-            right_targets,
-            right_weights,
-            &classes[0..middle],
-            &classes[middle..end],
-            heads.epsilon,
-            heads.rho,
-            out,
-        ),
+        Both::Models(a, b) => {
+            let left = Wlts {
+                shape: a,
+                label_values: left_values,
+                offsets: left_offsets,
+                edge_labels: left_labels,
+                edge_targets: left_targets,
+                edge_weights: left_weights,
+            };
+            let right = Wlts {
+                shape: b,
+                label_values: right_values,
+                offsets: right_offsets,
+                edge_labels: right_labels,
+                edge_targets: right_targets,
+                edge_weights: right_weights,
+            };
+            relation_text(
+                &left,
+                &right,
+                &classes[0..middle],
+                &classes[middle..end],
+                heads.epsilon,
+                heads.rho,
+                out,
+            )
+        }
     }
 }
 

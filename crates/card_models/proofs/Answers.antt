@@ -1,4 +1,6 @@
 -- What `build` and `epsdelta` answer of a card is what the definition says: `build` refuses only with 4, what it makes is accepted and is the edges of each state, and `epsdelta` refuses only with 9.
+use Rattle.std.specs.Prelude.{Some, Option}
+use Rattle.bisim_core.specs.declared.ids.StateId.{StateId}
 use mathlib.Core.Path.{◌≡◌, refl, sym, subst, ap, ◌∙◌}
 use mathlib.Core.Bool.{Bool, true, false, ◌&&◌, ◌||◌, not}
 use mathlib.Core.List.{List, [], ◌∷◌, ◌++◌, map}
@@ -19,8 +21,6 @@ use Rattle.bisim_core.specs.Data.{Edge, Transitions, Columns}
 use Rattle.bisim_core.specs.Model as models
 use Rattle.bisim_core.specs.Model.{large, unfit, weighs, weights_outside, model, model_refusal}
 use Rattle.bisim_core.specs.declared.wlts.Shape.{Shape}
-use Rattle.bisim_core.specs.declared.wlts.Initial.{Initial}
-use Rattle.bisim_core.specs.declared.wlts.Initial.TheVariants.{At}
 use Rattle.bisim_core.proofs.Distinct.{distinct_length}
 use Rattle.build_theory.specs.Edges.{nonzero}
 use Rattle.build_theory.specs.Checks.{labels_of, oversized, outside, unweighed, jump_at, reach, jumps, crowded, missing, refusal}
@@ -85,8 +85,8 @@ module _ (s : Side) (w : SideWithin s) where
   abbrev C : Transitions
   C = given_of s
 
-  abbrev initial : Initial
-  initial = At (record { 0 = s.initial })
+  abbrev initial : Option StateId
+  initial = Some (record { 0 = s.initial })
 
   whole : {A : Type 0} (f : Transition → A) → take n (map f s.transitions) ≡ map f s.transitions
   whole f = take_all n (map f s.transitions) (let e = length-map s.transitions f in omega arith)

@@ -1,4 +1,6 @@
 -- The models of a card on their way from the lists that hold it to what is printed.
+use Rattle.std.specs.Prelude.{Some, Option}
+use Rattle.bisim_core.specs.declared.ids.StateId.{StateId}
 use mathlib.Core.Path.{◌≡◌, sym, ap, subst, ◌∙◌}
 use mathlib.Core.List.{List}
 use Prim.Native.Nat.{ℕ, zero, suc, ◌+◌, ◌-◌, ◌≤◌}
@@ -9,8 +11,6 @@ use lib.Seq.{slice}
 use Rattle.numbers.specs.Refuse.{check}
 use Rattle.bisim_core.specs.Data.{Transitions, Columns, transitions}
 use Rattle.bisim_core.specs.declared.wlts.Shape.{Shape}
-use Rattle.bisim_core.specs.declared.wlts.Initial.{Initial}
-use Rattle.bisim_core.specs.declared.wlts.Initial.TheVariants.{At}
 use Rattle.bisim_build.specs.Build as builds
 use Rattle.bisim_build.specs.Build.{build}
 use Rattle.bisim_build.specs.declared.builder.Built.{Built}
@@ -55,7 +55,7 @@ states_of (built.Model S) = S.states
 states_of (built.Refused n) = 0
 
 -- a model that is built has the states that it was given
-built_states : (s : ℕ) (i : Initial) (C : Transitions) (n : ℕ) (M : Columns) → states_of (build s i C n M).answer ≤ s
+built_states : (s : ℕ) (i : Option StateId) (C : Transitions) (n : ℕ) (M : Columns) → states_of (build s i C n M).answer ≤ s
 unfolding build states_of
 built_states s i C n M = pick (refusal s i C n (builds.short s n M))
   where
@@ -72,8 +72,8 @@ side_states : (h : Head) (m : ℕ) (C : Transitions) (M : Columns) → states_of
 unfolding states_of
 side_states h m C M = pick (check 7 (ltb (shortest C) (m + h.transitions)) 0)
   where
-    pick : (r : ℕ) → states_of (builds.settled r M (build h.states (At (record { 0 = h.initial })) (cut_at m h.transitions C) h.transitions M)).answer ≤ h.states
-    pick zero = built_states h.states (At (record { 0 = h.initial })) (cut_at m h.transitions C) h.transitions M
+    pick : (r : ℕ) → states_of (builds.settled r M (build h.states (Some (record { 0 = h.initial })) (cut_at m h.transitions C) h.transitions M)).answer ≤ h.states
+    pick zero = built_states h.states (Some (record { 0 = h.initial })) (cut_at m h.transitions C) h.transitions M
     pick (suc r) = omega arith
 
 pub built_few : (x : Built) (N : Columns) (h : Head) (m : ℕ) (k : answers.Columns) → builds.ends x N ≡ side_built h m k → h.states ≤ 32 → Few x

@@ -1,4 +1,5 @@
 -- Words of the private contracts of `card`: a card in the lists that `read_card` filled, and its models on their way.
+use Rattle.std.specs.Prelude.{Some}
 use mathlib.Core.List.{List}
 use Prim.Native.Nat.{ℕ, ◌+◌, ◌≤◌}
 use lib.ListN.{length, replicate}
@@ -6,7 +7,6 @@ use lib.Seq.{slice}
 use Rattle.numbers.specs.Real.{nought}
 use Rattle.bisim_core.specs.Data.{transitions}
 use Rattle.bisim_core.specs.Data as models
-use Rattle.bisim_core.specs.declared.wlts.Initial.TheVariants.{At}
 use Rattle.bisim_build.specs.Build.{Outcome, build}
 use Rattle.bisim_build.specs.declared.builder.Built.{Built}
 use Rattle.bisim_build.specs.declared.builder.Built.TheVariants as built
@@ -29,7 +29,7 @@ abbrev pub blank : models.Columns
 blank = models.columns (replicate 200 0) (replicate 33 0) (replicate 200 0) (replicate 200 0) (replicate 200 nought)
 
 abbrev pub built_of : Side → Outcome
-built_of s = build (length s.classes) (At (record { 0 = s.initial })) (given_of s) (length s.transitions) blank
+built_of s = build (length s.classes) (Some (record { 0 = s.initial })) (given_of s) (length s.transitions) blank
 
 -- both models with their classes, ε and ρ, or what refuses one
 abbrev pub models_text : Both → models.Columns → models.Columns → List ℕ → List ℕ → ℕ → ℕ → List ℕ

@@ -1,4 +1,5 @@
 -- Parts of lists, as code cuts them, and what `build_side` answers by whether the transitions are there.
+use Rattle.std.specs.Prelude.{Some}
 use mathlib.Core.Path.{◌≡◌, sym, ap, ◌∙◌}
 use mathlib.Core.List.{List}
 use Prim.Native.Nat.{ℕ, ◌+◌, ◌-◌, ◌≤◌, ◌<◌}
@@ -8,7 +9,6 @@ use lib.Seq.{slice}
 use borrow.Author.Tests.{lt-ltb, le-ltb}
 use Rattle.numbers.proofs.Parts.{drop_take}
 use Rattle.bisim_core.specs.Data.{Transitions, Columns, transitions}
-use Rattle.bisim_core.specs.declared.wlts.Initial.TheVariants.{At}
 use Rattle.bisim_build.specs.Build.{Outcome, ends, build}
 use Rattle.bisim_build.specs.declared.builder.Built.TheVariants.{Refused}
 use Rattle.card_reader.specs.declared.reader.Head.{Head}
@@ -21,11 +21,11 @@ module _ (h : Head) (m : ℕ) (C : Transitions) (M : Columns) where
   pub side_short : shortest C < m + h.transitions → ends (Refused 7) M ≡ side_ends h m C M
   side_short e = rw (lt-ltb (shortest C) (m + h.transitions) e)
 
-  pub side_there : m + h.transitions ≤ shortest C → build h.states (At (record { 0 = h.initial })) (cut_at m h.transitions C) h.transitions M ≡ side_ends h m C M
+  pub side_there : m + h.transitions ≤ shortest C → build h.states (Some (record { 0 = h.initial })) (cut_at m h.transitions C) h.transitions M ≡ side_ends h m C M
   side_there e = rw (le-ltb (shortest C) (m + h.transitions) e)
 
   -- with the transitions that `build` is handed
   pub side_cut : {o : Outcome} → m + h.transitions ≤ shortest C
-      → o ≡ build h.states (At (record { 0 = h.initial })) (transitions (take (m + h.transitions - m) (drop m C.sources)) (take (m + h.transitions - m) (drop m C.labels)) (take (m + h.transitions - m) (drop m C.targets)) (take (m + h.transitions - m) (drop m C.weights))) h.transitions M
+      → o ≡ build h.states (Some (record { 0 = h.initial })) (transitions (take (m + h.transitions - m) (drop m C.sources)) (take (m + h.transitions - m) (drop m C.labels)) (take (m + h.transitions - m) (drop m C.targets)) (take (m + h.transitions - m) (drop m C.weights))) h.transitions M
       → o ≡ side_ends h m C M
   side_cut e f = f ∙ rw (cut m h.transitions C.sources, cut m h.transitions C.labels, cut m h.transitions C.targets, cut m h.transitions C.weights) (side_there e)

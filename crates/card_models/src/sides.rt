@@ -6,7 +6,6 @@ ghost use Rattle.card_models.specs.Sides.{side_ends};
 
 use bisim_build::builder::{Built, build};
 use bisim_core::ids::StateId;
-use bisim_core::wlts::Initial;
 use card_reader::Head;
 use numbers::least;
 
@@ -39,7 +38,7 @@ pub fn build_side(
     let end = from + given;
     build(
         head.states as usize,
-        Initial::At(StateId(head.initial)),
+        Some(StateId(head.initial)),
         &sources[from..end],
         &labels[from..end],
         &targets[from..end],

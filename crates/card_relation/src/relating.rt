@@ -7,7 +7,7 @@ ghost use Rattle.card_report.specs.Report.{Printed, most_report};
 ghost use Rattle.card_relation.specs.Relating;
 ghost use Rattle.card_relation.specs.Relating.{text_of, relation_text, relation_fault};
 
-use bisim_core::wlts::Shape;
+use bisim_core::wlts::{Shape, Wlts};
 use card_report::{MOST_REPORT, Text, refusal_text, report_text};
 use epsdelta::relation::{Ended, epsdelta};
 
@@ -32,102 +32,54 @@ fn finish(ended: Ended, left: usize, right: usize, relation: &[u8], out: &mut [u
 
 // The same, with room in the store.
 fn print_models(
-    left: Shape,
-    left_values: &[u32],
-    left_offsets: &[u32],
-    left_labels: &[u32],
-    left_targets: &[u32],
-    left_weights: &[f64],
-    right: Shape,
-    right_values: &[u32],
-    right_offsets: &[u32],
-    right_labels: &[u32],
-    right_targets: &[u32],
-    right_weights: &[f64],
+    left: &Wlts,
+    right: &Wlts,
     left_classes: &[u32],
     right_classes: &[u32],
     epsilon: u32,
     rho: u32,
     out: &mut [u8],
 ) -> Text
-    requires { (left.states ≤ 32) × (right.states ≤ 32) × (most_report ≤ length out.old) }
-    ensures { Printed 0 (relation_text left (Data.columns left_values.now left_offsets.now left_labels.now left_targets.now left_weights.now)
-        right (Data.columns right_values.now right_offsets.now right_labels.now right_targets.now right_weights.now)
+    requires { (left.now.shape.states ≤ 32) × (right.now.shape.states ≤ 32) × (most_report ≤ length out.old) }
+    ensures { Printed 0 (relation_text left.now.shape (Data.columns_of left.now)
+        right.now.shape (Data.columns_of right.now)
         left_classes.now right_classes.now epsilon rho) out.old result out.new }
 {
     let mut relation = [0u8; 512];
     let ended = epsdelta(
         left,
-        left_values,
-        left_offsets,
-        left_labels,
-        left_targets,
-        left_weights,
         right,
-        right_values,
-        right_offsets,
-        right_labels,
-        right_targets,
-        right_weights,
         left_classes,
         right_classes,
         parts(epsilon),
         parts(rho),
         &mut relation,
     );
-    finish(ended, left.states, right.states, &relation, out)
+    finish(ended, left.shape.states, right.shape.states, &relation, out)
 }
 
 // Writes the report of the relation of two models, with ε and ρ in 1,024ths, or the line of what is refused; 2 for over 32 states of a model, 7 where the store is short.
 pub fn relation_text(
-    left: Shape,
-    left_values: &[u32],
-    left_offsets: &[u32],
-    left_labels: &[u32],
-    left_targets: &[u32],
-    left_weights: &[f64],
-    right: Shape,
-    right_values: &[u32],
-    right_offsets: &[u32],
-    right_labels: &[u32],
-    right_targets: &[u32],
-    right_weights: &[f64],
+    left: &Wlts,
+    right: &Wlts,
     left_classes: &[u32],
     right_classes: &[u32],
     epsilon: u32,
     rho: u32,
     out: &mut [u8],
 ) -> Text
-    ensures { Printed (relation_fault left right (length out.old)) (relation_text left (Data.columns left_values.now left_offsets.now left_labels.now left_targets.now left_weights.now)
-        right (Data.columns right_values.now right_offsets.now right_labels.now right_targets.now right_weights.now)
+    ensures { Printed (relation_fault left.now.shape right.now.shape (length out.old)) (relation_text left.now.shape (Data.columns_of left.now)
+        right.now.shape (Data.columns_of right.now)
         left_classes.now right_classes.now epsilon rho) out.old result out.new }
 {
-    if left.states > 32 {
+    if left.shape.states > 32 {
         return Text::Refused(2);
     }
-    if right.states > 32 {
+    if right.shape.states > 32 {
         return Text::Refused(2);
     }
     if out.len() < MOST_REPORT {
         return Text::Refused(7);
     }
-    print_models(
-        left,
-        left_values,
-        left_offsets,
-        left_labels,
-        left_targets,
-        left_weights,
-        right,
-        right_values,
-        right_offsets,
-        right_labels,
-        right_targets,
-        right_weights,
-        left_classes,
-        right_classes,
-        epsilon,
-        rho,
-        out,
-    )
+    print_models(left, right, left_classes, right_classes, epsilon, rho, out)
 }

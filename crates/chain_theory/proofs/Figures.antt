@@ -1,4 +1,5 @@
 -- Small chains, by computation: a model made a chain, its columns read back, what is refused, and observations scaled together; and M1.
+use Rattle.std.specs.Prelude.{Some}
 use mathlib.Core.Path.{◌≡◌, refl}
 use Prim.Native.Nat.{ℕ}
 use mathlib.Core.Bool.{true, false}
@@ -9,7 +10,6 @@ use Rattle.numbers.specs.Real.{nought, one, half}
 use Rattle.bisim_core.specs.Data.{Edge, Columns, columns}
 use Rattle.bisim_core.specs.Model.{model}
 use Rattle.bisim_core.specs.declared.wlts.Shape.{Shape}
-use Rattle.bisim_core.specs.declared.wlts.Initial.TheVariants.{At}
 use Rattle.epsdelta_theory.specs.Jumps.{Jump}
 use Rattle.chain_theory.specs.Chain.{Chain, exit_rate, common_rate, chain_row, uniformise, normalise}
 use Rattle.chain_theory.specs.Columns.{chain_of, shape_of, columns_of}
@@ -50,7 +50,7 @@ m1_one = refl
 -- ---- two states: 0 to 1 with weights 1 and 2 by two labels, 1 to 0 with weight 1/2 and to itself with weight 8
 
 abbrev shape : Shape
-shape = record { states = 2; edges = 4; labels = 2; initial = At (record { 0 = 1 }) }
+shape = record { states = 2; edges = 4; labels = 2; initial = Some (record { 0 = 1 }) }
 
 abbrev columns_of_model : Columns
 columns_of_model = columns (7 ∷ 5 ∷ []) (0 ∷ 2 ∷ 4 ∷ []) (0 ∷ 1 ∷ 0 ∷ 0 ∷ []) (1 ∷ 1 ∷ 0 ∷ 1 ∷ []) (one ∷ two ∷ half ∷ fin false 1 (pos 3) ∷ [])

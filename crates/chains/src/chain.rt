@@ -1,7 +1,7 @@
 // `common_rate` and `uniformise` of kantorovich.rs.
 ghost use Rattle.std.specs.Prelude.{◌≡◌, List, [], ℕ, ◌+◌, ◌≤◌, ◌<◌, length, get_or, take};
 ghost use Rattle.numbers.specs.Lists.{over};
-ghost use Rattle.bisim_core.specs.Data.{columns};
+ghost use Rattle.bisim_core.specs.Data.{columns, columns_of};
 ghost use Rattle.bisim_core.specs.Model;
 ghost use Rattle.epsdelta_theory.specs.Jumps;
 ghost use Rattle.epsdelta_theory.specs.Jumps.{Jump, rates};
@@ -14,9 +14,10 @@ use crate::checks::{cramped, uniformise_refusal};
 use crate::rates::greatest_exit;
 use crate::rows::make_rows;
 use bisim_core::ids::StateId;
-use bisim_core::wlts::{Shape, model_refusal};
+use bisim_core::wlts::{Shape, Wlts};
 use chain_theory::ChainShape;
 use numbers::larger;
+use numbers::refusal::code;
 use parts::refusals::earlier;
 use parts::starts::start;
 
@@ -42,44 +43,27 @@ fn or_one(q: f64) -> f64
 }
 
 // The rate that covers both models: the greatest exit rate, self-loops left out, or 1 if nothing moves.
-pub fn common_rate(
-    left: Shape,
-    left_values: &[u32],
-    left_offsets: &[u32],
-    left_labels: &[u32],
-    left_targets: &[u32],
-    left_weights: &[f64],
-    right: Shape,
-    right_values: &[u32],
-    right_offsets: &[u32],
-    right_labels: &[u32],
-    right_targets: &[u32],
-    right_weights: &[f64],
-) -> Rated
-    ensures { result ≡ Outcome.rated left (columns left_values.now left_offsets.now left_labels.now left_targets.now left_weights.now) right (columns right_values.now right_offsets.now right_labels.now right_targets.now right_weights.now) }
+pub fn common_rate(left: &Wlts, right: &Wlts) -> Rated
+    ensures { result ≡ Outcome.rated left.now.shape (columns_of left.now) right.now.shape (columns_of right.now) }
 {
-    let of_left = model_refusal(
-        left,
-        left_values,
-        left_offsets,
-        left_labels,
-        left_targets,
-        left_weights,
-    );
-    let of_right = model_refusal(
-        right,
-        right_values,
-        right_offsets,
-        right_labels,
-        right_targets,
-        right_weights,
-    );
+    let of_left = code(&left.check());
+    let of_right = code(&right.check());
     let refusal = earlier(of_left, of_right);
     if refusal != 0 {
         return Rated::Refused(refusal);
     }
-    let q = greatest_exit(left.states, left_offsets, left_targets, left_weights);
-    let p = greatest_exit(right.states, right_offsets, right_targets, right_weights);
+    let q = greatest_exit(
+        left.shape.states,
+        left.offsets,
+        left.edge_targets,
+        left.edge_weights,
+    );
+    let p = greatest_exit(
+        right.shape.states,
+        right.offsets,
+        right.edge_targets,
+        right.edge_weights,
+    );
     Rated::Rate(or_one(larger(q, p)))
 }
 
@@ -135,12 +119,7 @@ fn no_chain() -> ChainShape
 // The chain of a model at a rate, with an observation of each state, in four lists that are lent: where the entries of each state begin, their targets and probabilities, and the observations.
 // The entries past them are as they were, and so are the lists after a refusal.
 pub fn uniformise(
-    shape: Shape,
-    label_values: &[u32],
-    offsets: &[u32],
-    edge_labels: &[u32],
-    edge_targets: &[u32],
-    edge_weights: &[f64],
+    model: &Wlts,
     rate: f64,
     observations: &[f64],
     chain_offsets: &mut [u32],
@@ -148,15 +127,10 @@ pub fn uniformise(
     chain_probs: &mut [f64],
     chain_seen: &mut [f64],
 ) -> Uniformised
-    ensures { Outcome.ends result (chain_columns chain_offsets.new chain_targets.new chain_probs.new chain_seen.new) ≡ Outcome.uniformised shape (columns label_values.now offsets.now edge_labels.now edge_targets.now edge_weights.now) rate observations.now (chain_columns chain_offsets.old chain_targets.old chain_probs.old chain_seen.old) }
+    ensures { Outcome.ends result (chain_columns chain_offsets.new chain_targets.new chain_probs.new chain_seen.new) ≡ Outcome.uniformised model.now.shape (columns_of model.now) rate observations.now (chain_columns chain_offsets.old chain_targets.old chain_probs.old chain_seen.old) }
 {
     let refusal = uniformise_refusal(
-        shape,
-        label_values,
-        offsets,
-        edge_labels,
-        edge_targets,
-        edge_weights,
+        model,
         rate,
         observations,
         chain_offsets,
@@ -167,12 +141,12 @@ pub fn uniformise(
     if refusal != 0 {
         return Uniformised::Refused(refusal);
     }
-    let initial = shape.initial;
+    let initial = model.shape.initial;
     let chain = lay(
-        shape.states,
-        offsets,
-        edge_targets,
-        edge_weights,
+        model.shape.states,
+        model.offsets,
+        model.edge_targets,
+        model.edge_weights,
         rate,
         observations,
         start(initial),
@@ -186,12 +160,7 @@ pub fn uniformise(
 
 // The chain of a model at a rate from a state, as `uniformise` makes it, whatever the rate, the state and the observations. No states, and the lists as they were, where the model is refused or a list is short.
 pub fn lay_chain(
-    shape: Shape,
-    label_values: &[u32],
-    offsets: &[u32],
-    edge_labels: &[u32],
-    edge_targets: &[u32],
-    edge_weights: &[f64],
+    model: &Wlts,
     rate: f64,
     observations: &[f64],
     initial: StateId,
@@ -200,22 +169,14 @@ pub fn lay_chain(
     chain_probs: &mut [f64],
     chain_seen: &mut [f64],
 ) -> ChainShape
-    ensures { Outcome.laying result (chain_columns chain_offsets.new chain_targets.new chain_probs.new chain_seen.new) ≡ Outcome.lay_chain shape (columns label_values.now offsets.now edge_labels.now edge_targets.now edge_weights.now) rate observations.now initial.0 (chain_columns chain_offsets.old chain_targets.old chain_probs.old chain_seen.old) }
+    ensures { Outcome.laying result (chain_columns chain_offsets.new chain_targets.new chain_probs.new chain_seen.new) ≡ Outcome.lay_chain model.now.shape (columns_of model.now) rate observations.now initial.0 (chain_columns chain_offsets.old chain_targets.old chain_probs.old chain_seen.old) }
 {
-    if model_refusal(
-        shape,
-        label_values,
-        offsets,
-        edge_labels,
-        edge_targets,
-        edge_weights,
-    ) != 0
-    {
+    if code(&model.check()) != 0 {
         return no_chain();
     }
     if cramped(
-        shape.states,
-        shape.edges,
+        model.shape.states,
+        model.shape.edges,
         observations,
         chain_offsets,
         chain_targets,
@@ -225,10 +186,10 @@ pub fn lay_chain(
         return no_chain();
     }
     lay(
-        shape.states,
-        offsets,
-        edge_targets,
-        edge_weights,
+        model.shape.states,
+        model.offsets,
+        model.edge_targets,
+        model.edge_weights,
         rate,
         observations,
         initial,

@@ -1,12 +1,13 @@
 // What `uniformise` refuses.
 ghost use Rattle.std.specs.Prelude.{◌≡◌, ◌+◌, ltb, length};
-ghost use Rattle.bisim_core.specs.Data.{columns};
+ghost use Rattle.bisim_core.specs.Data.{columns, columns_of};
 ghost use Rattle.chain_theory.specs.Check;
 ghost use Rattle.chain_theory.specs.Columns.{chain_columns};
 ghost use Rattle.chains.specs.Outcome;
 
-use bisim_core::wlts::{Shape, model_refusal};
+use bisim_core::wlts::{Shape, Wlts};
 use chain_theory::{all_within, within};
+use numbers::refusal::code;
 use numbers::{GREATEST_RATE, GREATEST_WEIGHT, LEAST_OBSERVATION, LEAST_WEIGHT};
 use parts::starts::absent;
 
@@ -38,12 +39,7 @@ pub fn cramped(
 
 // The first check that fails, 0 if none does.
 pub(crate) fn uniformise_refusal(
-    shape: Shape,
-    label_values: &[u32],
-    offsets: &[u32],
-    edge_labels: &[u32],
-    edge_targets: &[u32],
-    edge_weights: &[f64],
+    model: &Wlts,
     rate: f64,
     observations: &[f64],
     chain_offsets: &[u32],
@@ -51,22 +47,15 @@ pub(crate) fn uniformise_refusal(
     chain_probs: &[f64],
     chain_seen: &[f64],
 ) -> u32
-    ensures { result ≡ Outcome.uniformise_refusal shape (columns label_values.now offsets.now edge_labels.now edge_targets.now edge_weights.now) rate observations.now (chain_columns chain_offsets.now chain_targets.now chain_probs.now chain_seen.now) }
+    ensures { result ≡ Outcome.uniformise_refusal model.now.shape (columns_of model.now) rate observations.now (chain_columns chain_offsets.now chain_targets.now chain_probs.now chain_seen.now) }
 {
-    let refusal = model_refusal(
-        shape,
-        label_values,
-        offsets,
-        edge_labels,
-        edge_targets,
-        edge_weights,
-    );
+    let refusal = code(&model.check());
     if refusal != 0 {
         return refusal;
     }
     if cramped(
-        shape.states,
-        shape.edges,
+        model.shape.states,
+        model.shape.edges,
         observations,
         chain_offsets,
         chain_targets,
@@ -75,7 +64,7 @@ pub(crate) fn uniformise_refusal(
     ) {
         return 7;
     }
-    if absent(shape.initial) {
+    if absent(model.shape.initial) {
         return 8;
     }
     if !within(LEAST_WEIGHT, GREATEST_RATE, rate) {
@@ -85,7 +74,7 @@ pub(crate) fn uniformise_refusal(
         LEAST_OBSERVATION,
         GREATEST_WEIGHT,
         observations,
-        shape.states,
+        model.shape.states,
     ) {
         return 12;
     }

@@ -1,4 +1,5 @@
 -- M1 to M10 of document 01 as one statement about the definitions, by computation.
+use Rattle.std.specs.Prelude.{Some}
 use mathlib.Core.Path.{◌≡◌, refl}
 use Prim.Native.Nat.{ℕ}
 use mathlib.Core.Bool.{Bool, true, false}
@@ -9,7 +10,6 @@ use lib.Ieee.{Float, fin, inf, of_bits}
 use Rattle.numbers.specs.Real.{nought, one, half, eps}
 use Rattle.bisim_core.specs.Data.{Columns, columns}
 use Rattle.bisim_core.specs.declared.wlts.Shape.{Shape}
-use Rattle.bisim_core.specs.declared.wlts.Initial.TheVariants.{At}
 use Rattle.flow_theory.specs.Network.{Net}
 use Rattle.flow_theory.specs.Run.{max_flow}
 use Rattle.flow_theory.specs.Claim.{in_cut}
@@ -82,7 +82,7 @@ abbrev two : Float
 two = fin false 1 (pos 1)
 
 abbrev model : ℕ → ℕ → Shape
-model states edges = record { states = states; edges = edges; labels = 1; initial = At (record { 0 = 0 }) }
+model states edges = record { states = states; edges = edges; labels = 1; initial = Some (record { 0 = 0 }) }
 
 abbrev arrow : Float → Columns
 arrow w = columns (0 ∷ []) (0 ∷ 1 ∷ 1 ∷ []) (0 ∷ []) (1 ∷ []) (w ∷ [])

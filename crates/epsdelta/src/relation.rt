@@ -3,7 +3,7 @@ ghost use Rattle.std.specs.Prelude.{◌≡◌, ℕ, ◌≤◌, ◌<◌, ◌+◌,
 ghost use Rattle.std.proofs.Math.Seq.{paste};
 ghost use Rattle.numbers.specs.Lists.{every};
 ghost use Rattle.numbers.proofs.Refuses.{first};
-ghost use Rattle.bisim_core.specs.Data.{columns};
+ghost use Rattle.bisim_core.specs.Data.{columns_of};
 ghost use Rattle.epsdelta_theory.specs.Jumps.{Jumps};
 ghost use Rattle.epsdelta_theory.specs.Refusal.{tolerances_outside, later_refusal, epsdelta_refusal};
 ghost use Rattle.epsdelta_theory.specs.Claim.{Sound};
@@ -13,7 +13,7 @@ ghost use Rattle.flow_links.proofs.RowsRead.{rows_in, row_stands};
 ghost use Rattle.epsdelta.specs.Outcome.{ends, settled, outcome_unless, outcome};
 
 use crate::checks::later;
-use bisim_core::wlts::Shape;
+use bisim_core::wlts::{Shape, Wlts};
 use epsdelta_jumps::jumps::{Joined, union};
 use epsdelta_sweeps::relate::relate;
 
@@ -37,11 +37,7 @@ fn put_classes(from: &[u32], n: usize, classes: &mut [u32], at: usize)
     requires { (n ≤ length from.now) × (at + n ≤ length classes.old) × (at + n ≤ 2000) }
     ensures { classes.new ≡ paste classes.old at from.now n }
 {
-    let mut i: usize = 0;
-    while i < n {
-        classes[at + i] = from[i];
-        i += 1;
-    }
+    classes[at..at + n].copy_from_slice(&from[..n]);
 }
 
 // What is left once the checks of both models have said `refusal`: this, or what checks 7 to 10 say, or the relation; `classes` is work space.
@@ -108,18 +104,8 @@ fn refused(joined: Joined) -> u32
 // The relation of two models, unless a check fails; the last five lists are work space.
 fn epsdelta_in(
     settings: Settings,
-    left: Shape,
-    left_values: &[u32],
-    left_offsets: &[u32],
-    left_labels: &[u32],
-    left_targets: &[u32],
-    left_weights: &[f64],
-    right: Shape,
-    right_values: &[u32],
-    right_offsets: &[u32],
-    right_labels: &[u32],
-    right_targets: &[u32],
-    right_weights: &[f64],
+    left: &Wlts,
+    right: &Wlts,
     left_classes: &[u32],
     right_classes: &[u32],
     relation: &mut [u8],
@@ -129,32 +115,15 @@ fn epsdelta_in(
     probs: &mut [f64],
     classes: &mut [u32],
 ) -> Ended
-    requires { left.states + right.states ≤ 2000 → left.edges ≤ 4096 → right.edges ≤ 4096 → (left.states + right.states ≤ length exits.old) × (left.states + right.states < length starts.old) × (left.edges + right.edges ≤ length targets.old) × (left.edges + right.edges ≤ length probs.old) × (left.states + right.states ≤ length classes.old) }
-    ensures { ends result relation.new ≡ outcome_unless settings.absent left (columns left_values.now left_offsets.now left_labels.now left_targets.now left_weights.now) right (columns right_values.now right_offsets.now right_labels.now right_targets.now right_weights.now) left_classes.now right_classes.now settings.epsilon settings.rho relation.old }
+    requires { left.now.shape.states + right.now.shape.states ≤ 2000 → left.now.shape.edges ≤ 4096 → right.now.shape.edges ≤ 4096 → (left.now.shape.states + right.now.shape.states ≤ length exits.old) × (left.now.shape.states + right.now.shape.states < length starts.old) × (left.now.shape.edges + right.now.shape.edges ≤ length targets.old) × (left.now.shape.edges + right.now.shape.edges ≤ length probs.old) × (left.now.shape.states + right.now.shape.states ≤ length classes.old) }
+    ensures { ends result relation.new ≡ outcome_unless settings.absent left.now.shape (columns_of left.now) right.now.shape (columns_of right.now) left_classes.now right_classes.now settings.epsilon settings.rho relation.old }
 {
-    let joined = union(
-        left,
-        left_values,
-        left_offsets,
-        left_labels,
-        left_targets,
-        left_weights,
-        right,
-        right_values,
-        right_offsets,
-        right_labels,
-        right_targets,
-        right_weights,
-        exits,
-        starts,
-        targets,
-        probs,
-    );
+    let joined = union(left, right, exits, starts, targets, probs);
     finish(
         refused(joined),
         settings,
-        left.states,
-        right.states,
+        left.shape.states,
+        right.shape.states,
         left_classes,
         right_classes,
         exits,
@@ -169,24 +138,14 @@ fn epsdelta_in(
 // In work space for two models that are small.
 fn epsdelta_small(
     settings: Settings,
-    left: Shape,
-    left_values: &[u32],
-    left_offsets: &[u32],
-    left_labels: &[u32],
-    left_targets: &[u32],
-    left_weights: &[f64],
-    right: Shape,
-    right_values: &[u32],
-    right_offsets: &[u32],
-    right_labels: &[u32],
-    right_targets: &[u32],
-    right_weights: &[f64],
+    left: &Wlts,
+    right: &Wlts,
     left_classes: &[u32],
     right_classes: &[u32],
     relation: &mut [u8],
 ) -> Ended
-    requires { (left.states ≤ 32) × (left.edges ≤ 200) × (right.states ≤ 32) × (right.edges ≤ 200) }
-    ensures { ends result relation.new ≡ outcome_unless settings.absent left (columns left_values.now left_offsets.now left_labels.now left_targets.now left_weights.now) right (columns right_values.now right_offsets.now right_labels.now right_targets.now right_weights.now) left_classes.now right_classes.now settings.epsilon settings.rho relation.old }
+    requires { (left.now.shape.states ≤ 32) × (left.now.shape.edges ≤ 200) × (right.now.shape.states ≤ 32) × (right.now.shape.edges ≤ 200) }
+    ensures { ends result relation.new ≡ outcome_unless settings.absent left.now.shape (columns_of left.now) right.now.shape (columns_of right.now) left_classes.now right_classes.now settings.epsilon settings.rho relation.old }
 {
     let mut exits = [0.0; 64];
     let mut starts = [0u32; 65];
@@ -196,17 +155,7 @@ fn epsdelta_small(
     epsdelta_in(
         settings,
         left,
-        left_values,
-        left_offsets,
-        left_labels,
-        left_targets,
-        left_weights,
         right,
-        right_values,
-        right_offsets,
-        right_labels,
-        right_targets,
-        right_weights,
         left_classes,
         right_classes,
         relation,
@@ -221,23 +170,13 @@ fn epsdelta_small(
 // In work space for any two models.
 fn epsdelta_large(
     settings: Settings,
-    left: Shape,
-    left_values: &[u32],
-    left_offsets: &[u32],
-    left_labels: &[u32],
-    left_targets: &[u32],
-    left_weights: &[f64],
-    right: Shape,
-    right_values: &[u32],
-    right_offsets: &[u32],
-    right_labels: &[u32],
-    right_targets: &[u32],
-    right_weights: &[f64],
+    left: &Wlts,
+    right: &Wlts,
     left_classes: &[u32],
     right_classes: &[u32],
     relation: &mut [u8],
 ) -> Ended
-    ensures { ends result relation.new ≡ outcome_unless settings.absent left (columns left_values.now left_offsets.now left_labels.now left_targets.now left_weights.now) right (columns right_values.now right_offsets.now right_labels.now right_targets.now right_weights.now) left_classes.now right_classes.now settings.epsilon settings.rho relation.old }
+    ensures { ends result relation.new ≡ outcome_unless settings.absent left.now.shape (columns_of left.now) right.now.shape (columns_of right.now) left_classes.now right_classes.now settings.epsilon settings.rho relation.old }
 {
     let mut exits = [0.0; 2000];
     let mut starts = [0u32; 2001];
@@ -247,17 +186,7 @@ fn epsdelta_large(
     epsdelta_in(
         settings,
         left,
-        left_values,
-        left_offsets,
-        left_labels,
-        left_targets,
-        left_weights,
         right,
-        right_values,
-        right_offsets,
-        right_labels,
-        right_targets,
-        right_weights,
         left_classes,
         right_classes,
         relation,
@@ -279,108 +208,37 @@ fn larger(left: Shape, right: Shape) -> bool
 // The relation of two models, unless a check fails. The entries that ask for initial states say by `settings` that check 8 fails, so that they refuse before anything is written.
 pub fn epsdelta_unless(
     settings: Settings,
-    left: Shape,
-    left_values: &[u32],
-    left_offsets: &[u32],
-    left_labels: &[u32],
-    left_targets: &[u32],
-    left_weights: &[f64],
-    right: Shape,
-    right_values: &[u32],
-    right_offsets: &[u32],
-    right_labels: &[u32],
-    right_targets: &[u32],
-    right_weights: &[f64],
+    left: &Wlts,
+    right: &Wlts,
     left_classes: &[u32],
     right_classes: &[u32],
     relation: &mut [u8],
 ) -> Ended
-    ensures { ends result relation.new ≡ outcome_unless settings.absent left (columns left_values.now left_offsets.now left_labels.now left_targets.now left_weights.now) right (columns right_values.now right_offsets.now right_labels.now right_targets.now right_weights.now) left_classes.now right_classes.now settings.epsilon settings.rho relation.old }
+    ensures { ends result relation.new ≡ outcome_unless settings.absent left.now.shape (columns_of left.now) right.now.shape (columns_of right.now) left_classes.now right_classes.now settings.epsilon settings.rho relation.old }
 {
-    if larger(left, right) {
-        return epsdelta_large(
-            settings,
-            left,
-            left_values,
-            left_offsets,
-            left_labels,
-            left_targets,
-            left_weights,
-            right,
-            right_values,
-            right_offsets,
-            right_labels,
-            right_targets,
-            right_weights,
-            left_classes,
-            right_classes,
-            relation,
-        );
+    if larger(left.shape, right.shape) {
+        return epsdelta_large(settings, left, right, left_classes, right_classes, relation);
     }
-    epsdelta_small(
-        settings,
-        left,
-        left_values,
-        left_offsets,
-        left_labels,
-        left_targets,
-        left_weights,
-        right,
-        right_values,
-        right_offsets,
-        right_labels,
-        right_targets,
-        right_weights,
-        left_classes,
-        right_classes,
-        relation,
-    )
+    epsdelta_small(settings, left, right, left_classes, right_classes, relation)
 }
 
 // The relation of two models, of every pair of states of both, the right one's numbered after the left's. A refusal leaves the bytes as they were, and bytes past the relation's are kept.
 pub fn epsdelta(
-    left: Shape,
-    left_values: &[u32],
-    left_offsets: &[u32],
-    left_labels: &[u32],
-    left_targets: &[u32],
-    left_weights: &[f64],
-    right: Shape,
-    right_values: &[u32],
-    right_offsets: &[u32],
-    right_labels: &[u32],
-    right_targets: &[u32],
-    right_weights: &[f64],
+    left: &Wlts,
+    right: &Wlts,
     left_classes: &[u32],
     right_classes: &[u32],
     epsilon: f64,
     rho: f64,
     relation: &mut [u8],
 ) -> Ended
-    ensures relation_after { ends result relation.new ≡ outcome left (columns left_values.now left_offsets.now left_labels.now left_targets.now left_weights.now) right (columns right_values.now right_offsets.now right_labels.now right_targets.now right_weights.now) left_classes.now right_classes.now epsilon rho relation.old }
-    ensures sound { epsdelta_refusal left (columns left_values.now left_offsets.now left_labels.now left_targets.now left_weights.now) right (columns right_values.now right_offsets.now right_labels.now right_targets.now right_weights.now) left_classes.now right_classes.now epsilon rho (length relation.old) ≡ 0 → Sound (given left (columns left_values.now left_offsets.now left_labels.now left_targets.now left_weights.now) right (columns right_values.now right_offsets.now right_labels.now right_targets.now right_weights.now) left_classes.now right_classes.now epsilon rho) }
+    ensures relation_after { ends result relation.new ≡ outcome left.now.shape (columns_of left.now) right.now.shape (columns_of right.now) left_classes.now right_classes.now epsilon rho relation.old }
+    ensures sound { epsdelta_refusal left.now.shape (columns_of left.now) right.now.shape (columns_of right.now) left_classes.now right_classes.now epsilon rho (length relation.old) ≡ 0 → Sound (given left.now.shape (columns_of left.now) right.now.shape (columns_of right.now) left_classes.now right_classes.now epsilon rho) }
 {
     let settings = Settings {
         absent: false,
         epsilon: epsilon,
         rho: rho,
     };
-    epsdelta_unless(
-        settings,
-        left,
-        left_values,
-        left_offsets,
-        left_labels,
-        left_targets,
-        left_weights,
-        right,
-        right_values,
-        right_offsets,
-        right_labels,
-        right_targets,
-        right_weights,
-        left_classes,
-        right_classes,
-        relation,
-    )
+    epsdelta_unless(settings, left, right, left_classes, right_classes, relation)
 }

@@ -1,4 +1,5 @@
 -- M2, M8, M9, M10 and the worked card of document 01, run by computation; and the card is not refused, so that the theorem says something.
+use Rattle.std.specs.Prelude.{Some, None}
 use mathlib.Core.Path.{◌≡◌, refl}
 use Prim.Native.Nat.{ℕ}
 use mathlib.Core.Bool.{Bool, true, false}
@@ -9,7 +10,6 @@ use Rattle.numbers.specs.Bits.{packed}
 use Rattle.numbers.specs.Real.{nought, one}
 use Rattle.bisim_core.specs.Data.{Columns, columns}
 use Rattle.bisim_core.specs.declared.wlts.Shape.{Shape}
-use Rattle.bisim_core.specs.declared.wlts.Initial.TheVariants.{At, Absent}
 use Rattle.epsdelta_theory.specs.Relation.{related}
 use Rattle.epsdelta_theory.specs.Epsdelta.{rates_close, Given, given, epsdelta}
 use Rattle.epsdelta_theory.specs.Refusal.{epsdelta_refusal, bisimilar_refusal, min_epsilon_refusal}
@@ -45,7 +45,7 @@ m8_fails = refl
 
 -- a model whose edges have one label and leave state 0, its initial state
 abbrev shape : ℕ → ℕ → Shape
-shape states edges = record { states = states; edges = edges; labels = 1; initial = At (record { 0 = 0 }) }
+shape states edges = record { states = states; edges = edges; labels = 1; initial = Some (record { 0 = 0 }) }
 
 abbrev line : Float → Columns
 line w = columns (0 ∷ []) (0 ∷ 1 ∷ 1 ∷ []) (0 ∷ []) (1 ∷ []) (w ∷ [])
@@ -98,7 +98,7 @@ card_nan = refl
 -- ---- the card without an initial state
 
 absent_refusal : Float → ℕ → ℕ
-absent_refusal ε bytes = bisimilar_refusal (record { states = 2; edges = 1; labels = 1; initial = Absent }) (line two) (shape 2 1) (line four) (0 ∷ 1 ∷ []) (0 ∷ 1 ∷ []) ε two bytes
+absent_refusal ε bytes = bisimilar_refusal (record { states = 2; edges = 1; labels = 1; initial = None }) (line two) (shape 2 1) (line four) (0 ∷ 1 ∷ []) (0 ∷ 1 ∷ []) ε two bytes
 
 -- 8 comes before 9
 absent_nan : absent_refusal nan 2 ≡ 8

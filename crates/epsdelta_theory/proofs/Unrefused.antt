@@ -1,4 +1,6 @@
 -- What is known of an input that is not refused: each check passes of both models.
+use Rattle.std.specs.Prelude.{Some, None, Option}
+use Rattle.bisim_core.specs.declared.ids.StateId.{StateId}
 use mathlib.Core.Path.{◌≡◌, refl}
 use Prim.Native.Nat.{ℕ, ◌≤◌, ◌<◌, ◌+◌}
 use mathlib.Core.Bool.{Bool, true, false, ◌||◌, not, true≢false}
@@ -12,8 +14,6 @@ use Rattle.numbers.proofs.Bools.{and_t, or_f}
 use Rattle.numbers.proofs.Refuses.{check_none, check_skip}
 use Rattle.bisim_core.specs.Data.{Columns}
 use Rattle.bisim_core.specs.declared.wlts.Shape.{Shape}
-use Rattle.bisim_core.specs.declared.wlts.Initial.{Initial}
-use Rattle.bisim_core.specs.declared.wlts.Initial.TheVariants.{At, Absent}
 use Rattle.bisim_core.specs.Model.{large, unfit, weights_outside, crowded, model_refusal}
 use Rattle.bisim_core.proofs.Accepted.{Accepted, accepted}
 use Rattle.epsdelta_theory.specs.Relation.{relation_bytes}
@@ -107,6 +107,6 @@ unrefused SL ML SR MR cl cr ε ρ bytes e =
 pub start_below : (S : Shape) (M : Columns) → Accepted S M → absent S.initial ≡ false → start S.initial < S.states
 start_below S M A e = pick S.initial refl e
   where
-    pick : (i : Initial) → S.initial ≡ i → absent i ≡ false → start i < S.states
-    pick (At s) p e = A.start_in s p
-    pick Absent p e = absurd (true≢false e)
+    pick : (i : Option StateId) → S.initial ≡ i → absent i ≡ false → start i < S.states
+    pick (Some s) p e = A.start_in s p
+    pick None p e = absurd (true≢false e)

@@ -1,4 +1,6 @@
 -- What the entries that make a relation turn back: checks 3 to 10 of document 01, each over both models.
+use Rattle.std.specs.Prelude.{Some, None, Option}
+use Rattle.bisim_core.specs.declared.ids.StateId.{StateId}
 use Rattle.std.specs.Prelude.{ℕ, ◌+◌, Bool, true, false, ◌&&◌, ◌||◌, not, List, length, ltb, Float}
 use Rattle.std.specs.Float.Ieee.{lt, le}
 use Rattle.numbers.specs.Refuse.{check}
@@ -9,8 +11,6 @@ use Rattle.bisim_core.specs.Data.{Columns}
 use Rattle.bisim_core.specs.Ids.{intern}
 use Rattle.bisim_core.specs.Edges.{others, crowded_in}
 use Rattle.bisim_core.specs.declared.wlts.Shape.{Shape}
-use Rattle.bisim_core.specs.declared.wlts.Initial.{Initial}
-use Rattle.bisim_core.specs.declared.wlts.Initial.TheVariants.{At, Absent}
 use Rattle.bisim_core.specs.Model.{row, rows, rises, large, unfit, weights_outside, crowded}
 use Rattle.epsdelta_theory.specs.Relation.{relation_bytes}
 
@@ -19,9 +19,9 @@ abbrev pub short : ℕ → ℕ → ℕ → ℕ → ℕ → Bool
 short left right leftClasses rightClasses bytes = ltb leftClasses left || (ltb rightClasses right || ltb bytes (relation_bytes (left + right)))
 
 -- 8: there is no initial state
-abbrev pub absent : Initial → Bool
-absent (At s) = false
-absent Absent = true
+abbrev pub absent : Option StateId → Bool
+absent (Some s) = false
+absent None = true
 
 -- 9, of ρ: it is NaN, below 1 or above 2^20
 abbrev pub factor_outside : Float → Bool

@@ -8,9 +8,10 @@ ghost use Rattle.replies.specs.Answers.{initial, shape};
 ghost use Rattle.replies.specs.Chains;
 ghost use Rattle.replies.specs.Chains.{told, of_rated, makes, made, leaves, scaled};
 
+use bisim_core::wlts::Wlts;
 use chains::chain;
 use replies::chain_answers;
-use replies::shapes::{initial_of, shape_from};
+use replies::shapes::shape_of;
 
 // The rate that covers two models: their greatest exit rate, or 1 if nothing moves.
 #[unsafe(no_mangle)]
@@ -43,24 +44,35 @@ pub extern "C" fn tanqesha_common_rate(
         (shape right_states right_edges right_labels (initial right_present right_start))
         (columns right_label_values.now right_offsets.now right_edge_labels.now right_edge_targets.now right_edge_weights.now)) rate.old }
 {
-    let left_initial = initial_of(left_present, left_start);
-    let left = shape_from(left_states, left_edges, left_labels, left_initial);
-    let right_initial = initial_of(right_present, right_start);
-    let right = shape_from(right_states, right_edges, right_labels, right_initial);
-    let answer = chain::common_rate(
-        left,
-        left_label_values,
-        left_offsets,
-        left_edge_labels,
-        left_edge_targets,
-        left_edge_weights,
-        right,
-        right_label_values,
-        right_offsets,
-        right_edge_labels,
-        right_edge_targets,
-        right_edge_weights,
-    );
+    let left = Wlts {
+        shape: shape_of(
+            left_states,
+            left_edges,
+            left_labels,
+            left_present,
+            left_start,
+        ),
+        label_values: left_label_values,
+        offsets: left_offsets,
+        edge_labels: left_edge_labels,
+        edge_targets: left_edge_targets,
+        edge_weights: left_edge_weights,
+    };
+    let right = Wlts {
+        shape: shape_of(
+            right_states,
+            right_edges,
+            right_labels,
+            right_present,
+            right_start,
+        ),
+        label_values: right_label_values,
+        offsets: right_offsets,
+        edge_labels: right_edge_labels,
+        edge_targets: right_edge_targets,
+        edge_weights: right_edge_weights,
+    };
+    let answer = chain::common_rate(&left, &right);
     chain_answers::put_rate(answer, rate)
 }
 
@@ -91,15 +103,16 @@ pub extern "C" fn tanqesha_uniformise(
         (columns label_values.now offsets.now edge_labels.now edge_targets.now edge_weights.now)
         rate observations.now (chain_columns chain_offsets.old chain_targets.old chain_probabilities.old chain_observations.old)) entries.old }
 {
-    let initial = initial_of(present, start);
-    let shape = shape_from(states, edges, labels, initial);
-    let answer = chain::uniformise(
-        shape,
+    let model = Wlts {
+        shape: shape_of(states, edges, labels, present, start),
         label_values,
         offsets,
         edge_labels,
         edge_targets,
         edge_weights,
+    };
+    let answer = chain::uniformise(
+        &model,
         rate,
         observations,
         chain_offsets,

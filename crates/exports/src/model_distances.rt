@@ -11,6 +11,7 @@ ghost use Rattle.exports.specs.Distances.{options};
 
 use crate::distances::metric_options;
 use bisim_core::ids::StateId;
+use bisim_core::wlts::Wlts;
 use bisim_distance::entry::bisim_distance;
 use distance_replies::put_distance;
 use distance_theory::PairContribution;
@@ -89,37 +90,43 @@ pub extern "C" fn tanqesha_bisim_distance(
         (shape right_states right_edges right_labels (initial right_present right_start)) (columns right_label_values.now right_offsets.now right_edge_labels.now right_edge_targets.now right_edge_weights.now) right_state right_observations.now (chain_columns right_chain_offsets.old right_chain_targets.old right_chain_probabilities.old right_chain_observations.old)
         gamma (options tolerance max_rounds top) (memory lefts.old rights.old index.old places.old masses.old records.old)).right_chain) }
 {
-    let answer = bisim_distance(
-        shape_of(
+    let left = Wlts {
+        shape: shape_of(
             left_states,
             left_edges,
             left_labels,
             left_present,
             left_start,
         ),
-        left_label_values,
-        left_offsets,
-        left_edge_labels,
-        left_edge_targets,
-        left_edge_weights,
-        state(left_state),
-        left_observations,
-        left_chain_offsets,
-        left_chain_targets,
-        left_chain_probabilities,
-        left_chain_observations,
-        shape_of(
+        label_values: left_label_values,
+        offsets: left_offsets,
+        edge_labels: left_edge_labels,
+        edge_targets: left_edge_targets,
+        edge_weights: left_edge_weights,
+    };
+    let right = Wlts {
+        shape: shape_of(
             right_states,
             right_edges,
             right_labels,
             right_present,
             right_start,
         ),
-        right_label_values,
-        right_offsets,
-        right_edge_labels,
-        right_edge_targets,
-        right_edge_weights,
+        label_values: right_label_values,
+        offsets: right_offsets,
+        edge_labels: right_edge_labels,
+        edge_targets: right_edge_targets,
+        edge_weights: right_edge_weights,
+    };
+    let answer = bisim_distance(
+        &left,
+        state(left_state),
+        left_observations,
+        left_chain_offsets,
+        left_chain_targets,
+        left_chain_probabilities,
+        left_chain_observations,
+        &right,
         state(right_state),
         right_observations,
         right_chain_offsets,

@@ -1,5 +1,5 @@
 // Numbers, labels and models for C and Rust: a built model by its counts, initial state and columns.
-ghost use Rattle.std.specs.Prelude.{◌≡◌, [], ◌∷◌};
+ghost use Rattle.std.specs.Prelude.{◌≡◌, [], ◌∷◌, take};
 ghost use Rattle.numbers.specs.Real.{is_zero, is_valid, sum};
 ghost use Rattle.bisim_core.specs.Data.{columns, transitions};
 ghost use Rattle.bisim_core.specs.Ids;
@@ -8,10 +8,12 @@ ghost use Rattle.bisim_build.specs.Build;
 ghost use Rattle.replies.specs.Answers.{initial, shape, of_interned, of_found, of_resolved, of_counted, of_start, of_successors, of_built};
 
 use bisim_build::builder;
-use bisim_core::ids::{LabelId, StateId};
-use bisim_core::{ids, wlts};
+use bisim_core::ids;
+use bisim_core::ids::{Interner, LabelId, StateId};
+use bisim_core::wlts::Wlts;
 use bisim_reader::reader;
 use numbers::Real;
+use numbers::refusal::code;
 use replies::answers;
 use replies::shapes::{initial_of, shape_of};
 
@@ -61,7 +63,7 @@ pub extern "C" fn tanqesha_get(
 ) -> u32
     ensures { result ∷ present.new ∷ id.new ∷ [] ≡ of_found (Ids.get labels.now count value) present.old id.old }
 {
-    let answer = ids::get(labels, count, value);
+    let answer = Interner { labels, count }.get(value);
     answers::put_found(answer, present, id)
 }
 
@@ -69,7 +71,7 @@ pub extern "C" fn tanqesha_get(
 pub extern "C" fn tanqesha_resolve(labels: &[u32], count: usize, id: u32, value: &mut u32) -> u32
     ensures { result ∷ value.new ∷ [] ≡ of_resolved (Ids.resolve labels.now count id) value.old }
 {
-    let answer = ids::resolve(labels, count, LabelId(id));
+    let answer = Interner { labels, count }.resolve(LabelId(id));
     answers::put_resolved(answer, value)
 }
 
@@ -134,15 +136,15 @@ pub extern "C" fn tanqesha_model_refusal(
     ensures { result ≡ Model.model_refusal (shape states edges labels (initial present start))
         (columns label_values.now offsets.now edge_labels.now edge_targets.now edge_weights.now) }
 {
-    let shape = shape_of(states, edges, labels, present, start);
-    wlts::model_refusal(
-        shape,
+    let model = Wlts {
+        shape: shape_of(states, edges, labels, present, start),
         label_values,
         offsets,
         edge_labels,
         edge_targets,
         edge_weights,
-    )
+    };
+    code(&model.check())
 }
 
 // How many states.
@@ -164,15 +166,15 @@ pub extern "C" fn tanqesha_num_states(
         ≡ of_counted (Model.num_states (shape states edges labels (initial present start))
         (columns label_values.now offsets.now edge_labels.now edge_targets.now edge_weights.now)) count.old }
 {
-    let shape = shape_of(states, edges, labels, present, start);
-    let answer = reader::num_states(
-        shape,
+    let model = Wlts {
+        shape: shape_of(states, edges, labels, present, start),
         label_values,
         offsets,
         edge_labels,
         edge_targets,
         edge_weights,
-    );
+    };
+    let answer = reader::num_states(&model);
     answers::put_counted(answer, count)
 }
 
@@ -195,15 +197,15 @@ pub extern "C" fn tanqesha_num_transitions(
         ≡ of_counted (Model.num_transitions (shape states edges labels (initial present start))
         (columns label_values.now offsets.now edge_labels.now edge_targets.now edge_weights.now)) count.old }
 {
-    let shape = shape_of(states, edges, labels, present, start);
-    let answer = reader::num_transitions(
-        shape,
+    let model = Wlts {
+        shape: shape_of(states, edges, labels, present, start),
         label_values,
         offsets,
         edge_labels,
         edge_targets,
         edge_weights,
-    );
+    };
+    let answer = reader::num_transitions(&model);
     answers::put_counted(answer, count)
 }
 
@@ -226,15 +228,15 @@ pub extern "C" fn tanqesha_num_labels(
         ≡ of_counted (Model.num_labels (shape states edges labels (initial present start))
         (columns label_values.now offsets.now edge_labels.now edge_targets.now edge_weights.now)) count.old }
 {
-    let shape = shape_of(states, edges, labels, present, start);
-    let answer = reader::num_labels(
-        shape,
+    let model = Wlts {
+        shape: shape_of(states, edges, labels, present, start),
         label_values,
         offsets,
         edge_labels,
         edge_targets,
         edge_weights,
-    );
+    };
+    let answer = reader::num_labels(&model);
     answers::put_counted(answer, count)
 }
 
@@ -258,15 +260,15 @@ pub extern "C" fn tanqesha_initial(
         ≡ of_start (Model.initial (shape states edges labels (initial present start))
         (columns label_values.now offsets.now edge_labels.now edge_targets.now edge_weights.now)) found.old state.old }
 {
-    let shape = shape_of(states, edges, labels, present, start);
-    let answer = reader::initial(
-        shape,
+    let model = Wlts {
+        shape: shape_of(states, edges, labels, present, start),
         label_values,
         offsets,
         edge_labels,
         edge_targets,
         edge_weights,
-    );
+    };
+    let answer = reader::initial(&model);
     answers::put_start(answer, found, state)
 }
 
@@ -291,16 +293,15 @@ pub extern "C" fn tanqesha_successors(
         ≡ of_successors (Model.successors_of (shape states edges labels (initial present start))
         (columns label_values.now offsets.now edge_labels.now edge_targets.now edge_weights.now) s) from.old to.old }
 {
-    let shape = shape_of(states, edges, labels, present, start);
-    let answer = reader::successors(
-        shape,
+    let model = Wlts {
+        shape: shape_of(states, edges, labels, present, start),
         label_values,
         offsets,
         edge_labels,
         edge_targets,
         edge_weights,
-        StateId(s),
-    );
+    };
+    let answer = reader::successors(&model, StateId(s));
     answers::put_successors(answer, from, to)
 }
 
@@ -324,16 +325,15 @@ pub extern "C" fn tanqesha_label(
         ≡ of_resolved (Model.label (shape states edges labels (initial present start))
         (columns label_values.now offsets.now edge_labels.now edge_targets.now edge_weights.now) id) value.old }
 {
-    let shape = shape_of(states, edges, labels, present, start);
-    let answer = reader::label(
-        shape,
+    let model = Wlts {
+        shape: shape_of(states, edges, labels, present, start),
         label_values,
         offsets,
         edge_labels,
         edge_targets,
         edge_weights,
-        LabelId(id),
-    );
+    };
+    let answer = reader::label(&model, LabelId(id));
     answers::put_resolved(answer, value)
 }
 
@@ -358,15 +358,14 @@ pub extern "C" fn tanqesha_label_id(
         ≡ of_found (Model.label_id (shape states edges labels (initial present start))
         (columns label_values.now offsets.now edge_labels.now edge_targets.now edge_weights.now) value) found.old id.old }
 {
-    let shape = shape_of(states, edges, labels, present, start);
-    let answer = reader::label_id(
-        shape,
+    let model = Wlts {
+        shape: shape_of(states, edges, labels, present, start),
         label_values,
         offsets,
         edge_labels,
         edge_targets,
         edge_weights,
-        value,
-    );
+    };
+    let answer = reader::label_id(&model, value);
     answers::put_found(answer, found, id)
 }

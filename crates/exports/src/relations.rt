@@ -9,12 +9,13 @@ ghost use Rattle.replies.specs.Answers.{initial, shape};
 ghost use Rattle.replies.specs.Relations.{leaves, answered, of_verdict, judged, sought, searched};
 
 use bisim_core::ids::StateId;
+use bisim_core::wlts::Wlts;
 use bisimilar::bisimilar::epsdelta_bisimilar;
 use bisimilar::related;
 use epsdelta::relation;
 use min_epsilon::least;
 use replies::answers;
-use replies::shapes::{initial_of, shape_from};
+use replies::shapes::shape_of;
 
 // The relation of two models in the bytes; a refusal leaves them as they were.
 #[unsafe(no_mangle)]
@@ -52,23 +53,37 @@ pub extern "C" fn tanqesha_epsdelta(
         (columns right_label_values.now right_offsets.now right_edge_labels.now right_edge_targets.now right_edge_weights.now)
         left_classes.now right_classes.now epsilon rho relation.old) }
 {
-    let left_initial = initial_of(left_present, left_start);
-    let left = shape_from(left_states, left_edges, left_labels, left_initial);
-    let right_initial = initial_of(right_present, right_start);
-    let right = shape_from(right_states, right_edges, right_labels, right_initial);
+    let left = Wlts {
+        shape: shape_of(
+            left_states,
+            left_edges,
+            left_labels,
+            left_present,
+            left_start,
+        ),
+        label_values: left_label_values,
+        offsets: left_offsets,
+        edge_labels: left_edge_labels,
+        edge_targets: left_edge_targets,
+        edge_weights: left_edge_weights,
+    };
+    let right = Wlts {
+        shape: shape_of(
+            right_states,
+            right_edges,
+            right_labels,
+            right_present,
+            right_start,
+        ),
+        label_values: right_label_values,
+        offsets: right_offsets,
+        edge_labels: right_edge_labels,
+        edge_targets: right_edge_targets,
+        edge_weights: right_edge_weights,
+    };
     answers::number_of(relation::epsdelta(
-        left,
-        left_label_values,
-        left_offsets,
-        left_edge_labels,
-        left_edge_targets,
-        left_edge_weights,
-        right,
-        right_label_values,
-        right_offsets,
-        right_edge_labels,
-        right_edge_targets,
-        right_edge_weights,
+        &left,
+        &right,
         left_classes,
         right_classes,
         epsilon,
@@ -130,23 +145,37 @@ pub extern "C" fn tanqesha_epsdelta_bisimilar(
         (columns right_label_values.now right_offsets.now right_edge_labels.now right_edge_targets.now right_edge_weights.now)
         left_classes.now right_classes.now epsilon rho relation.old) related.old }
 {
-    let left_initial = initial_of(left_present, left_start);
-    let left = shape_from(left_states, left_edges, left_labels, left_initial);
-    let right_initial = initial_of(right_present, right_start);
-    let right = shape_from(right_states, right_edges, right_labels, right_initial);
+    let left = Wlts {
+        shape: shape_of(
+            left_states,
+            left_edges,
+            left_labels,
+            left_present,
+            left_start,
+        ),
+        label_values: left_label_values,
+        offsets: left_offsets,
+        edge_labels: left_edge_labels,
+        edge_targets: left_edge_targets,
+        edge_weights: left_edge_weights,
+    };
+    let right = Wlts {
+        shape: shape_of(
+            right_states,
+            right_edges,
+            right_labels,
+            right_present,
+            right_start,
+        ),
+        label_values: right_label_values,
+        offsets: right_offsets,
+        edge_labels: right_edge_labels,
+        edge_targets: right_edge_targets,
+        edge_weights: right_edge_weights,
+    };
     let answer = epsdelta_bisimilar(
-        left,
-        left_label_values,
-        left_offsets,
-        left_edge_labels,
-        left_edge_targets,
-        left_edge_weights,
-        right,
-        right_label_values,
-        right_offsets,
-        right_edge_labels,
-        right_edge_targets,
-        right_edge_weights,
+        &left,
+        &right,
         left_classes,
         right_classes,
         epsilon,
@@ -194,27 +223,34 @@ pub extern "C" fn tanqesha_min_epsilon(
         left_classes.now right_classes.now
         rho relation.old) present.old epsilon.old }
 {
-    let left_initial = initial_of(left_present, left_start);
-    let left = shape_from(left_states, left_edges, left_labels, left_initial);
-    let right_initial = initial_of(right_present, right_start);
-    let right = shape_from(right_states, right_edges, right_labels, right_initial);
-    let answer = least::min_epsilon(
-        left,
-        left_label_values,
-        left_offsets,
-        left_edge_labels,
-        left_edge_targets,
-        left_edge_weights,
-        right,
-        right_label_values,
-        right_offsets,
-        right_edge_labels,
-        right_edge_targets,
-        right_edge_weights,
-        left_classes,
-        right_classes,
-        rho,
-        relation,
-    );
+    let left = Wlts {
+        shape: shape_of(
+            left_states,
+            left_edges,
+            left_labels,
+            left_present,
+            left_start,
+        ),
+        label_values: left_label_values,
+        offsets: left_offsets,
+        edge_labels: left_edge_labels,
+        edge_targets: left_edge_targets,
+        edge_weights: left_edge_weights,
+    };
+    let right = Wlts {
+        shape: shape_of(
+            right_states,
+            right_edges,
+            right_labels,
+            right_present,
+            right_start,
+        ),
+        label_values: right_label_values,
+        offsets: right_offsets,
+        edge_labels: right_edge_labels,
+        edge_targets: right_edge_targets,
+        edge_weights: right_edge_weights,
+    };
+    let answer = least::min_epsilon(&left, &right, left_classes, right_classes, rho, relation);
     answers::put_least(answer, present, epsilon)
 }

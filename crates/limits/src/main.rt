@@ -5,7 +5,6 @@ ghost use Rattle.std.specs.Prelude.{◌<◌};
 
 use bisim_build::builder;
 use bisim_build::builder::Built;
-use bisim_core::wlts::Initial;
 use std::{array, io};
 
 // The outcome of `build` with stores that are long enough.
@@ -24,7 +23,7 @@ fn outcome(
     let mut edge_weights = [0.0f64; 4097];
     let answer = builder::build(
         states,
-        Initial::Absent,
+        None,
         sources,
         labels,
         targets,

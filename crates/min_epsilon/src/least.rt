@@ -1,7 +1,7 @@
 // The least ε at which two models are bisimilar.
 ghost use Rattle.std.specs.Prelude.{◌≡◌, List, ℕ, length, replicate};
 ghost use Rattle.numbers.specs.Real.{nought, one};
-ghost use Rattle.bisim_core.specs.Data.{columns};
+ghost use Rattle.bisim_core.specs.Data.{columns_of};
 ghost use Rattle.epsdelta_theory.specs.Refusal.{bisimilar_refusal, min_epsilon_refusal};
 ghost use Rattle.epsdelta_theory.specs.MinEpsilon.{alike_at, min_epsilon, Searched};
 ghost use Rattle.epsdelta_theory.proofs.MinEpsilon.{below_one};
@@ -10,7 +10,7 @@ ghost use Rattle.epsdelta.specs.Outcome.{ends};
 ghost use Rattle.bisimilar.specs.Outcome.{bisimilar_outcome};
 ghost use Rattle.min_epsilon.specs.Outcome.{outcome};
 
-use bisim_core::wlts::Shape;
+use bisim_core::wlts::{Shape, Wlts};
 use bisimilar::bisimilar::epsdelta_bisimilar;
 use bisimilar::related::Verdict;
 use numbers::{FINENESS, HALF, ONE};
@@ -25,40 +25,20 @@ pub enum Least {
 
 // Whether the initial states are related at this ε; the bytes are work space.
 fn holds(
-    left: Shape,
-    left_values: &[u32],
-    left_offsets: &[u32],
-    left_labels: &[u32],
-    left_targets: &[u32],
-    left_weights: &[f64],
-    right: Shape,
-    right_values: &[u32],
-    right_offsets: &[u32],
-    right_labels: &[u32],
-    right_targets: &[u32],
-    right_weights: &[f64],
+    left: &Wlts,
+    right: &Wlts,
     left_classes: &[u32],
     right_classes: &[u32],
     epsilon: f64,
     rho: f64,
     relation: &mut [u8],
 ) -> bool
-    requires { bisimilar_refusal left (columns left_values.now left_offsets.now left_labels.now left_targets.now left_weights.now) right (columns right_values.now right_offsets.now right_labels.now right_targets.now right_weights.now) left_classes.now right_classes.now epsilon rho (length relation.old) ≡ 0 }
-    ensures { (result ≡ alike_at left (columns left_values.now left_offsets.now left_labels.now left_targets.now left_weights.now) right (columns right_values.now right_offsets.now right_labels.now right_targets.now right_weights.now) left_classes.now right_classes.now rho epsilon) × (relation.new ≡ replicate (length relation.old) 0) }
+    requires { bisimilar_refusal left.now.shape (columns_of left.now) right.now.shape (columns_of right.now) left_classes.now right_classes.now epsilon rho (length relation.old) ≡ 0 }
+    ensures { (result ≡ alike_at left.now.shape (columns_of left.now) right.now.shape (columns_of right.now) left_classes.now right_classes.now rho epsilon) × (relation.new ≡ replicate (length relation.old) 0) }
 {
     match epsdelta_bisimilar(
         left,
-        left_values,
-        left_offsets,
-        left_labels,
-        left_targets,
-        left_weights,
         right,
-        right_values,
-        right_offsets,
-        right_labels,
-        right_targets,
-        right_weights,
         left_classes,
         right_classes,
         epsilon,
@@ -74,25 +54,15 @@ fn holds(
 // 0 if ε = 0 holds; else the upper bound that halvings from 0 and 1 come to.
 fn bisect(
     zero: bool,
-    left: Shape,
-    left_values: &[u32],
-    left_offsets: &[u32],
-    left_labels: &[u32],
-    left_targets: &[u32],
-    left_weights: &[f64],
-    right: Shape,
-    right_values: &[u32],
-    right_offsets: &[u32],
-    right_labels: &[u32],
-    right_targets: &[u32],
-    right_weights: &[f64],
+    left: &Wlts,
+    right: &Wlts,
     left_classes: &[u32],
     right_classes: &[u32],
     rho: f64,
     relation: &mut [u8],
 ) -> f64
-    requires { (zero ≡ alike_at left (columns left_values.now left_offsets.now left_labels.now left_targets.now left_weights.now) right (columns right_values.now right_offsets.now right_labels.now right_targets.now right_weights.now) left_classes.now right_classes.now rho nought) × (min_epsilon_refusal left (columns left_values.now left_offsets.now left_labels.now left_targets.now left_weights.now) right (columns right_values.now right_offsets.now right_labels.now right_targets.now right_weights.now) left_classes.now right_classes.now rho (length relation.old) ≡ 0) × (relation.old ≡ replicate (length relation.old) 0) }
-    ensures { (result ≡ below_one (alike_at left (columns left_values.now left_offsets.now left_labels.now left_targets.now left_weights.now) right (columns right_values.now right_offsets.now right_labels.now right_targets.now right_weights.now) left_classes.now right_classes.now rho)) × (relation.new ≡ replicate (length relation.old) 0) }
+    requires { (zero ≡ alike_at left.now.shape (columns_of left.now) right.now.shape (columns_of right.now) left_classes.now right_classes.now rho nought) × (min_epsilon_refusal left.now.shape (columns_of left.now) right.now.shape (columns_of right.now) left_classes.now right_classes.now rho (length relation.old) ≡ 0) × (relation.old ≡ replicate (length relation.old) 0) }
+    ensures { (result ≡ below_one (alike_at left.now.shape (columns_of left.now) right.now.shape (columns_of right.now) left_classes.now right_classes.now rho)) × (relation.new ≡ replicate (length relation.old) 0) }
 {
     if zero {
         return 0.0;
@@ -101,25 +71,7 @@ fn bisect(
     let mut hi = ONE;
     while hi - lo > FINENESS {
         let mid = HALF * (lo + hi);
-        if holds(
-            left,
-            left_values,
-            left_offsets,
-            left_labels,
-            left_targets,
-            left_weights,
-            right,
-            right_values,
-            right_offsets,
-            right_labels,
-            right_targets,
-            right_weights,
-            left_classes,
-            right_classes,
-            mid,
-            rho,
-            relation,
-        ) {
+        if holds(left, right, left_classes, right_classes, mid, rho, relation) {
             hi = mid;
         } else {
             lo = mid;
@@ -130,59 +82,21 @@ fn bisect(
 
 // The least ε found where ε = 1 holds.
 fn below_one(
-    left: Shape,
-    left_values: &[u32],
-    left_offsets: &[u32],
-    left_labels: &[u32],
-    left_targets: &[u32],
-    left_weights: &[f64],
-    right: Shape,
-    right_values: &[u32],
-    right_offsets: &[u32],
-    right_labels: &[u32],
-    right_targets: &[u32],
-    right_weights: &[f64],
+    left: &Wlts,
+    right: &Wlts,
     left_classes: &[u32],
     right_classes: &[u32],
     rho: f64,
     relation: &mut [u8],
 ) -> f64
-    requires { min_epsilon_refusal left (columns left_values.now left_offsets.now left_labels.now left_targets.now left_weights.now) right (columns right_values.now right_offsets.now right_labels.now right_targets.now right_weights.now) left_classes.now right_classes.now rho (length relation.old) ≡ 0 }
-    ensures { (result ≡ below_one (alike_at left (columns left_values.now left_offsets.now left_labels.now left_targets.now left_weights.now) right (columns right_values.now right_offsets.now right_labels.now right_targets.now right_weights.now) left_classes.now right_classes.now rho)) × (relation.new ≡ replicate (length relation.old) 0) }
+    requires { min_epsilon_refusal left.now.shape (columns_of left.now) right.now.shape (columns_of right.now) left_classes.now right_classes.now rho (length relation.old) ≡ 0 }
+    ensures { (result ≡ below_one (alike_at left.now.shape (columns_of left.now) right.now.shape (columns_of right.now) left_classes.now right_classes.now rho)) × (relation.new ≡ replicate (length relation.old) 0) }
 {
-    let zero = holds(
-        left,
-        left_values,
-        left_offsets,
-        left_labels,
-        left_targets,
-        left_weights,
-        right,
-        right_values,
-        right_offsets,
-        right_labels,
-        right_targets,
-        right_weights,
-        left_classes,
-        right_classes,
-        0.0,
-        rho,
-        relation,
-    );
+    let zero = holds(left, right, left_classes, right_classes, 0.0, rho, relation);
     bisect(
         zero,
         left,
-        left_values,
-        left_offsets,
-        left_labels,
-        left_targets,
-        left_weights,
         right,
-        right_values,
-        right_offsets,
-        right_labels,
-        right_targets,
-        right_weights,
         left_classes,
         right_classes,
         rho,
@@ -193,40 +107,20 @@ fn below_one(
 // The answer, by that of the run at ε = 1.
 fn after_one(
     first: Verdict,
-    left: Shape,
-    left_values: &[u32],
-    left_offsets: &[u32],
-    left_labels: &[u32],
-    left_targets: &[u32],
-    left_weights: &[f64],
-    right: Shape,
-    right_values: &[u32],
-    right_offsets: &[u32],
-    right_labels: &[u32],
-    right_targets: &[u32],
-    right_weights: &[f64],
+    left: &Wlts,
+    right: &Wlts,
     left_classes: &[u32],
     right_classes: &[u32],
     rho: f64,
     relation: &mut [u8],
 ) -> Least
-    requires { first ≡ Related → min_epsilon_refusal left (columns left_values.now left_offsets.now left_labels.now left_targets.now left_weights.now) right (columns right_values.now right_offsets.now right_labels.now right_targets.now right_weights.now) left_classes.now right_classes.now rho (length relation.old) ≡ 0 }
-    ensures { (store : List ℕ) → ends first relation.old ≡ bisimilar_outcome left (columns left_values.now left_offsets.now left_labels.now left_targets.now left_weights.now) right (columns right_values.now right_offsets.now right_labels.now right_targets.now right_weights.now) left_classes.now right_classes.now one rho store → ends result relation.new ≡ outcome left (columns left_values.now left_offsets.now left_labels.now left_targets.now left_weights.now) right (columns right_values.now right_offsets.now right_labels.now right_targets.now right_weights.now) left_classes.now right_classes.now rho store }
+    requires { first ≡ Related → min_epsilon_refusal left.now.shape (columns_of left.now) right.now.shape (columns_of right.now) left_classes.now right_classes.now rho (length relation.old) ≡ 0 }
+    ensures { (store : List ℕ) → ends first relation.old ≡ bisimilar_outcome left.now.shape (columns_of left.now) right.now.shape (columns_of right.now) left_classes.now right_classes.now one rho store → ends result relation.new ≡ outcome left.now.shape (columns_of left.now) right.now.shape (columns_of right.now) left_classes.now right_classes.now rho store }
 {
     match first {
         Verdict::Related => Least::At(below_one(
             left,
-            left_values,
-            left_offsets,
-            left_labels,
-            left_targets,
-            left_weights,
             right,
-            right_values,
-            right_offsets,
-            right_labels,
-            right_targets,
-            right_weights,
             left_classes,
             right_classes,
             rho,
@@ -239,59 +133,21 @@ fn after_one(
 
 // An ε at which the initial states of two models are related, found by halvings from 0 and 1, or none where they are not related at 1. A refusal leaves the bytes as they were; without one every byte is zero at the end.
 pub fn min_epsilon(
-    left: Shape,
-    left_values: &[u32],
-    left_offsets: &[u32],
-    left_labels: &[u32],
-    left_targets: &[u32],
-    left_weights: &[f64],
-    right: Shape,
-    right_values: &[u32],
-    right_offsets: &[u32],
-    right_labels: &[u32],
-    right_targets: &[u32],
-    right_weights: &[f64],
+    left: &Wlts,
+    right: &Wlts,
     left_classes: &[u32],
     right_classes: &[u32],
     rho: f64,
     relation: &mut [u8],
 ) -> Least
-    ensures relation_after { ends result relation.new ≡ outcome left (columns left_values.now left_offsets.now left_labels.now left_targets.now left_weights.now) right (columns right_values.now right_offsets.now right_labels.now right_targets.now right_weights.now) left_classes.now right_classes.now rho relation.old }
-    ensures searched { Searched (alike_at left (columns left_values.now left_offsets.now left_labels.now left_targets.now left_weights.now) right (columns right_values.now right_offsets.now right_labels.now right_targets.now right_weights.now) left_classes.now right_classes.now rho) (min_epsilon left (columns left_values.now left_offsets.now left_labels.now left_targets.now left_weights.now) right (columns right_values.now right_offsets.now right_labels.now right_targets.now right_weights.now) left_classes.now right_classes.now rho) }
+    ensures relation_after { ends result relation.new ≡ outcome left.now.shape (columns_of left.now) right.now.shape (columns_of right.now) left_classes.now right_classes.now rho relation.old }
+    ensures searched { Searched (alike_at left.now.shape (columns_of left.now) right.now.shape (columns_of right.now) left_classes.now right_classes.now rho) (min_epsilon left.now.shape (columns_of left.now) right.now.shape (columns_of right.now) left_classes.now right_classes.now rho) }
 {
-    let first = epsdelta_bisimilar(
-        left,
-        left_values,
-        left_offsets,
-        left_labels,
-        left_targets,
-        left_weights,
-        right,
-        right_values,
-        right_offsets,
-        right_labels,
-        right_targets,
-        right_weights,
-        left_classes,
-        right_classes,
-        ONE,
-        rho,
-        relation,
-    );
+    let first = epsdelta_bisimilar(left, right, left_classes, right_classes, ONE, rho, relation);
     after_one(
         first,
         left,
-        left_values,
-        left_offsets,
-        left_labels,
-        left_targets,
-        left_weights,
         right,
-        right_values,
-        right_offsets,
-        right_labels,
-        right_targets,
-        right_weights,
         left_classes,
         right_classes,
         rho,

@@ -5,9 +5,10 @@ use mathlib.Core.Logic.{◌≢◌}
 use Prim.Native.Nat.{ℕ, zero, suc}
 use native.Mathlib.Omega.{arith}
 use Rattle.std.specs.Prelude.{Result, Ok, Err}
+use Rattle.std.specs.Result.{IsErrAnd, is_ok}
 use Rattle.numbers.specs.declared.refusal.Refusal.{Refusal}
 use Rattle.numbers.specs.declared.refusal.Refusal.TheVariants as refusal
-use Rattle.numbers.specs.Refuse.{check, number, numbered, code, ends}
+use Rattle.numbers.specs.Refuse.{check, number, numbered, code, answered}
 
 -- no refusal has the number 0
 pub number_positive : (r : Refusal) → number r ≢ 0
@@ -32,17 +33,49 @@ number_positive refusal.CouplingStore e = absurd (omega arith)
 number_positive refusal.Occupancy e = absurd (omega arith)
 
 -- a call that passes, and one that is turned back
-pub ends_ok : {A : Type 0} (n : ℕ) (x : A) → 0 ≡ n → Ok x ≡ ends n x
-ends_ok zero x e = refl
-ends_ok (suc n) x e = absurd (omega arith)
+pub answered_ok : {A : Type 0} (n : ℕ) (x : A) → 0 ≡ n → Ok x ≡ answered n x
+answered_ok zero x e = refl
+answered_ok (suc n) x e = absurd (omega arith)
 
-pub ends_err : {A : Type 0} (r : Refusal) (n : ℕ) (x : A) → number r ≡ n → numbered (Err r) ≡ ends n x
-ends_err r zero x e = absurd (number_positive r e)
-ends_err r (suc n) x e = ap Err e
+pub answered_err : {A : Type 0} (r : Refusal) (n : ℕ) (x : A) → number r ≡ n → numbered (Err r) ≡ answered n x
+answered_err r zero x e = absurd (number_positive r e)
+answered_err r (suc n) x e = ap Err e
+
+-- a call that hands on what turned another one back
+pub turned_back : {A : Type 0} (a : Result A Refusal) (r : Refusal) (n : ℕ) (x : A) → IsErrAnd a (λ e. e ≡ r) → number r ≡ n → numbered a ≡ answered n x
+turned_back (Ok y) r n x h e = absurd h
+turned_back (Err s) r n x h e = answered_err s n x (ap number h ∙ e)
+
+-- the same where there is no answer beside the refusal
+pub turned_back_code : {A : Type 0} (a : Result A Refusal) (r : Refusal) (n : ℕ) → IsErrAnd a (λ e. e ≡ r) → number r ≡ n → code a ≡ n
+turned_back_code (Ok y) r n h e = absurd h
+turned_back_code (Err s) r n h e = ap number h ∙ e
+
+-- the value of an answer, and the number of a refusal
+abbrev value_or : {A : Type 0} → A → Result A ℕ → A
+value_or y (Ok x) = x
+value_or y (Err n) = y
+
+abbrev number_or : {A : Type 0} → ℕ → Result A ℕ → ℕ
+number_or k (Ok x) = k
+number_or k (Err n) = n
+
+-- what an answer says of the checks
+pub answered_done : {A : Type 0} (n : ℕ) (x y : A) → Ok y ≡ answered n x → (0 ≡ n) × (y ≡ x)
+answered_done zero x y e = (refl, ap (value_or y) e)
+answered_done (suc n) x y e = absurd (true≢false (ap is_ok e))
+
+pub answered_turned : {A : Type 0} (k n : ℕ) (x : A) → Err k ≡ answered n x → k ≡ n
+answered_turned k zero x e = absurd (true≢false (sym (ap is_ok e)))
+answered_turned k (suc n) x e = ap (number_or 0) e
+
+-- a call that hands on another one's refusal, of the same checks
+pub handed_on : {A B : Type 0} (a : Result A Refusal) (r : Refusal) (n : ℕ) (x : A) (y : B) → IsErrAnd a (λ e. e ≡ r) → Err (number r) ≡ answered n y → numbered a ≡ answered n x
+handed_on a r n x y h e = turned_back a r n x h (answered_turned (number r) n y e)
 
 -- what is answered, by the code of a check before it
-pub ends_code : {A B : Type 0} (r : Result B Refusal) (n : ℕ) (x : A) → code r ≡ n → code r ≡ 0 → numbered (Ok x) ≡ ends n x
-ends_code r n x e z = ends_ok n x (sym z ∙ e)
+pub answered_code : {A B : Type 0} (r : Result B Refusal) (n : ℕ) (x : A) → code r ≡ n → code r ≡ 0 → numbered (Ok x) ≡ answered n x
+answered_code r n x e z = answered_ok n x (sym z ∙ e)
 
 -- a refusal that was found, or, where it is 0, what the later checks say
 abbrev pub first : ℕ → ℕ → ℕ
@@ -85,6 +118,10 @@ first_none (suc a) later e = absurd (omega arith)
 pub first_same : (a x y : ℕ) → (a ≡ 0 → x ≡ y) → first a x ≡ first a y
 first_same zero x y f = f refl
 first_same (suc a) x y f = refl
+
+-- a part that turned the call back: the later checks are skipped
+pub first_number : (r : Refusal) (a later : ℕ) → number r ≡ a → number r ≡ first a later
+first_number r a later e = e ∙ sym (first_hit a later (λ z. number_positive r (e ∙ z)))
 
 -- ---- a row of tests: the one that holds, those before it that do not
 pub hit : (a b : Bool) → true ≡ a → true ≡ (a || b)

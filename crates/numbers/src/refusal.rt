@@ -1,6 +1,6 @@
 // Why a call is turned back.
 ghost use Rattle.std.specs.Prelude.{◌≡◌};
-ghost use Rattle.numbers.specs.Refuse.{number};
+ghost use Rattle.numbers.specs.Refuse.{code, number};
 
 // A variant for each number of document 01's list.
 #[derive(Clone, Copy, Debug, PartialEq, Eq, PartialOrd, Ord)]
@@ -31,5 +31,15 @@ impl Refusal {
         ensures { result ≡ number self }
     {
         self as u32
+    }
+}
+
+// The refusal's number, 0 where there is none: what the C interface answers.
+pub fn code<T>(answer: &Result<T, Refusal>) -> u32
+    ensures { result ≡ code answer.now }
+{
+    match answer {
+        Ok(_) => 0,
+        Err(refusal) => refusal.number(),
     }
 }

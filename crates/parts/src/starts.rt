@@ -4,21 +4,20 @@ ghost use Rattle.epsdelta_theory.specs.Refusal;
 ghost use Rattle.epsdelta_theory.specs.Bisimilar;
 
 use bisim_core::ids::StateId;
-use bisim_core::wlts::Initial;
 
 // Whether there is none.
-pub fn absent(initial: Initial) -> bool
+pub fn absent(initial: Option<StateId>) -> bool
     ensures { result ≡ Refusal.absent initial }
 {
-    matches!(initial, Initial::Absent)
+    initial.is_none()
 }
 
 // The initial state; 0 if there is none.
-pub fn start(initial: Initial) -> StateId
+pub fn start(initial: Option<StateId>) -> StateId
     ensures { result.0 ≡ Bisimilar.start initial }
 {
     match initial {
-        Initial::At(s) => s,
-        Initial::Absent => StateId(0),
+        Some(s) => s,
+        None => StateId(0),
     }
 }

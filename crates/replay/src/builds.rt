@@ -1,7 +1,7 @@
 // The kind `build`: a model from transitions in columns.
 use crate::{entries, outcomes};
 use bisim_build::builder;
-use bisim_core::wlts::Initial;
+use bisim_core::ids::StateId;
 use replay_text::answers::Answer;
 use replay_text::text::Reader;
 use replay_text::{answers, columns, fronts, lists, tally, text};
@@ -9,7 +9,7 @@ use replay_text::{answers, columns, fronts, lists, tally, text};
 #[derive(Clone, Copy)]
 struct Asked {
     states: usize,
-    initial: Initial,
+    initial: Option<StateId>,
     given: usize,
 }
 

@@ -1,51 +1,53 @@
 // The answers of the entries on models, as numbers.
 use bisim_build::builder::Built;
-use bisim_core::ids::{Found, Interned, Resolved};
-use bisim_core::wlts::{Counted, Start, Successors};
+use bisim_core::ids::{LabelId, StateId};
+use numbers::refusal::Refusal;
 use replay_text::answers::{Answer, given, refused};
 use replay_text::text;
 
-pub fn of_interned(a: Interned) -> Answer {
+// The id, and how many labels there are with it.
+pub fn of_interned(a: Result<(LabelId, usize), Refusal>) -> Answer {
     match a {
-        Interned::Id(id, n) => given(id.0 as u64, n as u64),
-        Interned::Refused(k) => refused(k),
+        Ok((id, count)) => given(u64::from(id.0), count as u64),
+        Err(refusal) => refused(refusal.number()),
     }
 }
 
-pub fn of_found(a: Found) -> Answer {
+pub fn of_found(a: Result<Option<LabelId>, Refusal>) -> Answer {
     match a {
-        Found::Id(id) => given(id.0 as u64, 0),
-        Found::Absent => given(text::ABSENT, 0),
-        Found::Refused(k) => refused(k),
+        Ok(Some(id)) => given(u64::from(id.0), 0),
+        Ok(None) => given(text::ABSENT, 0),
+        Err(refusal) => refused(refusal.number()),
     }
 }
 
-pub fn of_resolved(a: Resolved) -> Answer {
+pub fn of_resolved(a: Result<u32, Refusal>) -> Answer {
     match a {
-        Resolved::Label(x) => given(x as u64, 0),
-        Resolved::Refused(k) => refused(k),
+        Ok(value) => given(u64::from(value), 0),
+        Err(refusal) => refused(refusal.number()),
     }
 }
 
-pub fn of_counted(a: Counted) -> Answer {
+pub fn of_counted(a: Result<usize, Refusal>) -> Answer {
     match a {
-        Counted::Number(n) => given(n as u64, 0),
-        Counted::Refused(k) => refused(k),
+        Ok(n) => given(n as u64, 0),
+        Err(refusal) => refused(refusal.number()),
     }
 }
 
-pub fn of_start(a: Start) -> Answer {
+pub fn of_start(a: Result<Option<StateId>, Refusal>) -> Answer {
     match a {
-        Start::At(s) => given(s.0 as u64, 0),
-        Start::Absent => given(text::ABSENT, 0),
-        Start::Refused(k) => refused(k),
+        Ok(Some(s)) => given(u64::from(s.0), 0),
+        Ok(None) => given(text::ABSENT, 0),
+        Err(refusal) => refused(refusal.number()),
     }
 }
 
-pub fn of_successors(a: Successors) -> Answer {
+// Where edges begin, and where they end.
+pub fn of_successors(a: Result<(usize, usize), Refusal>) -> Answer {
     match a {
-        Successors::Edges(from, to) => given(from as u64, to as u64),
-        Successors::Refused(k) => refused(k),
+        Ok((from, to)) => given(from as u64, to as u64),
+        Err(refusal) => refused(refusal.number()),
     }
 }
 

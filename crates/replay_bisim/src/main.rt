@@ -2,6 +2,7 @@
 // The names of lines are skipped. A case whose values are not as laid out, or with a list that is too long, differs.
 #![tactic(auto)]
 
+mod lent; // lent.rt: the lists that are lent
 mod models; // models.rt: the kind `bisim_distance`
 mod side; // side.rt: a model in the text
 

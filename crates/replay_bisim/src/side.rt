@@ -1,46 +1,54 @@
 // A model in the text, with its state, its observations and how much is lent for its chain.
 use bisim_core::ids::StateId;
-use bisim_core::wlts::Shape;
+use bisim_core::wlts::Wlts;
+use replay_measures::asked;
 use replay_measures::asked::Rooms;
-use replay_measures::{asked, stores};
+use replay_text::columns::Model;
 use replay_text::text::Reader;
-use replay_text::{columns, text};
+use replay_text::{lists, text};
 
-// Its lists are in two stores, label values, offsets, labels and targets in one, weights and observations in the other; where each ends.
-#[derive(Clone, Copy)]
+// What is read.
+#[derive(Drop)]
 pub struct Side {
-    pub shape: Shape,
-    pub values: usize,
-    pub offsets: usize,
-    pub labels: usize,
-    pub targets: usize,
-    pub weights: usize,
-    pub seen: usize,
-    pub state: StateId,
+    model: Model,
+    state: StateId,
+    observations: [f64; 200],
+    seen: usize,
     pub rooms: Rooms,
     pub r: Reader,
 }
 
-pub fn read(buf: &[u8], r: Reader, cells: &mut [u32; 400], reals: &mut [f64; 200]) -> Side {
-    let x = columns::read_shape(buf, r);
-    let v = stores::list_at(buf, x.r, cells, 0);
-    let o = stores::list_at(buf, v.r, cells, v.n);
-    let l = stores::list_at(buf, o.r, cells, o.n);
-    let t = stores::list_at(buf, l.r, cells, l.n);
-    let w = stores::reals_at(buf, t.r, reals, 0);
-    let state = text::short_field(buf, w.r);
-    let s = stores::reals_at(buf, state.r, reals, w.n);
-    let rooms = asked::read_rooms(buf, s.r);
+// What is asked of it.
+#[derive(Clone, Copy)]
+pub struct Given<'a> {
+    pub model: Wlts<'a>,
+    pub state: StateId,
+    pub observations: &'a [f64],
+}
+
+pub fn read(buf: &[u8], r: Reader) -> Side {
+    let mut model = Model::new();
+    let mut observations = [0.0f64; 200];
+    let end = model.read(buf, r);
+    let state = text::short_field(buf, end);
+    let seen = lists::reals_field(buf, state.r, &mut observations);
+    let rooms = asked::read_rooms(buf, seen.r);
     Side {
-        shape: x.shape,
-        values: v.n,
-        offsets: o.n,
-        labels: l.n,
-        targets: t.n,
-        weights: w.n,
-        seen: s.n,
+        model,
         state: StateId(text::narrow(state.x)),
+        observations,
+        seen: seen.n,
         rooms,
         r: rooms.r,
+    }
+}
+
+impl Side {
+    pub fn given<'a>(&'a self) -> Given<'a> {
+        Given {
+            model: self.model.lent(),
+            state: self.state,
+            observations: lists::reals_front(&self.observations, self.seen),
+        }
     }
 }

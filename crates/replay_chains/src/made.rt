@@ -1,6 +1,6 @@
 // The kind `uniformise`: a model, a rate, observations and the lists lent for the chain; how many entries it has, and the lists afterwards.
 use crate::entries;
-use bisim_core::wlts::Shape;
+use bisim_core::wlts::Wlts;
 use chains::chain::{Uniformised, uniformise};
 use replay_text::answers::Answer;
 use replay_text::text::Reader;
@@ -33,12 +33,7 @@ fn compare(
 fn check(
     buf: &[u8],
     r: Reader,
-    shape: Shape,
-    label_values: &[u32],
-    offsets: &[u32],
-    edge_labels: &[u32],
-    edge_targets: &[u32],
-    edge_weights: &[f64],
+    model: &Wlts,
     rate: f64,
     observations: &[f64],
     chain_offsets: &mut [u32],
@@ -47,12 +42,7 @@ fn check(
     chain_seen: &mut [f64],
 ) -> Reader {
     let answer = of_uniformised(uniformise(
-        shape,
-        label_values,
-        offsets,
-        edge_labels,
-        edge_targets,
-        edge_weights,
+        model,
         rate,
         observations,
         chain_offsets,
@@ -72,18 +62,7 @@ fn check(
 }
 
 // The lists lent for the chain.
-fn run_lent(
-    buf: &[u8],
-    r: Reader,
-    shape: Shape,
-    label_values: &[u32],
-    offsets: &[u32],
-    edge_labels: &[u32],
-    edge_targets: &[u32],
-    edge_weights: &[f64],
-    rate: f64,
-    observations: &[f64],
-) -> Reader {
+fn run_lent(buf: &[u8], r: Reader, model: &Wlts, rate: f64, observations: &[f64]) -> Reader {
     let mut chain_offsets = [0u32; 100];
     let mut chain_targets = [0u32; 100];
     let mut chain_probs = [0.0f64; 100];
@@ -95,12 +74,7 @@ fn run_lent(
     check(
         buf,
         s.r,
-        shape,
-        label_values,
-        offsets,
-        edge_labels,
-        edge_targets,
-        edge_weights,
+        model,
         rate,
         observations,
         fronts::front_mut(&mut chain_offsets, o.n),
@@ -111,29 +85,14 @@ fn run_lent(
 }
 
 // The rate and the observations, where the model is read.
-pub fn run_seen(
-    buf: &[u8],
-    r: Reader,
-    counts: &mut [u64; 48],
-    shape: Shape,
-    label_values: &[u32],
-    offsets: &[u32],
-    edge_labels: &[u32],
-    edge_targets: &[u32],
-    edge_weights: &[f64],
-) -> Reader {
+pub fn run_seen(buf: &[u8], r: Reader, counts: &mut [u64; 48], model: &Wlts) -> Reader {
     let mut observations = [0.0f64; 100];
     let rate = text::real_field(buf, r);
     let x = lists::reals_field(buf, rate.r, &mut observations);
     let s = run_lent(
         buf,
         x.r,
-        shape,
-        label_values,
-        offsets,
-        edge_labels,
-        edge_targets,
-        edge_weights,
+        model,
         rate.x,
         lists::reals_front(&observations, x.n),
     );

@@ -1,109 +1,68 @@
 // The kinds `relation` and `related`.
 use crate::{entries, outcomes, store};
 use bisim_core::ids::StateId;
-use bisim_core::wlts::Shape;
+use bisim_core::wlts::Wlts;
 use bisimilar::bisimilar::epsdelta_bisimilar;
 use bisimilar::related::related;
 use epsdelta::relation::epsdelta;
 use min_epsilon::least::{Least, min_epsilon};
+use replay_text::columns::Model;
 use replay_text::text::Reader;
-use replay_text::{answers, columns, fronts, lists, tally, text};
+use replay_text::{answers, fronts, lists, tally, text};
 
-// What is asked, and where its stored answers begin.
+// What is asked: two models with the classes of their states, the tolerances, and the bytes listed.
 #[derive(Clone, Copy)]
-struct Asked {
-    r: Reader,
-    left: Shape,
-    right: Shape,
+struct Asked<'a> {
+    left: Wlts<'a>,
+    right: Wlts<'a>,
+    left_classes: &'a [u32],
+    right_classes: &'a [u32],
     epsilon: f64,
     rho: f64,
+    listed: &'a [u8],
 }
 
 fn check_epsdelta(
     buf: &[u8],
+    r: Reader,
     counts: &mut [u64; 48],
     x: Asked,
-    left_values: &[u32],
-    left_offsets: &[u32],
-    left_labels: &[u32],
-    left_targets: &[u32],
-    left_weights: &[f64],
-    right_values: &[u32],
-    right_offsets: &[u32],
-    right_labels: &[u32],
-    right_targets: &[u32],
-    right_weights: &[f64],
-    left_classes: &[u32],
-    right_classes: &[u32],
-    listed: &[u8],
     lent: &mut [u8],
 ) -> Reader {
-    store::fill(lent, listed);
+    store::fill(lent, x.listed);
     let answer = outcomes::of_ended(epsdelta(
-        x.left,
-        left_values,
-        left_offsets,
-        left_labels,
-        left_targets,
-        left_weights,
-        x.right,
-        right_values,
-        right_offsets,
-        right_labels,
-        right_targets,
-        right_weights,
-        left_classes,
-        right_classes,
+        &x.left,
+        &x.right,
+        x.left_classes,
+        x.right_classes,
         x.epsilon,
         x.rho,
         lent,
     ));
-    let s = answers::expect_refusal(buf, x.r, answer);
-    let t = store::expect(buf, s, lent, listed.len());
+    let s = answers::expect_refusal(buf, r, answer);
+    let t = store::expect(buf, s, lent, x.listed.len());
     tally::count(counts, entries::EPSDELTA, t)
 }
 
 fn check_bisimilar(
     buf: &[u8],
+    r: Reader,
     counts: &mut [u64; 48],
     x: Asked,
-    left_values: &[u32],
-    left_offsets: &[u32],
-    left_labels: &[u32],
-    left_targets: &[u32],
-    left_weights: &[f64],
-    right_values: &[u32],
-    right_offsets: &[u32],
-    right_labels: &[u32],
-    right_targets: &[u32],
-    right_weights: &[f64],
-    left_classes: &[u32],
-    right_classes: &[u32],
-    listed: &[u8],
     lent: &mut [u8],
 ) -> Reader {
-    store::fill(lent, listed);
+    store::fill(lent, x.listed);
     let answer = outcomes::of_verdict(epsdelta_bisimilar(
-        x.left,
-        left_values,
-        left_offsets,
-        left_labels,
-        left_targets,
-        left_weights,
-        x.right,
-        right_values,
-        right_offsets,
-        right_labels,
-        right_targets,
-        right_weights,
-        left_classes,
-        right_classes,
+        &x.left,
+        &x.right,
+        x.left_classes,
+        x.right_classes,
         x.epsilon,
         x.rho,
         lent,
     ));
-    let s = answers::expect_one(buf, x.r, answer);
-    let t = store::expect(buf, s, lent, listed.len());
+    let s = answers::expect_one(buf, r, answer);
+    let t = store::expect(buf, s, lent, x.listed.len());
     tally::count(counts, entries::EPSDELTA_BISIMILAR, t)
 }
 
@@ -127,187 +86,33 @@ fn expect_least(buf: &[u8], r: Reader, least: Least) -> Reader {
 
 fn check_min_epsilon(
     buf: &[u8],
+    r: Reader,
     counts: &mut [u64; 48],
     x: Asked,
-    left_values: &[u32],
-    left_offsets: &[u32],
-    left_labels: &[u32],
-    left_targets: &[u32],
-    left_weights: &[f64],
-    right_values: &[u32],
-    right_offsets: &[u32],
-    right_labels: &[u32],
-    right_targets: &[u32],
-    right_weights: &[f64],
-    left_classes: &[u32],
-    right_classes: &[u32],
-    listed: &[u8],
     lent: &mut [u8],
 ) -> Reader {
-    store::fill(lent, listed);
+    store::fill(lent, x.listed);
     let answer = min_epsilon(
-        x.left,
-        left_values,
-        left_offsets,
-        left_labels,
-        left_targets,
-        left_weights,
-        x.right,
-        right_values,
-        right_offsets,
-        right_labels,
-        right_targets,
-        right_weights,
-        left_classes,
-        right_classes,
+        &x.left,
+        &x.right,
+        x.left_classes,
+        x.right_classes,
         x.rho,
         lent,
     );
-    let s = expect_least(buf, x.r, answer);
-    let t = store::expect(buf, s, lent, listed.len());
+    let s = expect_least(buf, r, answer);
+    let t = store::expect(buf, s, lent, x.listed.len());
     tally::count(counts, entries::MIN_EPSILON, t)
 }
 
-// The relation, and whether the initial states are in it.
-fn check_relation(
-    buf: &[u8],
-    counts: &mut [u64; 48],
-    x: Asked,
-    left_values: &[u32],
-    left_offsets: &[u32],
-    left_labels: &[u32],
-    left_targets: &[u32],
-    left_weights: &[f64],
-    right_values: &[u32],
-    right_offsets: &[u32],
-    right_labels: &[u32],
-    right_targets: &[u32],
-    right_weights: &[f64],
-    left_classes: &[u32],
-    right_classes: &[u32],
-    listed: &[u8],
-    lent: &mut [u8],
-) -> Reader {
-    let s = check_epsdelta(
-        buf,
-        counts,
-        x,
-        left_values,
-        left_offsets,
-        left_labels,
-        left_targets,
-        left_weights,
-        right_values,
-        right_offsets,
-        right_labels,
-        right_targets,
-        right_weights,
-        left_classes,
-        right_classes,
-        listed,
-        lent,
-    );
-    let y = Asked { r: s, ..x };
-    check_bisimilar(
-        buf,
-        counts,
-        y,
-        left_values,
-        left_offsets,
-        left_labels,
-        left_targets,
-        left_weights,
-        right_values,
-        right_offsets,
-        right_labels,
-        right_targets,
-        right_weights,
-        left_classes,
-        right_classes,
-        listed,
-        lent,
-    )
-}
-
-// Each entry gets the bytes as they are at first.
-fn check(
-    buf: &[u8],
-    counts: &mut [u64; 48],
-    x: Asked,
-    left_values: &[u32],
-    left_offsets: &[u32],
-    left_labels: &[u32],
-    left_targets: &[u32],
-    left_weights: &[f64],
-    right_values: &[u32],
-    right_offsets: &[u32],
-    right_labels: &[u32],
-    right_targets: &[u32],
-    right_weights: &[f64],
-    left_classes: &[u32],
-    right_classes: &[u32],
-    listed: &[u8],
-    lent: &mut [u8],
-) -> Reader {
-    let s = check_relation(
-        buf,
-        counts,
-        x,
-        left_values,
-        left_offsets,
-        left_labels,
-        left_targets,
-        left_weights,
-        right_values,
-        right_offsets,
-        right_labels,
-        right_targets,
-        right_weights,
-        left_classes,
-        right_classes,
-        listed,
-        lent,
-    );
-    let y = Asked { r: s, ..x };
-    check_min_epsilon(
-        buf,
-        counts,
-        y,
-        left_values,
-        left_offsets,
-        left_labels,
-        left_targets,
-        left_weights,
-        right_values,
-        right_offsets,
-        right_labels,
-        right_targets,
-        right_weights,
-        left_classes,
-        right_classes,
-        listed,
-        lent,
-    )
-}
-
-// The classes, the tolerances and the bytes.
+// The classes, the tolerances and the bytes; each entry gets the bytes as they are at first.
 fn run_lent(
     buf: &[u8],
     r: Reader,
     counts: &mut [u64; 48],
     bytes: &mut [u8],
-    left: Shape,
-    left_values: &[u32],
-    left_offsets: &[u32],
-    left_labels: &[u32],
-    left_targets: &[u32],
-    left_weights: &[f64],
-    right: Shape,
-    right_values: &[u32],
-    right_offsets: &[u32],
-    right_labels: &[u32],
-    right_targets: &[u32],
-    right_weights: &[f64],
+    left: Wlts,
+    right: Wlts,
 ) -> Reader {
     let mut left_classes = [0u32; 2112];
     let mut right_classes = [0u32; 2112];
@@ -318,110 +123,27 @@ fn run_lent(
     let rho = text::real_field(buf, epsilon.r);
     let l = store::read(buf, rho.r, &mut listed, bytes.len());
     let x = Asked {
-        r: l.r,
         left,
         right,
+        left_classes: lists::front(&left_classes, m.n),
+        right_classes: lists::front(&right_classes, n.n),
         epsilon: epsilon.x,
         rho: rho.x,
+        listed: lists::bytes_front(&listed, l.n),
     };
-    check(
-        buf,
-        counts,
-        x,
-        left_values,
-        left_offsets,
-        left_labels,
-        left_targets,
-        left_weights,
-        right_values,
-        right_offsets,
-        right_labels,
-        right_targets,
-        right_weights,
-        lists::front(&left_classes, m.n),
-        lists::front(&right_classes, n.n),
-        lists::bytes_front(&listed, l.n),
-        fronts::bytes_front_mut(bytes, l.room),
-    )
+    let lent = fronts::bytes_front_mut(bytes, l.room);
+    let s = check_epsdelta(buf, l.r, counts, x, lent);
+    let t = check_bisimilar(buf, s, counts, x, lent);
+    check_min_epsilon(buf, t, counts, x, lent)
 }
 
-// The right model.
-fn run_right(
-    buf: &[u8],
-    r: Reader,
-    counts: &mut [u64; 48],
-    bytes: &mut [u8],
-    left: Shape,
-    left_values: &[u32],
-    left_offsets: &[u32],
-    left_labels: &[u32],
-    left_targets: &[u32],
-    left_weights: &[f64],
-) -> Reader {
-    let mut values = [0u32; 2112];
-    let mut offsets = [0u32; 2112];
-    let mut labels = [0u32; 2112];
-    let mut targets = [0u32; 2112];
-    let mut weights = [0.0f64; 2112];
-    let x = columns::read_shape(buf, r);
-    let c = columns::read(
-        buf,
-        x.r,
-        &mut values,
-        &mut offsets,
-        &mut labels,
-        &mut targets,
-        &mut weights,
-    );
-    run_lent(
-        buf,
-        c.r,
-        counts,
-        bytes,
-        left,
-        left_values,
-        left_offsets,
-        left_labels,
-        left_targets,
-        left_weights,
-        x.shape,
-        columns::part(&values, c.label_values),
-        columns::part(&offsets, c.offsets),
-        columns::part(&labels, c.edge_labels),
-        columns::part(&targets, c.edge_targets),
-        columns::reals_part(&weights, c.edge_weights),
-    )
-}
-
-// The left model.
+// Both models, and what comes after them.
 pub fn run(buf: &[u8], r: Reader, counts: &mut [u64; 48], bytes: &mut [u8]) -> Reader {
-    let mut values = [0u32; 2112];
-    let mut offsets = [0u32; 2112];
-    let mut labels = [0u32; 2112];
-    let mut targets = [0u32; 2112];
-    let mut weights = [0.0f64; 2112];
-    let x = columns::read_shape(buf, r);
-    let c = columns::read(
-        buf,
-        x.r,
-        &mut values,
-        &mut offsets,
-        &mut labels,
-        &mut targets,
-        &mut weights,
-    );
-    run_right(
-        buf,
-        c.r,
-        counts,
-        bytes,
-        x.shape,
-        columns::part(&values, c.label_values),
-        columns::part(&offsets, c.offsets),
-        columns::part(&labels, c.edge_labels),
-        columns::part(&targets, c.edge_targets),
-        columns::reals_part(&weights, c.edge_weights),
-    )
+    let mut left = Model::new();
+    let mut right = Model::new();
+    let s = left.read(buf, r);
+    let t = right.read(buf, s);
+    run_lent(buf, t, counts, bytes, left.lent(), right.lent())
 }
 
 // Whether the bytes, as they are handed in, hold s with t.

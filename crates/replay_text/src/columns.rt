@@ -1,12 +1,11 @@
 // A built model in the text: counts, initial state and columns.
-ghost use Rattle.std.specs.Prelude.{◌≡◌, ◌≤◌, take};
-ghost use Rattle.bisim_core.specs.declared.wlts.Initial.TheVariants as starts;
+ghost use Rattle.std.specs.Prelude.{◌≡◌, take};
 ghost use Rattle.replay_text.specs.Reading.{Lasts};
 
 use crate::text::Reader;
 use crate::{lists, text};
 use bisim_core::ids::StateId;
-use bisim_core::wlts::{Initial, Shape};
+use bisim_core::wlts::{Shape, Wlts};
 
 #[derive(Clone, Copy)]
 pub struct ShapeRead {
@@ -14,25 +13,47 @@ pub struct ShapeRead {
     pub r: Reader,
 }
 
-// How many entries each column has.
-#[derive(Clone, Copy)]
-pub struct Columns {
-    pub label_values: usize,
-    pub offsets: usize,
-    pub edge_labels: usize,
-    pub edge_targets: usize,
-    pub edge_weights: usize,
-    pub r: Reader,
+// Room for a column, and how many of its entries are read.
+#[derive(Drop)]
+struct Column<T> {
+    entries: [T; 2112],
+    count: usize,
+}
+
+impl<T: Copy> Column<T> {
+    fn new(zero: T) -> Column<T> {
+        Column {
+            entries: [zero; 2112],
+            count: 0,
+        }
+    }
+
+    fn read(&self) -> &[T]
+        ensures { result.now ≡ take self.now.count self.now.entries }
+    {
+        self.entries.get(..self.count).unwrap_or(&self.entries)
+    }
+}
+
+// A model that is read, in memory of its own.
+#[derive(Drop)]
+pub struct Model {
+    shape: Shape,
+    label_values: Column<u32>,
+    offsets: Column<u32>,
+    edge_labels: Column<u32>,
+    edge_targets: Column<u32>,
+    edge_weights: Column<f64>,
 }
 
 // An absent initial state is written `-`.
-pub fn to_initial(x: u64) -> Initial
-    ensures { x ≡ 18446744073709551615 → result ≡ Initial.Absent }
+pub fn to_initial(x: u64) -> Option<StateId>
+    ensures { x ≡ 18446744073709551615 → result ≡ None }
 {
     if x == text::ABSENT {
-        return Initial::Absent;
+        return None;
     }
-    Initial::At(StateId(text::narrow(x)))
+    Some(StateId(text::narrow(x)))
 }
 
 pub fn read_shape(buf: &[u8], r: Reader) -> ShapeRead
@@ -42,12 +63,11 @@ pub fn read_shape(buf: &[u8], r: Reader) -> ShapeRead
     let edges = text::number_field(buf, states.r);
     let labels = text::number_field(buf, edges.r);
     let initial = text::number_field(buf, labels.r);
-    let start = to_initial(initial.x);
     let shape = Shape {
         states: states.x as usize,
         edges: edges.x as usize,
         labels: labels.x as usize,
-        initial: start,
+        initial: to_initial(initial.x),
     };
     ShapeRead {
         shape,
@@ -55,42 +75,65 @@ pub fn read_shape(buf: &[u8], r: Reader) -> ShapeRead
     }
 }
 
-// The columns, to the front of each store.
-pub fn read(
-    buf: &[u8],
-    r: Reader,
-    label_values: &mut [u32; 2112],
-    offsets: &mut [u32; 2112],
-    edge_labels: &mut [u32; 2112],
-    edge_targets: &mut [u32; 2112],
-    edge_weights: &mut [f64; 2112],
-) -> Columns
-    ensures { Lasts r result.r }
+fn list(buf: &[u8], r: Reader, column: &mut Column<u32>) -> Reader
+    ensures { Lasts r result }
 {
-    let l = lists::list_field(buf, r, label_values);
-    let o = lists::list_field(buf, l.r, offsets);
-    let el = lists::list_field(buf, o.r, edge_labels);
-    let et = lists::list_field(buf, el.r, edge_targets);
-    let ew = lists::reals_field(buf, et.r, edge_weights);
-    Columns {
-        label_values: l.n,
-        offsets: o.n,
-        edge_labels: el.n,
-        edge_targets: et.n,
-        edge_weights: ew.n,
-        r: ew.r,
+    let l = lists::list_field(buf, r, &mut column.entries);
+    column.count = l.n;
+    l.r
+}
+
+fn reals(buf: &[u8], r: Reader, column: &mut Column<f64>) -> Reader
+    ensures { Lasts r result }
+{
+    let l = lists::reals_field(buf, r, &mut column.entries);
+    column.count = l.n;
+    l.r
+}
+
+impl Model {
+    // No state, and columns without entries.
+    pub fn new() -> Model
+        ensures { result.shape.states ≡ 0 }
+    {
+        Model {
+            shape: Shape {
+                states: 0,
+                edges: 0,
+                labels: 0,
+                initial: None,
+            },
+            label_values: Column::new(0),
+            offsets: Column::new(0),
+            edge_labels: Column::new(0),
+            edge_targets: Column::new(0),
+            edge_weights: Column::new(0.0),
+        }
     }
-}
 
-// The first n entries of a store.
-pub fn part<'a>(xs: &'a [u32; 2112], n: usize) -> &'a [u32]
-    ensures { result.now ≡ take n xs.now }
-{
-    lists::front(xs, n)
-}
+    pub fn read(&mut self, buf: &[u8], r: Reader) -> Reader
+        ensures { Lasts r result }
+    {
+        let x = read_shape(buf, r);
+        self.shape = x.shape;
+        let values = list(buf, x.r, &mut self.label_values);
+        let offsets = list(buf, values, &mut self.offsets);
+        let labels = list(buf, offsets, &mut self.edge_labels);
+        let targets = list(buf, labels, &mut self.edge_targets);
+        reals(buf, targets, &mut self.edge_weights)
+    }
 
-pub fn reals_part<'a>(xs: &'a [f64; 2112], n: usize) -> &'a [f64]
-    ensures { result.now ≡ take n xs.now }
-{
-    lists::reals_front(xs, n)
+    pub fn lent<'a>(&'a self) -> Wlts<'a>
+        ensures { (result.shape ≡ self.now.shape) × (result.label_values.now ≡ take self.now.label_values.count self.now.label_values.entries) × (result.offsets.now ≡ take self.now.offsets.count self.now.offsets.entries)
+            × (result.edge_labels.now ≡ take self.now.edge_labels.count self.now.edge_labels.entries) × (result.edge_targets.now ≡ take self.now.edge_targets.count self.now.edge_targets.entries) × (result.edge_weights.now ≡ take self.now.edge_weights.count self.now.edge_weights.entries) }
+    {
+        Wlts {
+            shape: self.shape,
+            label_values: self.label_values.read(),
+            offsets: self.offsets.read(),
+            edge_labels: self.edge_labels.read(),
+            edge_targets: self.edge_targets.read(),
+            edge_weights: self.edge_weights.read(),
+        }
+    }
 }

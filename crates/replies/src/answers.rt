@@ -1,98 +1,107 @@
 // An answer as numbers: 0, with what it holds put behind the references; or a refusal's number, the references left as they were.
 ghost use Rattle.std.specs.Prelude.{◌≡◌, [], ◌∷◌};
+ghost use Rattle.numbers.specs.Refuse.{numbered};
 ghost use Rattle.replies.specs.Answers.{of_interned, of_found, of_resolved, of_counted, of_start, of_successors, of_built};
 ghost use Rattle.replies.specs.Flows.{told, of_flow};
 ghost use Rattle.replies.specs.Relations.{of_ended, of_verdict, sought, of_least};
 
 use bisim_build::builder::Built;
-use bisim_core::ids::{Found, Interned, Resolved};
-use bisim_core::wlts::{Counted, Start, Successors};
+use bisim_core::ids::{LabelId, StateId};
 use bisimilar::related::Verdict;
 use epsdelta::relation::Ended;
 use flow_core::rows::Answer;
 use min_epsilon::least::Least;
+use numbers::refusal::{Refusal, code};
 
-pub fn put_interned(answer: Interned, id: &mut u32, total: &mut usize) -> u32
-    ensures { result ∷ id.new ∷ total.new ∷ [] ≡ of_interned answer id.old total.old }
+pub fn put_interned(
+    interned: Result<(LabelId, usize), Refusal>,
+    id: &mut u32,
+    total: &mut usize,
+) -> u32
+    ensures { result ∷ id.new ∷ total.new ∷ [] ≡ of_interned (numbered interned) id.old total.old }
 {
-    match answer {
-        Interned::Id(l, n) => {
+    match interned {
+        Ok((l, n)) => {
             *id = l.0;
             *total = n;
             0
         }
-        Interned::Refused(k) => k,
+        Err(_) => code(&interned),
     }
 }
 
-pub fn put_found(answer: Found, present: &mut u32, id: &mut u32) -> u32
-    ensures { result ∷ present.new ∷ id.new ∷ [] ≡ of_found answer present.old id.old }
+pub fn put_found(found: Result<Option<LabelId>, Refusal>, present: &mut u32, id: &mut u32) -> u32
+    ensures { result ∷ present.new ∷ id.new ∷ [] ≡ of_found (numbered found) present.old id.old }
 {
-    match answer {
-        Found::Id(l) => {
+    match found {
+        Ok(Some(l)) => {
             *present = 1;
             *id = l.0;
             0
         }
-        Found::Absent => {
+        Ok(None) => {
             *present = 0;
             0
         }
-        Found::Refused(k) => k,
+        Err(_) => code(&found),
     }
 }
 
-pub fn put_resolved(answer: Resolved, value: &mut u32) -> u32
-    ensures { result ∷ value.new ∷ [] ≡ of_resolved answer value.old }
+pub fn put_resolved(resolved: Result<u32, Refusal>, value: &mut u32) -> u32
+    ensures { result ∷ value.new ∷ [] ≡ of_resolved (numbered resolved) value.old }
 {
-    match answer {
-        Resolved::Label(v) => {
+    match resolved {
+        Ok(v) => {
             *value = v;
             0
         }
-        Resolved::Refused(k) => k,
+        Err(_) => code(&resolved),
     }
 }
 
-pub fn put_counted(answer: Counted, count: &mut usize) -> u32
-    ensures { result ∷ count.new ∷ [] ≡ of_counted answer count.old }
+pub fn put_counted(counted: Result<usize, Refusal>, count: &mut usize) -> u32
+    ensures { result ∷ count.new ∷ [] ≡ of_counted (numbered counted) count.old }
 {
-    match answer {
-        Counted::Number(n) => {
+    match counted {
+        Ok(n) => {
             *count = n;
             0
         }
-        Counted::Refused(k) => k,
+        Err(_) => code(&counted),
     }
 }
 
-pub fn put_start(answer: Start, found: &mut u32, state: &mut u32) -> u32
-    ensures { result ∷ found.new ∷ state.new ∷ [] ≡ of_start answer found.old state.old }
+pub fn put_start(start: Result<Option<StateId>, Refusal>, found: &mut u32, state: &mut u32) -> u32
+    ensures { result ∷ found.new ∷ state.new ∷ [] ≡ of_start (numbered start) found.old state.old }
 {
-    match answer {
-        Start::At(s) => {
+    match start {
+        Ok(Some(s)) => {
             *found = 1;
             *state = s.0;
             0
         }
-        Start::Absent => {
+        Ok(None) => {
             *found = 0;
             0
         }
-        Start::Refused(k) => k,
+        Err(_) => code(&start),
     }
 }
 
-pub fn put_successors(answer: Successors, from: &mut usize, to: &mut usize) -> u32
-    ensures { result ∷ from.new ∷ to.new ∷ [] ≡ of_successors answer from.old to.old }
+pub fn put_successors(
+    successors: Result<(usize, usize), Refusal>,
+    from: &mut usize,
+    to: &mut usize,
+) -> u32
+    ensures { result ∷ from.new ∷ to.new ∷ [] ≡ of_successors (numbered successors) from.old to.old }
 {
-    match answer {
-        Successors::Edges(f, t) => {
+    match successors {
+        Ok((f, t)) => {
             *from = f;
             *to = t;
             0
         }
-        Successors::Refused(k) => k,
+        Err(_) => code(&successors),
     }
 }
 

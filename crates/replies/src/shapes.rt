@@ -3,21 +3,21 @@ ghost use Rattle.std.specs.Prelude.{◌≡◌};
 ghost use Rattle.replies.specs.Answers.{initial, shape};
 
 use bisim_core::ids::StateId;
-use bisim_core::wlts::{Initial, Shape};
+use bisim_core::wlts::Shape;
 
 // No initial state where `present` is 0.
-pub fn initial_of(present: u32, start: u32) -> Initial
+pub fn initial_of(present: u32, start: u32) -> Option<StateId>
     ensures { result ≡ initial present start }
 {
     if present == 0 {
-        Initial::Absent
+        None
     } else {
-        Initial::At(StateId(start))
+        Some(StateId(start))
     }
 }
 
 // A model's counts and initial state.
-pub fn shape_from(states: usize, edges: usize, labels: usize, initial: Initial) -> Shape
+pub fn shape_from(states: usize, edges: usize, labels: usize, initial: Option<StateId>) -> Shape
     ensures { result ≡ shape states edges labels initial }
 {
     Shape {

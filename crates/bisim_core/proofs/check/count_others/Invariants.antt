@@ -1,12 +1,9 @@
--- `Counting`: what the marks say, and how the targets known and those still to come make those of the row. The measure is what is left.
+-- `Counting`: what the marks say, and how the targets known and those still to come make those of the row.
 use mathlib.Core.Path.{◌≡◌}
-use Prim.Native.Nat.{◌-◌, ◌+◌}
+use Prim.Native.Nat.{◌+◌}
 use lib.ListN.{length}
 use Rattle.bisim_core.proofs.RowChecks.{Counting}
 use Rattle.bisim_core.proofs.check.count_others.Given as goal
 
 abbrev pub invariant-loop-i : goal.invariant-loop-i
 invariant-loop-i l = (l.mark ≡ l.s + 1) × Counting l.edge_targets l.from l.to l.s (length l.initial.marks) l.marks l.count l.i
-
-abbrev pub decreases-loop-i : goal.decreases-loop-i
-decreases-loop-i l = l.to - l.i

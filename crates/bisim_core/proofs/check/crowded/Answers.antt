@@ -1,4 +1,4 @@
-use mathlib.Core.Path.{◌≡◌, sym, ap, ◌∙◌}
+use mathlib.Core.Path.{◌≡◌, refl, sym, ap, ◌∙◌}
 use mathlib.Core.List.{List, []}
 use Prim.Native.Nat.{ℕ, ◌+◌}
 use native.Mathlib.Omega.{arith}
@@ -16,10 +16,10 @@ use Rattle.bisim_core.proofs.RowChecks.{unmarked}
 use Rattle.bisim_core.proofs.check.crowded.Goals as goal
 
 pub loop-s-init : goal.loop-s-init
-loop-s-init c = (omega arith, length-replicate {A = ℕ} 2000 0, unmarked 2000, λ k h. absurd (omega arith))
+loop-s-init c = (length-replicate {A = ℕ} 2000 0, unmarked 2000, λ k h. absurd (omega arith))
 
 pub slice_bounds-count_others-end : goal.slice_bounds-count_others-end
-slice_bounds-count_others-end c = sym c.loop-s.invariant.1
+slice_bounds-count_others-end c = sym c.loop-s.invariant.0
 
 pub count_others-requires : goal.count_others-requires
 count_others-requires c =
@@ -30,11 +30,9 @@ count_others-requires c =
     let h = c.loop-s-test.true in
     let a = p.2 s h in
     let b = begins_up (columns [] c.args.offsets.now [] [] []) n p.2 (s + 1) n (omega arith) (omega arith) in
-    let e = c.wide-from.ensures in
-    let f = c.wide-to.ensures in
     let g = p.3 in
-    let z = I.1 in
-    (omega arith, omega arith, omega arith, omega arith, λ i k. let t = p.4 i (omega arith) in omega arith, I.2)
+    let z = I.0 in
+    (omega arith, omega arith, omega arith, omega arith, λ i k. let t = p.4 i (omega arith) in omega arith, I.1)
 
 pub returns-then-count_others-gt31 : goal.returns-then-count_others-gt31
 returns-then-count_others-gt31 c =
@@ -42,7 +40,7 @@ returns-then-count_others-gt31 c =
     let s = c.loop-s.s in
     let M = columns D a.offsets.now L a.edge_targets.now W in
     crowded_at_lem M a.states s c.loop-s-test.true
-    ∙ ap (ltb 31) (sym (c.count_others.ensures.0 D a.offsets.now L W ∙ ap (λ l. length (distinct (others s l))) (row_is M s _ _ c.wide-from.ensures c.wide-to.ensures))) in
+    ∙ ap (ltb 31) (sym (c.count_others.ensures.0 D a.offsets.now L W ∙ ap (λ l. length (distinct (others s l))) (row_is M s _ _ refl refl))) in
     λ D L W. sym (crowded_by _ _ c.loop-s.s c.loop-s-test.true (counted D L W ∙ lt-ltb _ _ c.if-count_others-gt31.true))
 
 pub loop-s-preserved : goal.loop-s-preserved
@@ -51,14 +49,13 @@ loop-s-preserved c =
     let s = c.loop-s.s in
     let M = columns D a.offsets.now L a.edge_targets.now W in
     crowded_at_lem M a.states s c.loop-s-test.true
-    ∙ ap (ltb 31) (sym (c.count_others.ensures.0 D a.offsets.now L W ∙ ap (λ l. length (distinct (others s l))) (row_is M s _ _ c.wide-from.ensures c.wide-to.ensures))) in (
-      omega arith,
-      c.count_others.auto.marks ∙ c.loop-s.invariant.1,
+    ∙ ap (ltb 31) (sym (c.count_others.ensures.0 D a.offsets.now L W ∙ ap (λ l. length (distinct (others s l))) (row_is M s _ _ refl refl))) in (
+      c.count_others.auto.marks ∙ c.loop-s.invariant.0,
       c.count_others.ensures.1,
-      below_more _ _ c.loop-s.invariant.3 (λ D L W. counted D L W ∙ le-ltb _ _ c.if-count_others-gt31.false),
+      below_more _ _ c.loop-s.invariant.2 (λ D L W. counted D L W ∙ le-ltb _ _ c.if-count_others-gt31.false),
     )
 
 pub returns : goal.returns
 returns c =
     let g = c.loop-s-test.false in
-    λ D L W. sym (crowded_not _ _ (λ k h. c.loop-s.invariant.3 k (omega arith) D L W))
+    λ D L W. sym (crowded_not _ _ (λ k h. c.loop-s.invariant.2 k (omega arith) D L W))

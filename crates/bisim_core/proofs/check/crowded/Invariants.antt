@@ -1,8 +1,8 @@
--- No state before s is crowded, and no mark is above s. The measure is what is left.
+-- No state before s is crowded, and no mark is above s.
 use mathlib.Core.Path.{◌≡◌}
 use mathlib.Core.Bool.{false}
 use mathlib.Core.List.{List}
-use Prim.Native.Nat.{ℕ, ◌-◌, ◌≤◌, ◌<◌}
+use Prim.Native.Nat.{ℕ, ◌≤◌, ◌<◌}
 use lib.Ieee.{Float}
 use lib.ListN.{length, get_or}
 use Rattle.bisim_core.specs.Data.{columns}
@@ -11,7 +11,4 @@ use Rattle.bisim_core.specs.Model.{rows}
 use Rattle.bisim_core.proofs.check.crowded.Given as goal
 
 abbrev pub invariant-loop-s : goal.invariant-loop-s
-invariant-loop-s l = (l.s ≤ l.states) × (length l.marks ≡ 2000) × ((x : ℕ) → get_or l.marks x 0 ≤ l.s) × ((k : ℕ) → k < l.s → (D L : List ℕ) (W : List Float) → crowded_at (rows (columns D l.offsets L l.edge_targets W) 0 l.states) k ≡ false)
-
-abbrev pub decreases-loop-s : goal.decreases-loop-s
-decreases-loop-s l = l.states - l.s
+invariant-loop-s l = (length l.marks ≡ 2000) × ((x : ℕ) → get_or l.marks x 0 ≤ l.s) × ((k : ℕ) → k < l.s → (D L : List ℕ) (W : List Float) → crowded_at (rows (columns D l.offsets L l.edge_targets W) 0 l.states) k ≡ false)

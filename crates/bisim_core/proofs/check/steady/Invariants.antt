@@ -1,13 +1,10 @@
--- No offset before s is above the next. The measure is what is left.
+-- No offset before s is above the next.
 use mathlib.Core.Path.{◌≡◌}
 use mathlib.Core.Bool.{true}
-use Prim.Native.Nat.{ℕ, ◌-◌, ◌+◌, ◌≤◌, ◌<◌}
+use Prim.Native.Nat.{ℕ, ◌+◌, ◌<◌}
 use lib.ListN.{get_or}
 use lib.Dec.{leb}
 use Rattle.bisim_core.proofs.check.steady.Given as goal
 
 abbrev pub invariant-loop-s : goal.invariant-loop-s
-invariant-loop-s l = (l.s ≤ l.states) × ((k : ℕ) → k < l.s → leb (get_or l.offsets k 0) (get_or l.offsets (k + 1) 0) ≡ true)
-
-abbrev pub decreases-loop-s : goal.decreases-loop-s
-decreases-loop-s l = l.states - l.s
+invariant-loop-s l = ((k : ℕ) → k < l.s → leb (get_or l.offsets k 0) (get_or l.offsets (k + 1) 0) ≡ true)

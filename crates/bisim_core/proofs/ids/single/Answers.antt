@@ -23,16 +23,16 @@ module _ (l : List ℕ) (n : ℕ) (h : n ≤ length l) where
   failed k j f = every_not _ _ k (let q = length-take-le n l h in omega arith) (ne_eqb _ _ (λ e. f (sym (at k j) ∙ e)))
 
 pub loop-i-init : goal.loop-i-init
-loop-i-init c = (omega arith, λ k h. absurd (omega arith))
+loop-i-init c = λ k h. absurd (omega arith)
 
 pub returns-then-seek-i : goal.returns-then-seek-i
 returns-then-seek-i c = sym (failed _ _ c.requires _ c.loop-i-test.true (λ e. c.if-seek-i.true (c.seek.ensures ∙ e)))
 
 pub loop-i-preserved : goal.loop-i-preserved
-loop-i-preserved c = (omega arith, below_more _ _ c.loop-i.invariant.1 (sym c.seek.ensures ∙ c.if-seek-i.false))
+loop-i-preserved c = below_more _ _ c.loop-i.invariant (sym c.seek.ensures ∙ c.if-seek-i.false)
 
 pub returns : goal.returns
 returns c =
     let g = c.loop-i-test.false in
     let p = c.requires in
-    sym (passed _ _ p (λ k h. c.loop-i.invariant.1 k (omega arith)))
+    sym (passed _ _ p (λ k h. c.loop-i.invariant k (omega arith)))

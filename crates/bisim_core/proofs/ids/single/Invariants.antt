@@ -1,12 +1,9 @@
--- Each value before i is found where it stands. The measure is what is left.
+-- Each value before i is found where it stands.
 use mathlib.Core.Path.{◌≡◌}
-use Prim.Native.Nat.{ℕ, ◌-◌, ◌≤◌, ◌<◌}
+use Prim.Native.Nat.{ℕ, ◌<◌}
 use lib.ListN.{get_or, take}
 use Rattle.numbers.specs.Search.{seek}
 use Rattle.bisim_core.proofs.ids.single.Given as goal
 
 abbrev pub invariant-loop-i : goal.invariant-loop-i
-invariant-loop-i l = (l.i ≤ l.count) × ((k : ℕ) → k < l.i → seek (get_or l.labels k 0) (take l.count l.labels) ≡ k)
-
-abbrev pub decreases-loop-i : goal.decreases-loop-i
-decreases-loop-i l = l.count - l.i
+invariant-loop-i l = ((k : ℕ) → k < l.i → seek (get_or l.labels k 0) (take l.count l.labels) ≡ k)

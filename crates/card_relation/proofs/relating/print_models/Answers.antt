@@ -1,6 +1,6 @@
 -- `relating::print_models` meets its contract: what `epsdelta` ends with is the definition's, and `finish` prints it.
 use lib.ListN.{replicate}
-use Rattle.bisim_core.specs.Data.{columns}
+use Rattle.bisim_core.specs.Data.{columns, columns_of}
 use Rattle.epsdelta_theory.specs.Refusal.{epsdelta_refusal}
 use Rattle.epsdelta_theory.specs.Epsdelta.{given}
 use Rattle.epsdelta_theory.specs.Claim.{final}
@@ -11,10 +11,10 @@ pub returns : goal.returns
 returns c =
     let a = c.args in
     let p = c.requires in
-    let SL = a.left in
-    let ML = columns a.left_values.now a.left_offsets.now a.left_labels.now a.left_targets.now a.left_weights.now in
-    let SR = a.right in
-    let MR = columns a.right_values.now a.right_offsets.now a.right_labels.now a.right_targets.now a.right_weights.now in
+    let SL = a.left.now.shape in
+    let ML = columns_of a.left.now in
+    let SR = a.right.now.shape in
+    let MR = columns_of a.right.now in
     let cl = a.left_classes.now in
     let cr = a.right_classes.now in
     let x = c.parts.result in

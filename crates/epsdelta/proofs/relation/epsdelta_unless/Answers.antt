@@ -3,4 +3,4 @@ use Rattle.epsdelta.proofs.Entering.{small_known}
 use Rattle.epsdelta.proofs.relation.epsdelta_unless.Goals as goal
 
 pub epsdelta_small-requires : goal.epsdelta_small-requires
-epsdelta_small-requires c = small_known c.args.left c.args.right c.larger.ensures c.if-larger.false
+epsdelta_small-requires c = small_known c.args.left.now.shape c.args.right.now.shape c.larger.ensures c.if-larger.false

@@ -1,5 +1,5 @@
 -- `least::after_one` meets its contract: the arm says what the run at ε = 1 answered (Answering).
-use Rattle.bisim_core.specs.Data.{columns}
+use Rattle.bisim_core.specs.Data.{columns, columns_of}
 use Rattle.min_epsilon.proofs.Answering.{ends_at, ends_absent, ends_refused}
 use Rattle.min_epsilon.proofs.least.after_one.Goals as goal
 
@@ -11,10 +11,10 @@ below_one-requires c = c.requires c.in-Related.is
 pub returns-in-Related : goal.returns-in-Related
 returns-in-Related c =
     let a = c.args in
-    let SL = a.left in
-    let ML = columns a.left_values.now a.left_offsets.now a.left_labels.now a.left_targets.now a.left_weights.now in
-    let SR = a.right in
-    let MR = columns a.right_values.now a.right_offsets.now a.right_labels.now a.right_targets.now a.right_weights.now in
+    let SL = a.left.now.shape in
+    let ML = columns_of a.left.now in
+    let SR = a.right.now.shape in
+    let MR = columns_of a.right.now in
     let cl = a.left_classes.now in
     let cr = a.right_classes.now in
     let b = c.below_one in
@@ -24,10 +24,10 @@ returns-in-Related c =
 pub returns-in-Unrelated : goal.returns-in-Unrelated
 returns-in-Unrelated c =
     let a = c.args in
-    let SL = a.left in
-    let ML = columns a.left_values.now a.left_offsets.now a.left_labels.now a.left_targets.now a.left_weights.now in
-    let SR = a.right in
-    let MR = columns a.right_values.now a.right_offsets.now a.right_labels.now a.right_targets.now a.right_weights.now in
+    let SL = a.left.now.shape in
+    let ML = columns_of a.left.now in
+    let SR = a.right.now.shape in
+    let MR = columns_of a.right.now in
     let cl = a.left_classes.now in
     let cr = a.right_classes.now in
     λ store e. ends_absent SL ML SR MR cl cr a.rho store a.relation.now a.first e c.in-Unrelated.is
@@ -36,10 +36,10 @@ returns-in-Unrelated c =
 pub returns-in-Refused : goal.returns-in-Refused
 returns-in-Refused c =
     let a = c.args in
-    let SL = a.left in
-    let ML = columns a.left_values.now a.left_offsets.now a.left_labels.now a.left_targets.now a.left_weights.now in
-    let SR = a.right in
-    let MR = columns a.right_values.now a.right_offsets.now a.right_labels.now a.right_targets.now a.right_weights.now in
+    let SL = a.left.now.shape in
+    let ML = columns_of a.left.now in
+    let SR = a.right.now.shape in
+    let MR = columns_of a.right.now in
     let cl = a.left_classes.now in
     let cr = a.right_classes.now in
     λ store e. ends_refused SL ML SR MR cl cr a.rho store a.relation.now a.first e _ c.in-Refused.is

@@ -1,7 +1,7 @@
 -- `least::below_one` meets its contract: by the run at ε = 0, which leaves every byte zero (Runs).
 use mathlib.Core.Path.{refl}
 use Rattle.numbers.specs.Real.{nought}
-use Rattle.bisim_core.specs.Data.{columns}
+use Rattle.bisim_core.specs.Data.{columns, columns_of}
 use Rattle.epsdelta_theory.proofs.MinEpsilon.{nought_valid}
 use Rattle.min_epsilon.proofs.Runs.{zero_still, zero_again, unrefused, allowed}
 use Rattle.min_epsilon.proofs.least.below_one.Goals as goal
@@ -10,10 +10,10 @@ use Rattle.min_epsilon.proofs.least.below_one.Goals as goal
 pub holds-zero-requires : goal.holds-zero-requires
 holds-zero-requires c =
     let a = c.args in
-    let SL = a.left in
-    let ML = columns a.left_values.now a.left_offsets.now a.left_labels.now a.left_targets.now a.left_weights.now in
-    let SR = a.right in
-    let MR = columns a.right_values.now a.right_offsets.now a.right_labels.now a.right_targets.now a.right_weights.now in
+    let SL = a.left.now.shape in
+    let ML = columns_of a.left.now in
+    let SR = a.right.now.shape in
+    let MR = columns_of a.right.now in
     let cl = a.left_classes.now in
     let cr = a.right_classes.now in
     allowed SL ML SR MR cl cr a.rho nought a.relation.now a.relation.now c.requires refl nought_valid
@@ -22,10 +22,10 @@ holds-zero-requires c =
 pub bisect-requires : goal.bisect-requires
 bisect-requires c =
     let a = c.args in
-    let SL = a.left in
-    let ML = columns a.left_values.now a.left_offsets.now a.left_labels.now a.left_targets.now a.left_weights.now in
-    let SR = a.right in
-    let MR = columns a.right_values.now a.right_offsets.now a.right_labels.now a.right_targets.now a.right_weights.now in
+    let SL = a.left.now.shape in
+    let ML = columns_of a.left.now in
+    let SR = a.right.now.shape in
+    let MR = columns_of a.right.now in
     let cl = a.left_classes.now in
     let cr = a.right_classes.now in
     let h = c.holds-zero in

@@ -1,5 +1,5 @@
 use mathlib.Core.Path.{refl}
-use Rattle.bisim_core.specs.Data.{columns}
+use Rattle.bisim_core.specs.Data.{columns, columns_of}
 use Rattle.epsdelta_theory.specs.MinEpsilon.{alike_at}
 use Rattle.min_epsilon.proofs.Runs.{zero_length, zero_again, allowed, below_one_nought, below_one_between}
 use Rattle.min_epsilon.proofs.Halvings.{going_start, going_done, going_valid, going_lower, going_upper, fewer_lower, fewer_upper}
@@ -9,10 +9,10 @@ use Rattle.min_epsilon.proofs.least.bisect.Goals as goal
 pub returns-then-zero : goal.returns-then-zero
 returns-then-zero c =
     let a = c.args in
-    let SL = a.left in
-    let ML = columns a.left_values.now a.left_offsets.now a.left_labels.now a.left_targets.now a.left_weights.now in
-    let SR = a.right in
-    let MR = columns a.right_values.now a.right_offsets.now a.right_labels.now a.right_targets.now a.right_weights.now in
+    let SL = a.left.now.shape in
+    let ML = columns_of a.left.now in
+    let SR = a.right.now.shape in
+    let MR = columns_of a.right.now in
     let cl = a.left_classes.now in
     let cr = a.right_classes.now in
     (below_one_nought (alike_at SL ML SR MR cl cr a.rho) a.zero c.requires.0 c.if-zero.true, c.requires.2)
@@ -21,10 +21,10 @@ returns-then-zero c =
 pub loop-hi-init : goal.loop-hi-init
 loop-hi-init c =
     let a = c.args in
-    let SL = a.left in
-    let ML = columns a.left_values.now a.left_offsets.now a.left_labels.now a.left_targets.now a.left_weights.now in
-    let SR = a.right in
-    let MR = columns a.right_values.now a.right_offsets.now a.right_labels.now a.right_targets.now a.right_weights.now in
+    let SL = a.left.now.shape in
+    let ML = columns_of a.left.now in
+    let SR = a.right.now.shape in
+    let MR = columns_of a.right.now in
     let cl = a.left_classes.now in
     let cr = a.right_classes.now in
     (c.requires.2, going_start (alike_at SL ML SR MR cl cr a.rho))
@@ -33,10 +33,10 @@ loop-hi-init c =
 pub holds-requires : goal.holds-requires
 holds-requires c =
     let a = c.args in
-    let SL = a.left in
-    let ML = columns a.left_values.now a.left_offsets.now a.left_labels.now a.left_targets.now a.left_weights.now in
-    let SR = a.right in
-    let MR = columns a.right_values.now a.right_offsets.now a.right_labels.now a.right_targets.now a.right_weights.now in
+    let SL = a.left.now.shape in
+    let ML = columns_of a.left.now in
+    let SR = a.right.now.shape in
+    let MR = columns_of a.right.now in
     let cl = a.left_classes.now in
     let cr = a.right_classes.now in
     let l = c.loop-hi in
@@ -47,10 +47,10 @@ holds-requires c =
 pub loop-hi-smaller-then-holds : goal.loop-hi-smaller-then-holds
 loop-hi-smaller-then-holds c =
     let a = c.args in
-    let SL = a.left in
-    let ML = columns a.left_values.now a.left_offsets.now a.left_labels.now a.left_targets.now a.left_weights.now in
-    let SR = a.right in
-    let MR = columns a.right_values.now a.right_offsets.now a.right_labels.now a.right_targets.now a.right_weights.now in
+    let SL = a.left.now.shape in
+    let ML = columns_of a.left.now in
+    let SR = a.right.now.shape in
+    let MR = columns_of a.right.now in
     let cl = a.left_classes.now in
     let cr = a.right_classes.now in
     let l = c.loop-hi in
@@ -60,10 +60,10 @@ loop-hi-smaller-then-holds c =
 pub loop-hi-preserved-then-holds : goal.loop-hi-preserved-then-holds
 loop-hi-preserved-then-holds c =
     let a = c.args in
-    let SL = a.left in
-    let ML = columns a.left_values.now a.left_offsets.now a.left_labels.now a.left_targets.now a.left_weights.now in
-    let SR = a.right in
-    let MR = columns a.right_values.now a.right_offsets.now a.right_labels.now a.right_targets.now a.right_weights.now in
+    let SL = a.left.now.shape in
+    let ML = columns_of a.left.now in
+    let SR = a.right.now.shape in
+    let MR = columns_of a.right.now in
     let cl = a.left_classes.now in
     let cr = a.right_classes.now in
     let l = c.loop-hi in
@@ -74,10 +74,10 @@ loop-hi-preserved-then-holds c =
 pub loop-hi-smaller : goal.loop-hi-smaller
 loop-hi-smaller c =
     let a = c.args in
-    let SL = a.left in
-    let ML = columns a.left_values.now a.left_offsets.now a.left_labels.now a.left_targets.now a.left_weights.now in
-    let SR = a.right in
-    let MR = columns a.right_values.now a.right_offsets.now a.right_labels.now a.right_targets.now a.right_weights.now in
+    let SL = a.left.now.shape in
+    let ML = columns_of a.left.now in
+    let SR = a.right.now.shape in
+    let MR = columns_of a.right.now in
     let cl = a.left_classes.now in
     let cr = a.right_classes.now in
     let l = c.loop-hi in
@@ -87,10 +87,10 @@ loop-hi-smaller c =
 pub loop-hi-preserved : goal.loop-hi-preserved
 loop-hi-preserved c =
     let a = c.args in
-    let SL = a.left in
-    let ML = columns a.left_values.now a.left_offsets.now a.left_labels.now a.left_targets.now a.left_weights.now in
-    let SR = a.right in
-    let MR = columns a.right_values.now a.right_offsets.now a.right_labels.now a.right_targets.now a.right_weights.now in
+    let SL = a.left.now.shape in
+    let ML = columns_of a.left.now in
+    let SR = a.right.now.shape in
+    let MR = columns_of a.right.now in
     let cl = a.left_classes.now in
     let cr = a.right_classes.now in
     let l = c.loop-hi in
@@ -108,10 +108,10 @@ shape_of-relation c =
 pub returns : goal.returns
 returns c =
     let a = c.args in
-    let SL = a.left in
-    let ML = columns a.left_values.now a.left_offsets.now a.left_labels.now a.left_targets.now a.left_weights.now in
-    let SR = a.right in
-    let MR = columns a.right_values.now a.right_offsets.now a.right_labels.now a.right_targets.now a.right_weights.now in
+    let SL = a.left.now.shape in
+    let ML = columns_of a.left.now in
+    let SR = a.right.now.shape in
+    let MR = columns_of a.right.now in
     let cl = a.left_classes.now in
     let cr = a.right_classes.now in
     let l = c.loop-hi in

@@ -1,6 +1,6 @@
 -- `least::holds` meets its contract: by the answer of the run (Answering), which is not refused.
 use lib.ListN.{length}
-use Rattle.bisim_core.specs.Data.{columns}
+use Rattle.bisim_core.specs.Data.{columns, columns_of}
 use Rattle.epsdelta_theory.specs.Refusal.{bisimilar_refusal}
 use Rattle.epsdelta_theory.specs.Bisimilar.{bisimilar}
 use Rattle.min_epsilon.proofs.Answering.{judged_related, judged_unrelated, judged_not_refused}
@@ -10,10 +10,10 @@ use Rattle.min_epsilon.proofs.least.holds.Goals as goal
 pub returns-in-Related : goal.returns-in-Related
 returns-in-Related c =
     let a = c.args in
-    let SL = a.left in
-    let ML = columns a.left_values.now a.left_offsets.now a.left_labels.now a.left_targets.now a.left_weights.now in
-    let SR = a.right in
-    let MR = columns a.right_values.now a.right_offsets.now a.right_labels.now a.right_targets.now a.right_weights.now in
+    let SL = a.left.now.shape in
+    let ML = columns_of a.left.now in
+    let SR = a.right.now.shape in
+    let MR = columns_of a.right.now in
     let cl = a.left_classes.now in
     let cr = a.right_classes.now in
     let j = judged_related a.relation.now c.epsdelta_bisimilar.new.relation c.epsdelta_bisimilar.result (bisimilar_refusal SL ML SR MR cl cr a.epsilon a.rho (length a.relation.now)) (bisimilar SL ML SR MR cl cr a.epsilon a.rho) c.epsdelta_bisimilar.ensures c.in-Related.is in
@@ -23,10 +23,10 @@ returns-in-Related c =
 pub returns-in-Unrelated : goal.returns-in-Unrelated
 returns-in-Unrelated c =
     let a = c.args in
-    let SL = a.left in
-    let ML = columns a.left_values.now a.left_offsets.now a.left_labels.now a.left_targets.now a.left_weights.now in
-    let SR = a.right in
-    let MR = columns a.right_values.now a.right_offsets.now a.right_labels.now a.right_targets.now a.right_weights.now in
+    let SL = a.left.now.shape in
+    let ML = columns_of a.left.now in
+    let SR = a.right.now.shape in
+    let MR = columns_of a.right.now in
     let cl = a.left_classes.now in
     let cr = a.right_classes.now in
     let j = judged_unrelated a.relation.now c.epsdelta_bisimilar.new.relation c.epsdelta_bisimilar.result (bisimilar_refusal SL ML SR MR cl cr a.epsilon a.rho (length a.relation.now)) (bisimilar SL ML SR MR cl cr a.epsilon a.rho) c.epsdelta_bisimilar.ensures c.in-Unrelated.is in
@@ -36,10 +36,10 @@ returns-in-Unrelated c =
 pub returns-in-Refused : goal.returns-in-Refused
 returns-in-Refused c =
     let a = c.args in
-    let SL = a.left in
-    let ML = columns a.left_values.now a.left_offsets.now a.left_labels.now a.left_targets.now a.left_weights.now in
-    let SR = a.right in
-    let MR = columns a.right_values.now a.right_offsets.now a.right_labels.now a.right_targets.now a.right_weights.now in
+    let SL = a.left.now.shape in
+    let ML = columns_of a.left.now in
+    let SR = a.right.now.shape in
+    let MR = columns_of a.right.now in
     let cl = a.left_classes.now in
     let cr = a.right_classes.now in
     absurd (judged_not_refused a.relation.now c.epsdelta_bisimilar.new.relation c.epsdelta_bisimilar.result (bisimilar_refusal SL ML SR MR cl cr a.epsilon a.rho (length a.relation.now)) (bisimilar SL ML SR MR cl cr a.epsilon a.rho) _ c.epsdelta_bisimilar.ensures c.requires c.in-Refused.is)

@@ -1,5 +1,5 @@
 -- `least::min_epsilon` meets its contract: by the run at ε = 1 (Answering); the claim is epsdelta_theory's law of every search.
-use Rattle.bisim_core.specs.Data.{columns}
+use Rattle.bisim_core.specs.Data.{columns, columns_of}
 use Rattle.epsdelta_theory.proofs.MinEpsilon.{min_epsilon_searched}
 use Rattle.min_epsilon.proofs.Answering.{next_allowed}
 use Rattle.min_epsilon.proofs.least.min_epsilon.Goals as goal
@@ -8,10 +8,10 @@ use Rattle.min_epsilon.proofs.least.min_epsilon.Goals as goal
 pub after_one-requires : goal.after_one-requires
 after_one-requires c =
     let a = c.args in
-    let SL = a.left in
-    let ML = columns a.left_values.now a.left_offsets.now a.left_labels.now a.left_targets.now a.left_weights.now in
-    let SR = a.right in
-    let MR = columns a.right_values.now a.right_offsets.now a.right_labels.now a.right_targets.now a.right_weights.now in
+    let SL = a.left.now.shape in
+    let ML = columns_of a.left.now in
+    let SR = a.right.now.shape in
+    let MR = columns_of a.right.now in
     let cl = a.left_classes.now in
     let cr = a.right_classes.now in
     let r = c.epsdelta_bisimilar-first in
@@ -21,10 +21,10 @@ after_one-requires c =
 pub returns : goal.returns
 returns c =
     let a = c.args in
-    let SL = a.left in
-    let ML = columns a.left_values.now a.left_offsets.now a.left_labels.now a.left_targets.now a.left_weights.now in
-    let SR = a.right in
-    let MR = columns a.right_values.now a.right_offsets.now a.right_labels.now a.right_targets.now a.right_weights.now in
+    let SL = a.left.now.shape in
+    let ML = columns_of a.left.now in
+    let SR = a.right.now.shape in
+    let MR = columns_of a.right.now in
     let cl = a.left_classes.now in
     let cr = a.right_classes.now in
     let r = c.epsdelta_bisimilar-first in
