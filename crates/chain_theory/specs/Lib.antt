@@ -1,3 +1,4 @@
 pub mod Chain
 pub mod Columns
 pub mod Check
+pub mod Lent

@@ -7,12 +7,22 @@ ghost use Rattle.chain_theory.specs.Check;
 
 use bisim_core::ids::StateId;
 
-// A chain: its counts and initial state. Its columns are lent beside it.
-#[derive(Clone, Copy)]
+// The counts of a chain, and its initial state.
+#[derive(Clone, Copy, Debug, PartialEq, Eq)]
 pub struct ChainShape {
     pub states: usize,
     pub entries: usize,
     pub initial: StateId,
+}
+
+// A chain: its counts and initial state by value, a lent slice for each column. They say where the entries of each state begin, each entry's target and probability, and an observation of each state.
+#[derive(Clone, Copy, Debug)]
+pub struct Chain<'a> {
+    pub shape: ChainShape,
+    pub offsets: &'a [u32],
+    pub targets: &'a [u32],
+    pub probs: &'a [f64],
+    pub observations: &'a [f64],
 }
 
 // Whether x is a number from least to greatest.

@@ -1,16 +1,17 @@
 // Refusals of two models or chains.
 ghost use Rattle.std.specs.Prelude.{◌≡◌};
+ghost use Rattle.numbers.specs.Refuse.{code};
 ghost use Rattle.parts.specs.Earlier;
 
-// Of what is refused of each, the check that comes first; 0 if nothing.
-pub fn earlier(left: u32, right: u32) -> u32
-    ensures { result ≡ Earlier.earlier left right }
+use numbers::refusal::Refusal;
+
+// Of what turns each of two back, the check that comes first.
+pub fn earlier(left: Result<(), Refusal>, right: Result<(), Refusal>) -> Result<(), Refusal>
+    ensures { code result ≡ Earlier.earlier (code left) (code right) }
 {
-    if left == 0 {
-        return right;
+    match (left, right) {
+        (Ok(()), _) => right,
+        (Err(_), Ok(())) => left,
+        (Err(a), Err(b)) => { if b.number() < a.number() { right } else { left } }
     }
-    if right == 0 {
-        return left;
-    }
-    left.min(right)
 }
