@@ -3,3 +3,4 @@
 
 pub mod fits; // fits.rt: which rows fit a flow test
 pub mod links; // links.rt: the links
+pub mod rows; // rows.rt: the rows that are read
