@@ -4,3 +4,4 @@ pub mod Rounds
 pub mod Contributions
 pub mod Refusal
 pub mod Outcome
+pub mod Lent

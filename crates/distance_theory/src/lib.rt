@@ -5,6 +5,8 @@ ghost use Rattle.std.specs.Prelude.{◌≡◌};
 ghost use Rattle.distance_theory.specs.Rounds;
 ghost use Rattle.distance_theory.specs.Refusal;
 
+pub mod lent; // lent.rt: rows, pairs and couplings
+
 use bisim_core::ids::StateId;
 use numbers::{EPS, larger};
 

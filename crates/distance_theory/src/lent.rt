@@ -1,0 +1,54 @@
+// What the parts of `distance` lend each other.
+use chain_theory::Chain;
+
+// The entries of a state of a chain: their targets, and the probability of each.
+#[derive(Clone, Copy, Debug)]
+pub struct Row<'a> {
+    pub targets: &'a [u32],
+    pub probs: &'a [f64],
+}
+
+// Pairs of states, in the order of their discovery: the left and the right state of each, and the codes that they are looked up by.
+#[derive(Clone, Copy, Debug)]
+pub struct Pairs<'a> {
+    pub lefts: &'a [u32],
+    pub rights: &'a [u32],
+    pub codes: &'a [u64],
+}
+
+// The lists that pairs are noted in, and how many there are so far.
+#[derive(Drop)]
+pub struct PairsMut<'a> {
+    pub lefts: &'a mut [u32],
+    pub rights: &'a mut [u32],
+    pub codes: &'a mut [u64],
+    pub count: usize,
+}
+
+// The coupling of each pair: where its shares start and how many they are, in lists of places of pairs and of masses.
+#[derive(Clone, Copy, Debug)]
+pub struct Store<'a> {
+    pub starts: &'a [u32],
+    pub lengths: &'a [u32],
+    pub places: &'a [u32],
+    pub masses: &'a [f64],
+}
+
+// The lists that couplings are laid in.
+#[derive(Drop)]
+pub struct StoreMut<'a> {
+    pub starts: &'a mut [u32],
+    pub lengths: &'a mut [u32],
+    pub places: &'a mut [u32],
+    pub masses: &'a mut [f64],
+}
+
+// What the rounds read and never write: the pairs of two chains, what each costs, and the discount.
+#[derive(Clone, Copy, Debug)]
+pub struct Task<'a> {
+    pub pairs: Pairs<'a>,
+    pub left: Chain<'a>,
+    pub right: Chain<'a>,
+    pub cost: &'a [f64],
+    pub gamma: f64,
+}
