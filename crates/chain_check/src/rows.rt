@@ -1,11 +1,13 @@
 // Check 13: rows of 1 to 32 entries, targets that rise, and probabilities that add up to 1.
-ghost use Rattle.std.specs.Prelude.{◌≡◌, not, List, map, ◌+◌, ◌<◌, Float, length};
+ghost use Rattle.std.specs.Prelude.{◌≡◌, not, map, length};
 ghost use Rattle.numbers.specs.Lists.{span, all};
 ghost use Rattle.epsdelta_theory.specs.Jumps.{jumps_of};
-ghost use Rattle.chain_theory.specs.Columns.{chain_columns, entries};
+ghost use Rattle.chain_theory.specs.Columns.{entries};
+ghost use Rattle.chain_theory.specs.Lent.{of_chain};
 ghost use Rattle.chain_theory.specs.Check;
 ghost use Rattle.chain_theory.proofs.Shaped.{Rows};
 
+use chain_theory::Chain;
 use numbers::{ONE, Real, SLACK, apart};
 
 // Targets that rise strictly.
@@ -47,13 +49,13 @@ fn proper(targets: &[u32], probs: &[f64]) -> bool
         && whole(probs)
 }
 
-pub(crate) fn all_proper(states: usize, offsets: &[u32], targets: &[u32], probs: &[f64]) -> bool
-    requires { Rows states offsets.now targets.now probs.now }
-    ensures { (seen : List Float) → result ≡ all Check.proper (map (entries (chain_columns offsets.now targets.now probs.now seen)) (span 0 states)) }
+pub(crate) fn all_proper(chain: &Chain) -> bool
+    requires { Rows chain.now.shape.states chain.now.offsets.now chain.now.targets.now chain.now.probs.now }
+    ensures { result ≡ all Check.proper (map (entries (of_chain chain.now)) (span 0 chain.now.shape.states)) }
 {
-    (0..states).all(|s| {
-        let from = offsets[s] as usize;
-        let to = offsets[s + 1] as usize;
-        proper(&targets[from..to], &probs[from..to])
+    (0..chain.shape.states).all(|s| {
+        let from = chain.offsets[s] as usize;
+        let to = chain.offsets[s + 1] as usize;
+        proper(&chain.targets[from..to], &chain.probs[from..to])
     })
 }

@@ -1,11 +1,12 @@
 // Chains as definitions (specs/): what `common_rate`, `uniformise` and `normalise` compute, and when a chain handed in is accepted.
 #![tactic(auto)]
 
-ghost use Rattle.std.specs.Prelude.{◌≡◌, take};
+ghost use Rattle.std.specs.Prelude.{◌≡◌};
 ghost use Rattle.numbers.specs.Lists.{all};
 ghost use Rattle.chain_theory.specs.Check;
 
 use bisim_core::ids::StateId;
+use numbers::{GREATEST_WEIGHT, LEAST_OBSERVATION};
 
 // The counts of a chain, and its initial state.
 #[derive(Clone, Copy, Debug, PartialEq, Eq)]
@@ -25,17 +26,31 @@ pub struct Chain<'a> {
     pub observations: &'a [f64],
 }
 
-// Whether x is a number from least to greatest.
-pub fn within(least: f64, greatest: f64, x: f64) -> bool
-    ensures { result ≡ Check.within least greatest x }
-{
-    least <= x && x <= greatest
+// The numbers from a least one to a greatest one.
+#[derive(Clone, Copy, Debug)]
+pub struct Bounds {
+    pub least: f64,
+    pub greatest: f64,
 }
 
-// Whether each of the first n numbers of a list is from least to greatest.
-pub fn all_within(least: f64, greatest: f64, list: &[f64], n: usize) -> bool
-    ensures { result ≡ all (Check.within least greatest) (take n list.now) }
-{
-    let end = n.min(list.len());
-    list[..end].iter().all(|x| within(least, greatest, *x))
+// What the observations of a model may be.
+pub const OBSERVATIONS: Bounds = Bounds {
+    least: LEAST_OBSERVATION,
+    greatest: GREATEST_WEIGHT,
+};
+
+impl Bounds {
+    // Whether x is one of them.
+    pub fn hold(self, x: f64) -> bool
+        ensures { result ≡ Check.within self.least self.greatest x }
+    {
+        self.least <= x && x <= self.greatest
+    }
+
+    // Whether each number of a list is one.
+    pub fn hold_all(self, list: &[f64]) -> bool
+        ensures { result ≡ all (Check.within self.least self.greatest) list.now }
+    {
+        list.iter().all(|x| self.hold(*x))
+    }
 }

@@ -7,9 +7,10 @@ ghost use Rattle.distance_theory.specs.Refusal;
 ghost use Rattle.distance_theory.proofs.Checks.{combined};
 
 use chain_check::check::chain_refusal;
-use chain_theory::ChainShape;
+use chain_theory::{Bounds, Chain, ChainShape};
 use distance_theory::{MetricOptions, excessive};
 use numbers::ONE;
+use numbers::refusal::code;
 
 // 7: a list of pairs of under 4,096 entries, or under 64 contribution records.
 pub(crate) fn short(lefts: usize, rights: usize, codes: usize, records: usize) -> bool
@@ -81,7 +82,18 @@ pub(crate) fn of_chain(
 ) -> u32
     ensures { result ≡ chain_refusal nought one chain (chain_columns offsets.now targets.now probs.now seen.now) }
 {
-    chain_refusal(chain, offsets, targets, probs, seen, 0.0, ONE)
+    let chain = Chain {
+        shape: chain,
+        offsets,
+        targets,
+        probs,
+        observations: seen,
+    };
+    let bounds = Bounds {
+        least: 0.0,
+        greatest: ONE,
+    };
+    code(&chain_refusal(&chain, bounds))
 }
 
 // The number of the first check that fails, 0 if all pass; of what each chain is refused for by itself, and whether a list is short.

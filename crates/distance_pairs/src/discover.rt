@@ -9,7 +9,7 @@ ghost use Rattle.distance_pairs.specs.Starting.{starting_in};
 use crate::index::{code, goes_by, is_at, key, push};
 use bisim_core::ids::StateId;
 use chain_check::shape::misshapen;
-use chain_theory::ChainShape;
+use chain_theory::{Chain, ChainShape};
 
 // A pair is met: it is known, or the next one. How many pairs there are then; pair 4,097 is counted, and not noted.
 fn meet(x: u32, y: u32, lefts: &mut [u32], rights: &mut [u32], codes: &mut [u64], n: usize) -> usize
@@ -155,8 +155,14 @@ fn readable(
 ) -> bool
     ensures { result ≡ Discovery.readable (starting_in initial chain) (chain_columns offsets.now targets.now probs.now []) }
 {
-    let shape = ChainShape { initial, ..chain };
-    chain.states <= 2000 && !misshapen(shape, offsets, targets, probs)
+    let chain = Chain {
+        shape: ChainShape { initial, ..chain },
+        offsets,
+        targets,
+        probs,
+        observations: &[],
+    };
+    chain.shape.states <= 2000 && !misshapen(&chain)
 }
 
 // At least 4,096 entries each.

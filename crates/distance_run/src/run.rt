@@ -11,7 +11,7 @@ ghost use Rattle.distance_words.proofs.Run;
 use crate::found::run_found;
 use crate::scratch::clear;
 use chain_check::shape::misshapen;
-use chain_theory::ChainShape;
+use chain_theory::{Chain, ChainShape};
 use distance_pairs::discover::discover_from;
 use distance_theory::MetricOptions;
 use distance_words::told::{Told, refused};
@@ -28,8 +28,15 @@ fn slim(states: usize, offsets: &[u32]) -> bool
 fn fits(chain: ChainShape, offsets: &[u32], targets: &[u32], probs: &[f64], seen: &[f64]) -> bool
     ensures { result ≡ Run.fits chain (chain_columns offsets.now targets.now probs.now seen.now) }
 {
+    let lent = Chain {
+        shape: chain,
+        offsets,
+        targets,
+        probs,
+        observations: seen,
+    };
     chain.states <= 2000
-        && !misshapen(chain, offsets, targets, probs)
+        && !misshapen(&lent)
         && slim(chain.states, offsets)
         && chain.states <= seen.len()
 }
