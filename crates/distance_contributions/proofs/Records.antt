@@ -1,4 +1,5 @@
 -- The loops of the listing: the contribution of each pair, and the records of the chosen ones; and what the answer is then.
+use Rattle.std.specs.Prelude.{Option, Some, None}
 use mathlib.Core.Path.{◌≡◌, refl, sym, subst, subst⁻¹, ap, ap₂, ◌∙◌}
 use Prim.Native.Nat.{ℕ, zero, suc, ◌+◌, ◌≤◌, ◌<◌}
 use mathlib.Core.Bool.{Bool, true, false, ◌&&◌}
@@ -37,11 +38,8 @@ with_gap x y o g = record { left = record { 0 = x }; right = record { 0 = y }; g
 zero_more : (k : ℕ) → 0 + k ≡ k
 zero_more k = omega arith
 
-abbrev done_with : ℕ → List PairContribution → Listed
-done_with j rs = record { done = true; count = j; records = rs }
-
-abbrev undone_with : List PairContribution → Listed
-undone_with rs = record { done = false; count = 0; records = rs }
+abbrev done_with : ℕ → List PairContribution → Option Listed
+done_with j rs = Some (record { count = j; records = rs })
 
 both : {a b : Bool} → a ≡ true → b ≡ true → (a && b) ≡ true
 both {a} {b} e f = rw (e, f)
@@ -222,11 +220,11 @@ module _ (lefts rights : List ℕ) (seenL seenR spent : List Float) (n : ℕ) (f
       list_is tail e = listing_is lefts rights seenL seenR spent n o (take o.top (replicate 64 0)) (front_size o.top 64 0 asked) m l ranks (e ∙ ap (λ (ks : List ℕ). row (map (record_of lefts rights seenL seenR spent) ks)) (take-append-le m l tail R.kept.few))
 
 -- what is answered where the contributions can be listed, and where not
-pub told : (cs : List PairContribution) {b r : Bool} → r ≡ b → r ≡ true → {x : Listed} → x ≡ listing true cs → x ≡ listing b cs
+pub told : (cs : List PairContribution) {b r : Bool} → r ≡ b → r ≡ true → {x : Option Listed} → x ≡ listing true cs → x ≡ listing b cs
 told cs e t p = p ∙ ap (λ (y : Bool). listing y cs) (sym t ∙ e)
 
-pub untold : (cs : List PairContribution) {b r : Bool} → r ≡ b → r ≡ false → {rs : List PairContribution} → rs ≡ replicate 64 nothing → undone_with rs ≡ listing b cs
-untold cs e t p = ap undone_with p ∙ ap (λ (y : Bool). listing y cs) (sym t ∙ e)
+pub untold : (cs : List PairContribution) {b r : Bool} → r ≡ b → r ≡ false → None ≡ listing b cs
+untold cs e t = ap (λ (y : Bool). listing y cs) (sym t ∙ e)
 
 -- lists that hold the left and right states of some pairs, as `explore` leaves them, are lists of these pairs
 pub pairs_listed : (ps : List Pair) (l r : List ℕ) → pairs_in (map (λ (p : Pair). p.left) ps ++ l) (map (λ (p : Pair). p.right) ps ++ r) (length ps) ≡ ps

@@ -1,5 +1,5 @@
 -- M1 to M10 of document 01 as one statement about the definitions, by computation.
-use Rattle.std.specs.Prelude.{Some}
+use Rattle.std.specs.Prelude.{Some, Ok, Err}
 use mathlib.Core.Path.{◌≡◌, refl}
 use Prim.Native.Nat.{ℕ}
 use mathlib.Core.Bool.{Bool, true, false}
@@ -22,11 +22,9 @@ use Rattle.chain_theory.specs.declared.ChainShape.{ChainShape}
 use Rattle.distance_theory.specs.Couplings.{metric}
 use Rattle.distance_theory.specs.Rounds.{solve}
 use Rattle.distance_theory.specs.Contributions.{occupancy}
-use Rattle.distance_theory.specs.Outcome.{Lent, lent, Outcome, distance}
+use Rattle.distance_theory.specs.Outcome.{Lent, lent, Outcome, Measured, distance}
 use Rattle.distance_theory.specs.declared.MetricOptions.{MetricOptions}
 use Rattle.distance_theory.specs.declared.PairContribution.{PairContribution}
-use Rattle.distance_theory.specs.declared.Measured.{Measured}
-use Rattle.distance_theory.specs.declared.Measured.TheVariants as says
 
 -- a chain of one state, with row (0, 1)
 abbrev shape : ChainShape
@@ -63,7 +61,7 @@ abbrev time : Float
 time = fin false 549755813887 (negsuc 38)
 
 abbrev reply : Float → Float → ℕ → Measured
-reply v b rounds = says.Distance (record { value = v; error_bound = b; gamma = half; pairs_explored = 1; contributions = 1; rounds = rounds })
+reply v b rounds = Ok (record { value = v; error_bound = b; gamma = half; pairs_explored = 1; contributions = 1; rounds = rounds })
 
 -- ---- networks: source 0, middle 1, sink 2, with capacities 0.75, then 0.5; and one link
 
@@ -102,7 +100,7 @@ alike ε = bisimilar (model 3 2) (fork (fin false 3 (pos 0)) one) (model 3 2) (f
 
 pub record Figures : Type 0 where
   -- γ 0 and 1 give 11
-  pub m1 : (answer nought 200 ≡ says.Refused 11) × (answer one 200 ≡ says.Refused 11)
+  pub m1 : (answer nought 200 ≡ Err 11) × (answer one 200 ≡ Err 11)
   -- ε = -0 is accepted
   pub m2 : refusal (fin true 0 (pos 0)) ≡ 0
   -- flow 0.5, one push, cut {source, middle}

@@ -1,4 +1,5 @@
 -- Runs of `distance` that a wrong step would change, with the Rust's answers, bit for bit: the margin of improvement, ties, point masses, the order of rescaling.
+use Rattle.std.specs.Prelude.{Ok}
 use mathlib.Core.Path.{◌≡◌, refl}
 use Prim.Native.Nat.{ℕ}
 use mathlib.Core.Bool.{false}
@@ -9,11 +10,9 @@ use lib.Ieee.{Float, fin, inf, of_bits}
 use Rattle.numbers.specs.Real.{nought}
 use Rattle.chain_theory.specs.Columns.{chain_columns}
 use Rattle.chain_theory.specs.declared.ChainShape.{ChainShape}
-use Rattle.distance_theory.specs.Outcome.{Lent, lent, Outcome, distance}
+use Rattle.distance_theory.specs.Outcome.{Lent, lent, Outcome, Measured, distance}
 use Rattle.distance_theory.specs.declared.MetricOptions.{MetricOptions}
 use Rattle.distance_theory.specs.declared.PairContribution.{PairContribution}
-use Rattle.distance_theory.specs.declared.Measured.{Measured}
-use Rattle.distance_theory.specs.declared.Measured.TheVariants as says
 
 abbrev shape : ℕ → ℕ → ℕ → ChainShape
 shape states entries initial = record { states = states; entries = entries; initial = record { 0 = initial } }
@@ -33,7 +32,7 @@ abbrev told : ℕ → Outcome → Measured × List PairContribution
 told n x = (x.answer, take n x.lent.records)
 
 abbrev reply : Float → Float → Float → ℕ → ℕ → List PairContribution → Measured × List PairContribution
-reply value bound γ explored rounds cs = (says.Distance (record { value = value; error_bound = bound; gamma = γ; pairs_explored = explored; contributions = length cs; rounds = rounds }), cs)
+reply value bound γ explored rounds cs = (Ok (record { value = value; error_bound = bound; gamma = γ; pairs_explored = explored; contributions = length cs; rounds = rounds }), cs)
 
 pub run_1 : told 5 (distance (shape 2 3 1) (chain_columns (0 ∷ 2 ∷ 3 ∷ []) (0 ∷ 1 ∷ 0 ∷ []) ((fin false 2002118655481171 (negsuc 51)) ∷ (fin false 2501480971889325 (negsuc 51)) ∷ (fin false 1 (pos 0)) ∷ []) ((fin false 10826007071299 (negsuc 52)) ∷ (fin false 503439063711321 (negsuc 50)) ∷ [])) (shape 3 6 0) (chain_columns (0 ∷ 3 ∷ 4 ∷ 6 ∷ []) (0 ∷ 1 ∷ 2 ∷ 2 ∷ 0 ∷ 2 ∷ []) ((fin false 2568803931048797 (negsuc 52)) ∷ (fin false 2944493724556105 (negsuc 52)) ∷ (fin false 6987803198272179 (negsuc 53)) ∷ (fin false 1 (pos 0)) ∷ (fin false 510242468496909 (negsuc 48)) ∷ (fin false 3373279035161791 (negsuc 54)) ∷ []) ((fin false 8589960759886947 (negsuc 52)) ∷ (fin false 1166559193647913 (negsuc 50)) ∷ (fin false 5707974921029577 (negsuc 52)) ∷ [])) (fin false 3602879701896397 (negsuc 54)) (options (fin false 1 (negsuc 0)) 200 64) (memory 18))
     ≡ reply (fin false 6532084120846545 (negsuc 52)) (fin false 1690508303753671 (negsuc 63)) (fin false 3602879701896397 (negsuc 54)) 6 1 (item 1 0 (fin false 6576204505041663 (negsuc 52)) (fin false 1016503356603719 (negsuc 49)) (fin false 5937236438568893 (negsuc 52)) ∷ item 0 0 (fin false 268097961025489 (negsuc 47)) (fin false 7859736346026487 (negsuc 57)) (fin false 3743102341089661 (negsuc 56)) ∷ item 0 2 (fin false 2848574456979139 (negsuc 51)) (fin false 1335348995385219 (negsuc 54)) (fin false 1689244761585535 (negsuc 55)) ∷ item 0 1 (fin false 4655410767520353 (negsuc 52)) (fin false 8763805342520455 (negsuc 57)) (fin false 4529611547623671 (negsuc 57)) ∷ item 1 2 (fin false 3694218666184293 (negsuc 52)) (fin false 5593465673942135 (negsuc 60)) (fin false 4588215430109819 (negsuc 61)) ∷ [])

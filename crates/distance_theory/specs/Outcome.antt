@@ -1,5 +1,5 @@
 -- What `distance` and `bisim_distance` answer, and what they leave in the memory that is lent to them.
-use Rattle.std.specs.Prelude.{ℕ, zero, suc, min, List, map, length, get_or, take, replicate, Float}
+use Rattle.std.specs.Prelude.{ℕ, zero, suc, min, List, map, length, get_or, take, replicate, Float, Result, Ok, Err}
 use Rattle.std.specs.Float.{nan, binary64}
 use Rattle.std.specs.Float.Ieee.{sub, div}
 use Rattle.numbers.specs.Real.{nought, one}
@@ -17,8 +17,6 @@ use Rattle.distance_theory.specs.Refusal.{distance_refusal, run_refusal, bisim_r
 use Rattle.distance_theory.specs.declared.MetricOptions.{MetricOptions}
 use Rattle.distance_theory.specs.declared.PairContribution.{PairContribution}
 use Rattle.distance_theory.specs.declared.Distance.{Distance}
-use Rattle.distance_theory.specs.declared.Measured.{Measured}
-use Rattle.distance_theory.specs.declared.Measured.TheVariants as says
 
 -- ---- the run: what comes below the checks of the arguments
 
@@ -80,6 +78,10 @@ cleared m rs = lent (map zeros m.pairs) (zeros m.places) (noughts m.masses) rs
 
 -- ---- `distance`
 
+-- the distance, or the number of the first check that fails
+abbrev pub Measured : Type 0
+Measured = Result Distance ℕ
+
 -- the answer, and what is lent
 pub record Outcome : Type 0 where
   pub answer : Measured
@@ -90,13 +92,13 @@ ends a m = record { answer = a; lent = m }
 
 -- once the arguments have passed: scratch is all zero, and the contributions are over the front of the records, which a refusal leaves as they were
 abbrev pub ran : ℕ → Run → Lent → Outcome
-ran zero R m = ends (says.Distance R.distance) (cleared m (over R.listed m.records))
-ran (suc r) R m = ends (says.Refused (suc r)) (cleared m m.records)
+ran zero R m = ends (Ok R.distance) (cleared m (over R.listed m.records))
+ran (suc r) R m = ends (Err (suc r)) (cleared m m.records)
 
 -- before that, all is as it was
 abbrev pub settled : ℕ → Run → Lent → Outcome
 settled zero R m = ran R.refusal R m
-settled (suc r) R m = ends (says.Refused (suc r)) m
+settled (suc r) R m = ends (Err (suc r)) m
 
 -- two chains handed in, γ, options, and what is lent
 unfoldable pub distance : ChainShape → ChainColumns → ChainShape → ChainColumns → Float → MetricOptions → Lent → Outcome
@@ -122,7 +124,7 @@ blank C = chain_columns (zeros C.offsets) (zeros C.targets) (noughts C.probabili
 -- once the arguments have passed the chains are all zero too; before that, all is as it was
 abbrev pub chains_settled : ℕ → Run → Lent → ChainColumns → ChainColumns → ChainsOutcome
 chains_settled zero R m CL CR = chains_end (ran R.refusal R m) (blank CL) (blank CR)
-chains_settled (suc r) R m CL CR = chains_end (ends (says.Refused (suc r)) m) CL CR
+chains_settled (suc r) R m CL CR = chains_end (ends (Err (suc r)) m) CL CR
 
 -- the chains of both models at the common rate, their observations scaled together, from the states asked for
 unfoldable pub bisim_run : List (List Edge) → ℕ → List Float → List (List Edge) → ℕ → List Float → Float → MetricOptions → ℕ → Run

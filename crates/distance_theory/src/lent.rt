@@ -16,6 +16,15 @@ pub struct Pairs<'a> {
     pub codes: &'a [u64],
 }
 
+// Pairs, the observations of the states of both chains, and the time that is spent in each pair.
+#[derive(Clone, Copy, Debug)]
+pub struct Visited<'a> {
+    pub pairs: Pairs<'a>,
+    pub left: &'a [f64],
+    pub right: &'a [f64],
+    pub spent: &'a [f64],
+}
+
 // The lists that pairs are noted in, and how many there are so far.
 #[derive(Drop)]
 pub struct PairsMut<'a> {

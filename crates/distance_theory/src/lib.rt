@@ -11,7 +11,7 @@ use bisim_core::ids::StateId;
 use numbers::{EPS, larger};
 
 // How near the distance is wanted, the most rounds of improvement, and how many contributions are listed.
-#[derive(Clone, Copy)]
+#[derive(Clone, Copy, Debug, PartialEq)]
 pub struct MetricOptions {
     pub tolerance: f64,
     pub max_rounds: usize,
@@ -20,7 +20,7 @@ pub struct MetricOptions {
 
 // A pair's share of the distance: how far its observations are apart, the discounted time spent in it, and the product of the two.
 #[repr(C)]
-#[derive(Clone, Copy)]
+#[derive(Clone, Copy, Debug, PartialEq)]
 pub struct PairContribution {
     pub left: StateId,
     pub right: StateId,
@@ -30,7 +30,7 @@ pub struct PairContribution {
 }
 
 // The value of the first pair, the error bound as the Rust has it, the discount, the number of pairs explored, of contributions listed and of rounds made.
-#[derive(Clone, Copy)]
+#[derive(Clone, Copy, Debug, PartialEq)]
 pub struct Distance {
     pub value: f64,
     pub error_bound: f64,
@@ -38,13 +38,6 @@ pub struct Distance {
     pub pairs_explored: usize,
     pub contributions: usize,
     pub rounds: usize,
-}
-
-// The distance, or the number of the first check that fails.
-#[derive(Clone, Copy)]
-pub enum Measured {
-    Distance(Distance),
-    Refused(u32),
 }
 
 // A tolerance that is NaN or below 1e-12 counts as 1e-12.

@@ -11,12 +11,12 @@ use Rattle.distance_theory.specs.Pairs.{most}
 use Rattle.distance_theory.specs.declared.MetricOptions.{MetricOptions}
 use Rattle.distance_theory.specs.Rounds.{many}
 use Rattle.distance_words.proofs.Costs.{pricing}
-use Rattle.distance_words.specs.Told.{refused_with}
+use Rattle.std.specs.Prelude.{Ok, Err}
+use Rattle.distance_words.specs.Told.{Told, listed_or_none}
 use Rattle.distance_words.proofs.Valuing.{visited}
 use Rattle.distance_words.proofs.Listing.{listed_of}
 use Rattle.distance_words.proofs.Solve.{Solving, solve_of}
 use Rattle.distance_words.specs.declared.told.Accounted.{Accounted}
-use Rattle.distance_words.specs.declared.told.Told.{Told}
 
 -- how the distance arises, for couplings in the store: the mass that is left in `occupancy`, and the contributions; of n pairs by lists of their states, the observations, and the store
 abbrev pub account_of : ℕ → List ℕ → List ℕ → List Float → List Float → List ℕ → List ℕ → List ℕ → List Float → Float → MetricOptions → Accounted
@@ -26,9 +26,9 @@ account_of n lefts rights seenL seenR starts lengths places masses γ o =
 
 -- 19, or the distance x of n pairs, values off by y, after k rounds
 abbrev pub tell_if : Bool → ℕ → Float → Float → Float → ℕ → Accounted → Told
-tell_if true n x γ y k a = refused_with 19
+tell_if true n x γ y k a = Err 19
 tell_if false n x γ y k a =
-    record { refusal = 0; distance = record { value = x; error_bound = div binary64 y (sub binary64 one γ); gamma = γ; pairs_explored = n; contributions = a.listed.count; rounds = k }; records = a.listed.records }
+    Ok (record { distance = record { value = x; error_bound = div binary64 y (sub binary64 one γ); gamma = γ; pairs_explored = n; contributions = (listed_or_none a.listed).count; rounds = k }; records = (listed_or_none a.listed).records })
 
 abbrev pub tell_of : ℕ → Float → Float → Float → ℕ → Accounted → Told
 tell_of n x γ y k a = tell_if (lt eps a.mass) n x γ y k a
@@ -37,7 +37,7 @@ tell_of n x γ y k a = tell_if (lt eps a.mass) n x γ y k a
 
 abbrev pub go_on : ℕ → Told → Told
 go_on zero t = t
-go_on (suc r) t = refused_with (suc r)
+go_on (suc r) t = Err (suc r)
 
 -- once their couplings are solved
 abbrev pub found_from : ℕ → List ℕ → List ℕ → List Float → List Float → Float → MetricOptions → Solving → Told
@@ -45,7 +45,7 @@ found_from n lefts rights seenL seenR γ o w =
     go_on w.refusal (tell_of n (get_or (w.values ++ drop n (replicate most nought)) 0 nan) γ w.residual w.rounds (account_of n lefts rights seenL seenR w.starts w.lengths w.places w.masses γ o))
 
 abbrev pub found_if : Bool → Told → Told
-found_if true t = refused_with 17
+found_if true t = Err 17
 found_if false t = t
 
 abbrev pub found_of : ℕ → List ℕ → List ℕ → List ℕ → ChainColumns → ChainColumns → List Float → List Float → Float → MetricOptions → List ℕ → List Float → Told

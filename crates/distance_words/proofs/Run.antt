@@ -12,8 +12,8 @@ use Rattle.chain_theory.specs.declared.ChainShape.{ChainShape}
 use Rattle.distance_theory.specs.Pairs.{most}
 use Rattle.distance_theory.specs.declared.MetricOptions.{MetricOptions}
 use Rattle.distance_theory.specs.Outcome.{run, zeros, noughts}
-use Rattle.distance_words.specs.declared.told.Told.{Told}
-use Rattle.distance_words.specs.Told.{refused_with, told_of, Ran, ran_as}
+use Rattle.std.specs.Prelude.{Err}
+use Rattle.distance_words.specs.Told.{Told, told_of, Ran, ran_as}
 
 -- rows of at most 32 entries
 abbrev pub slim : ChainShape → ChainColumns → Bool
@@ -34,7 +34,7 @@ runnable HL CL HR CR top l r c = fits HL CL && (fits HR CR && (leb top 64 && roo
 -- a run leaves the lists all zero; what can't be run is refused, with the lists as they were
 abbrev pub ran_if : Bool → Told → List ℕ → List ℕ → List ℕ → List ℕ → List Float → Ran
 ran_if true t l r c p m = ran_as t (zeros l) (zeros r) (zeros c) (zeros p) (noughts m)
-ran_if false t l r c p m = ran_as (refused_with 4) l r c p m
+ran_if false t l r c p m = ran_as (Err 4) l r c p m
 
 -- the run of two chains
 abbrev pub ran_of : ChainShape → ChainColumns → ChainShape → ChainColumns → Float → MetricOptions → List ℕ → List ℕ → List ℕ → List ℕ → List Float → Ran

@@ -11,7 +11,8 @@ use Rattle.distance_theory.specs.declared.MetricOptions.{MetricOptions}
 use Rattle.distance_words.proofs.Store.{Filled, fill}
 use Rattle.distance_words.proofs.Even.{all_even}
 use Rattle.distance_words.proofs.Iterating.{task, Iterated, iterate_from}
-use Rattle.distance_words.specs.declared.told.Solved.{Solved}
+use Rattle.std.specs.Prelude.{Result, Ok, Err}
+use Rattle.distance_words.specs.declared.told.Rounds.{Rounds}
 
 -- the number of the refusal, 0 if there is none, the most that a value was off, the rounds made, and the lists then
 pub record Solving : Type 0 where
@@ -27,9 +28,10 @@ pub record Solving : Type 0 where
 abbrev pub solving : ℕ → Float → ℕ → List ℕ → List ℕ → List ℕ → List Float → List Float → Solving
 solving r x n s l p m v = record { refusal = r; residual = x; rounds = n; starts = s; lengths = l; places = p; masses = m; values = v }
 
--- a refusal, with no round made
-abbrev pub unsolved : ℕ → Solved
-unsolved r = record { refusal = r; residual = nought; rounds = 0 }
+-- of what is answered: a refusal, with no round made, or the rounds
+abbrev pub solved : Result Rounds ℕ → List ℕ → List ℕ → List ℕ → List Float → List Float → Solving
+solved (Ok w) s l p m v = solving 0 w.residual w.rounds s l p m v
+solved (Err r) s l p m v = solving r nought 0 s l p m v
 
 -- 16: there are rounds, and the totals of a pair do not agree
 abbrev pub uneven : ℕ → ℕ → List ℕ → List ℕ → ChainColumns → ChainColumns → Bool

@@ -1,4 +1,5 @@
 -- What `sweeps` and `visits` answer, and what they leave in the list that is lent to them, for couplings in rows of numbers.
+use Rattle.std.specs.Prelude.{Option, Some, None}
 use Prim.Native.Nat.{ℕ}
 use mathlib.Core.Bool.{Bool, true, false, ◌&&◌}
 use mathlib.Core.List.{List, []}
@@ -56,6 +57,11 @@ pub record Occupied : Type 0 where
 
 abbrev pub occupied : Bool → Float → List Float → Occupied
 occupied b x l = record { done = b; mass = x; spent = l }
+
+-- of what is answered: the mass that is left, or nothing
+abbrev pub occupied_as : Option Float → List Float → Occupied
+occupied_as (Some x) l = occupied true x l
+occupied_as None l = occupied false nought l
 
 -- at most 4,096 pairs, an entry for each, and a coupling that can be read
 abbrev pub occupiable : List ℕ → List ℕ → List ℕ → List Float → List Float → ℕ → Bool

@@ -1,10 +1,14 @@
 -- What a run answers: a refusal's number, or the distance and 64 records, the contributions first.
-use Rattle.std.specs.Prelude.{ℕ, zero, suc, List, [], replicate, Float}
+use Rattle.std.specs.Prelude.{ℕ, zero, suc, List, [], replicate, Float, Option, Some, None, Result, Ok, Err}
 use Rattle.numbers.specs.Real.{nought}
 use Rattle.numbers.specs.Lists.{over}
 use Rattle.distance_theory.specs.declared.PairContribution.{PairContribution}
 use Rattle.distance_theory.specs.Outcome.{Run}
-use Rattle.distance_words.specs.declared.told.Told.{Told}
+use Rattle.distance_words.specs.declared.told.Answer.{Answer}
+use Rattle.distance_words.specs.declared.told.Listed.{Listed}
+
+abbrev pub Told : Type 0
+Told = Result Answer ℕ
 
 -- a record of zeros
 abbrev pub nothing : PairContribution
@@ -14,14 +18,18 @@ nothing = record { left = record { 0 = 0 }; right = record { 0 = 0 }; gap = noug
 abbrev pub row : List PairContribution → List PairContribution
 row cs = over cs (replicate 64 nothing)
 
--- zeros behind the number
-abbrev pub refused_with : ℕ → Told
-refused_with r = record { refusal = r; distance = record { value = nought; error_bound = nought; gamma = nought; pairs_explored = 0; contributions = 0; rounds = 0 }; records = row [] }
+-- no contribution, and records of zeros
+abbrev pub nothing_listed : Listed
+nothing_listed = record { count = 0; records = row [] }
+
+abbrev pub listed_or_none : Option Listed → Listed
+listed_or_none (Some l) = l
+listed_or_none None = nothing_listed
 
 -- of a run
 abbrev pub told_if : ℕ → Run → Told
-told_if zero R = record { refusal = 0; distance = R.distance; records = row R.listed }
-told_if (suc r) R = refused_with (suc r)
+told_if zero R = Ok (record { distance = R.distance; records = row R.listed })
+told_if (suc r) R = Err (suc r)
 
 abbrev pub told_of : Run → Told
 told_of R = told_if R.refusal R

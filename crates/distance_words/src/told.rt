@@ -1,43 +1,41 @@
 // What a run and its parts answer.
 ghost use Rattle.std.specs.Prelude.{◌≡◌};
-ghost use Rattle.distance_words.specs.Told.{refused_with};
+ghost use Rattle.distance_words.specs.Told.{nothing_listed};
 
 use bisim_core::ids::StateId;
 use distance_theory::{Distance, PairContribution};
 
-// The number of the refusal, 0 if there is none, the most that a value was off, and the rounds made.
-#[derive(Clone, Copy)]
-pub struct Solved {
-    pub refusal: u32,
+// The most that a value was off, and the rounds made.
+#[derive(Clone, Copy, Debug, PartialEq)]
+pub struct Rounds {
     pub residual: f64,
     pub rounds: usize,
 }
 
-// Whether the contributions could be listed, how many are, and 64 records, of which these are the first.
-#[derive(Clone, Copy)]
+// How many contributions are listed, and 64 records, of which these are the first.
+#[derive(Clone, Copy, Debug)]
 pub struct Listed {
-    pub done: bool,
     pub count: usize,
     pub records: [PairContribution; 64],
 }
 
-// How the distance arises: the mass that is left in `occupancy`, and the contributions.
-#[derive(Clone, Copy)]
+// How the distance arises: the mass that is left in `occupancy`, and the contributions, where they can be listed.
+#[derive(Clone, Copy, Debug)]
 pub struct Accounted {
     pub mass: f64,
-    pub listed: Listed,
+    pub listed: Option<Listed>,
 }
 
-// The number of the refusal, 0 if there is none, the distance, and 64 records, the contributions first. A refusal has zeros behind its number.
-#[derive(Clone, Copy)]
-pub struct Told {
-    pub refusal: u32,
+// The distance, and 64 records, the contributions first.
+#[derive(Clone, Copy, Debug)]
+pub struct Answer {
     pub distance: Distance,
     pub records: [PairContribution; 64],
 }
 
-pub fn refused(refusal: u32) -> Told
-    ensures { result ≡ refused_with refusal }
+// No contribution, and records of zeros.
+pub fn nothing_listed() -> Listed
+    ensures { result ≡ nothing_listed }
 {
     let records = [PairContribution {
         left: StateId(0),
@@ -46,17 +44,5 @@ pub fn refused(refusal: u32) -> Told
         occupancy: 0.0,
         contribution: 0.0,
     }; 64];
-    let distance = Distance {
-        value: 0.0,
-        error_bound: 0.0,
-        gamma: 0.0,
-        pairs_explored: 0,
-        contributions: 0,
-        rounds: 0,
-    };
-    Told {
-        refusal,
-        distance,
-        records,
-    }
+    Listed { count: 0, records }
 }

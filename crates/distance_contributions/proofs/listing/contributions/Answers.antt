@@ -1,5 +1,6 @@
 -- `listing::contributions` meets its contract: listed where that can be done.
 use mathlib.Core.Path.{sym, ◌∙◌}
+use lib.ListN.{length}
 use Rattle.distance_contributions.proofs.Records.{told, untold}
 use Rattle.distance_theory.specs.Contributions.{listed}
 use Rattle.distance_words.proofs.Listing.{observing, pairs_in}
@@ -11,9 +12,9 @@ list-requires c = sym c.listable.ensures ∙ c.if-listable.true
 pub returns-then-listable : goal.returns-then-listable
 returns-then-listable c =
     let a = c.args in
-    told (listed (observing a.left_seen.now a.right_seen.now (pairs_in a.lefts.now a.rights.now a.n)) a.options a.spent.now) c.listable.ensures c.if-listable.true c.list.ensures
+    told (listed (observing a.of.now.left.now a.of.now.right.now (pairs_in a.of.now.pairs.lefts.now a.of.now.pairs.rights.now (length a.of.now.pairs.lefts.now))) a.options a.of.now.spent.now) c.listable.ensures c.if-listable.true c.list.ensures
 
-pub returns : goal.returns
-returns c =
+pub returns-else-listable : goal.returns-else-listable
+returns-else-listable c =
     let a = c.args in
-    untold (listed (observing a.left_seen.now a.right_seen.now (pairs_in a.lefts.now a.rights.now a.n)) a.options a.spent.now) c.listable.ensures c.if-listable.false c.blank-records.ensures
+    untold (listed (observing a.of.now.left.now a.of.now.right.now (pairs_in a.of.now.pairs.lefts.now a.of.now.pairs.rights.now (length a.of.now.pairs.lefts.now))) a.options a.of.now.spent.now) c.listable.ensures c.if-listable.false

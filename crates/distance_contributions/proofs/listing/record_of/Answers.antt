@@ -8,4 +8,4 @@ use Rattle.distance_contributions.proofs.listing.record_of.Goals as goal
 pub returns : goal.returns
 returns c =
     let a = c.args in
-    ap (with_gap (get_or a.lefts.now a.k 0) (get_or a.rights.now a.k 0) (get_or a.spent.now a.k nan)) c.apart-gap.ensures
+    ap (with_gap (get_or a.of.now.pairs.lefts.now a.k 0) (get_or a.of.now.pairs.rights.now a.k 0) (get_or a.of.now.spent.now a.k nan)) c.apart-gap.ensures

@@ -3,4 +3,4 @@ use Rattle.distance_contributions.proofs.Records.{Recording}
 use Rattle.distance_contributions.proofs.listing.records_of.Given as goal
 
 abbrev pub invariant-loop-i : goal.invariant-loop-i
-invariant-loop-i l = Recording l.lefts l.rights l.left_seen l.right_seen l.spent l.chosen l.records l.i
+invariant-loop-i l = Recording l.of.pairs.lefts.now l.of.pairs.rights.now l.of.left.now l.of.right.now l.of.spent.now l.chosen l.records l.i

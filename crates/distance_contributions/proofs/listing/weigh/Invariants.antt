@@ -3,4 +3,4 @@ use Rattle.distance_contributions.proofs.Records.{Weighing}
 use Rattle.distance_contributions.proofs.listing.weigh.Given as goal
 
 abbrev pub invariant-loop-k : goal.invariant-loop-k
-invariant-loop-k l = Weighing l.lefts l.rights l.left_seen l.right_seen l.spent l.initial.shares l.shares l.k
+invariant-loop-k l = Weighing l.of.pairs.lefts.now l.of.pairs.rights.now l.of.left.now l.of.right.now l.of.spent.now l.initial.shares l.shares l.k

@@ -9,12 +9,12 @@ use Rattle.distance_contributions.proofs.Records.{row_short, row_crowded, row_wh
 use Rattle.distance_contributions.proofs.row.write_contributions.Goals as goal
 
 pub returns-then-records-lt64 : goal.returns-then-records-lt64
-returns-then-records-lt64 c = row_short c.args.records.now c.args.from c.args.count c.if-records-lt64.true
+returns-then-records-lt64 c = row_short c.args.records.now c.args.from.now c.args.count c.if-records-lt64.true
 
 pub returns-then-count-gt64 : goal.returns-then-count-gt64
-returns-then-count-gt64 c = row_crowded c.args.records.now c.args.from c.args.count c.if-records-lt64.false c.if-count-gt64.true
+returns-then-count-gt64 c = row_crowded c.args.records.now c.args.from.now c.args.count c.if-records-lt64.false c.if-count-gt64.true
 
 pub returns : goal.returns
 returns c =
     ap (λ (l : List PairContribution). stored 0 (l ++ drop c.args.count c.args.records.now)) c.copy_from_slice.ensures.after
-    ∙ row_whole c.args.records.now c.args.from c.args.count c.if-records-lt64.false c.if-count-gt64.false (search rules)
+    ∙ row_whole c.args.records.now c.args.from.now c.args.count c.if-records-lt64.false c.if-count-gt64.false (search rules)
