@@ -8,7 +8,7 @@ ghost use Rattle.bisim_core.specs.Data.{columns, columns_of};
 ghost use Rattle.bisim_core.specs.Ids.{distinct};
 ghost use Rattle.bisim_core.specs.Edges.{others, crowded_in};
 ghost use Rattle.bisim_core.specs.Model;
-ghost use Rattle.bisim_core.specs.Model.{edge_at, rises, row, rows};
+ghost use Rattle.bisim_core.specs.Model.{edge_at, begins, rises, row};
 
 use crate::ids::single;
 use crate::wlts::{Shape, Wlts, starts_outside};
@@ -35,11 +35,13 @@ fn thin(model: &Wlts) -> bool
                     || model.label_values.len() < shape.labels)))
 }
 
-fn steady(states: usize, edges: usize, offsets: &[u32]) -> bool
-    requires { states < length offsets.now }
-    ensures { result ≡ (eqb (get_or offsets.now 0 0) 0 && (eqb (get_or offsets.now states 0) edges && every (λ s. leb (get_or offsets.now s 0) (get_or offsets.now (s + 1) 0)) states)) }
+fn steady(model: &Wlts) -> bool
+    requires { model.now.shape.states < length model.now.offsets.now }
+    ensures { result ≡ Model.steady model.now.shape (columns_of model.now) }
 {
-    if offsets[0] != 0 || offsets[states] as usize != edges {
+    let states = model.shape.states;
+    let offsets = model.offsets;
+    if offsets[0] != 0 || offsets[states] as usize != model.shape.edges {
         return false;
     }
     for s in 0..states {
@@ -57,18 +59,17 @@ fn follows(label: u32, target: u32, next_label: u32, next_target: u32) -> bool
     label < next_label || (label == next_label && target < next_target)
 }
 
-// The edges of one state, from..to, rise strictly.
-fn row_rises(edge_labels: &[u32], edge_targets: &[u32], from: usize, to: usize) -> bool
-    requires { (from ≤ to) × (to ≤ length edge_labels.now) × (to ≤ length edge_targets.now) }
-    ensures { (s : ℕ) (W : List Float) → result ≡ rises (map (edge_at (columns [] [] edge_labels.now edge_targets.now W) s) (span from (to - from))) }
+// The edges of state s rise strictly.
+fn row_rises(model: &Wlts, s: usize) -> bool
+    requires { (s + 1 < length model.now.offsets.now) × (begins (columns_of model.now) s ≤ begins (columns_of model.now) (s + 1)) × (begins (columns_of model.now) (s + 1) ≤ length model.now.edge_labels.now) × (begins (columns_of model.now) (s + 1) ≤ length model.now.edge_targets.now) }
+    ensures { result ≡ rises (row (columns_of model.now) s) }
 {
+    let labels = model.edge_labels;
+    let targets = model.edge_targets;
+    let from = model.offsets[s] as usize;
+    let to = model.offsets[s + 1] as usize;
     for i in from..to.saturating_sub(1) {
-        if !follows(
-            edge_labels[i],
-            edge_targets[i],
-            edge_labels[i + 1],
-            edge_targets[i + 1],
-        ) {
+        if !follows(labels[i], targets[i], labels[i + 1], targets[i + 1]) {
             return false;
         }
     }
@@ -80,9 +81,7 @@ fn rows_rise(model: &Wlts) -> bool
     ensures { result ≡ every (λ s. rises (row (columns_of model.now) s)) model.now.shape.states }
 {
     for s in 0..model.shape.states {
-        let from = model.offsets[s] as usize;
-        let to = model.offsets[s + 1] as usize;
-        if !row_rises(model.edge_labels, model.edge_targets, from, to) {
+        if !row_rises(model, s) {
             return false;
         }
     }
@@ -90,10 +89,10 @@ fn rows_rise(model: &Wlts) -> bool
 }
 
 // An edge's numbers are below their counts, and its weight is not zero.
-fn sound(states: usize, labels: usize, label: u32, target: u32, weight: f64) -> bool
-    ensures { result ≡ (ltb target states && (ltb label labels && not (is_zero weight))) }
+fn sound(shape: Shape, label: u32, target: u32, weight: f64) -> bool
+    ensures { result ≡ (ltb target shape.states && (ltb label shape.labels && not (is_zero weight))) }
 {
-    (target as usize) < states && ((label as usize) < labels && !(weight == 0.0))
+    (target as usize) < shape.states && ((label as usize) < shape.labels && !(weight == 0.0))
 }
 
 fn sound_edges(model: &Wlts) -> bool
@@ -103,8 +102,7 @@ fn sound_edges(model: &Wlts) -> bool
     let shape = model.shape;
     for i in 0..shape.edges {
         if !sound(
-            shape.states,
-            shape.labels,
+            shape,
             model.edge_labels[i],
             model.edge_targets[i],
             model.edge_weights[i],
@@ -125,7 +123,7 @@ pub(crate) fn unfit(model: &Wlts) -> bool
     if thin(model) {
         return true;
     }
-    if !steady(shape.states, shape.edges, model.offsets) {
+    if !steady(model) {
         return true;
     }
     if !rows_rise(model) {
@@ -134,7 +132,7 @@ pub(crate) fn unfit(model: &Wlts) -> bool
     if !sound_edges(model) {
         return true;
     }
-    !single(model.label_values, shape.labels)
+    !single(&model.label_values[..shape.labels])
 }
 
 // ---- check 5
@@ -145,12 +143,12 @@ fn joined_weighs(weight: f64) -> bool
     LEAST_WEIGHT <= weight && weight <= GREATEST_JOINED
 }
 
-pub(crate) fn all_weigh(edge_weights: &[f64], edges: usize) -> bool
-    requires { edges ≤ length edge_weights.now }
-    ensures { result ≡ every (λ i. le least_weight (get_or edge_weights.now i nan) && le (get_or edge_weights.now i nan) greatest_joined) edges }
+pub(crate) fn all_weigh(model: &Wlts) -> bool
+    requires { model.now.shape.edges ≤ length model.now.edge_weights.now }
+    ensures { result ≡ every (λ i. Model.joined_weighs (edge_at (columns_of model.now) 0 i)) model.now.shape.edges }
 {
-    for i in 0..edges {
-        if !joined_weighs(edge_weights[i]) {
+    for i in 0..model.shape.edges {
+        if !joined_weighs(model.edge_weights[i]) {
             return false;
         }
     }
@@ -159,16 +157,18 @@ pub(crate) fn all_weigh(edge_weights: &[f64], edges: usize) -> bool
 
 // ---- check 6
 
-// How many distinct targets other than s the edges from..to have. No mark is s + 1 yet; then those of s and of the targets are.
-fn count_others(edge_targets: &[u32], from: usize, to: usize, s: usize, marks: &mut [u32]) -> usize
-    requires { (from ≤ to) × (to ≤ length edge_targets.now) × (s < length marks.old) × (length marks.old ≤ 2000) × (((i : ℕ) → i < to → get_or edge_targets.now i 0 < length marks.old)) × (((x : ℕ) → get_or marks.old x 0 ≤ s)) }
-    ensures { (((D O L : List ℕ) (W : List Float) → result ≡ length (distinct (others s (map (edge_at (columns D O L edge_targets.now W) s) (span from (to - from))))))) × (((x : ℕ) → get_or marks.new x 0 ≤ s + 1)) }
+// How many distinct targets other than s the edges of state s have. No mark is s + 1 yet; then those of s and of the targets are.
+fn count_others(model: &Wlts, s: usize, marks: &mut [u32]) -> usize
+    requires { (s + 1 < length model.now.offsets.now) × (begins (columns_of model.now) s ≤ begins (columns_of model.now) (s + 1)) × (begins (columns_of model.now) (s + 1) ≤ length model.now.edge_targets.now) × (s < length marks.old) × (length marks.old ≤ 2000) × (((i : ℕ) → i < begins (columns_of model.now) (s + 1) → get_or model.now.edge_targets.now i 0 < length marks.old)) × (((x : ℕ) → get_or marks.old x 0 ≤ s)) }
+    ensures { (result ≡ length (distinct (others s (row (columns_of model.now) s)))) × (((x : ℕ) → get_or marks.new x 0 ≤ s + 1)) }
 {
+    let from = model.offsets[s] as usize;
+    let to = model.offsets[s + 1] as usize;
     let mark = s as u32 + 1;
     marks[s] = mark;
     let mut count = 0;
     for i in from..to {
-        let t = edge_targets[i] as usize;
+        let t = model.edge_targets[i] as usize;
         if marks[t] != mark {
             marks[t] = mark;
             count += 1;
@@ -177,15 +177,13 @@ fn count_others(edge_targets: &[u32], from: usize, to: usize, s: usize, marks: &
     count
 }
 
-pub(crate) fn crowded(states: usize, offsets: &[u32], edge_targets: &[u32]) -> bool
-    requires { (states ≤ 2000) × (states < length offsets.now) × (((s : ℕ) → s < states → get_or offsets.now s 0 ≤ get_or offsets.now (s + 1) 0)) × (get_or offsets.now states 0 ≤ length edge_targets.now) × (((i : ℕ) → i < get_or offsets.now states 0 → get_or edge_targets.now i 0 < states)) }
-    ensures { (D L : List ℕ) (W : List Float) → result ≡ crowded_in (rows (columns D offsets.now L edge_targets.now W) 0 states) (span 0 states) }
+pub(crate) fn crowded(model: &Wlts) -> bool
+    requires { (model.now.shape.states ≤ 2000) × (model.now.shape.states < length model.now.offsets.now) × (((s : ℕ) → s < model.now.shape.states → get_or model.now.offsets.now s 0 ≤ get_or model.now.offsets.now (s + 1) 0)) × (get_or model.now.offsets.now model.now.shape.states 0 ≤ length model.now.edge_targets.now) × (((i : ℕ) → i < get_or model.now.offsets.now model.now.shape.states 0 → get_or model.now.edge_targets.now i 0 < model.now.shape.states)) }
+    ensures { result ≡ Model.crowded model.now.shape (columns_of model.now) }
 {
     let mut marks = [0u32; 2000];
-    for s in 0..states {
-        let from = offsets[s] as usize;
-        let to = offsets[s + 1] as usize;
-        if count_others(edge_targets, from, to, s, &mut marks) > 31 {
+    for s in 0..model.shape.states {
+        if count_others(model, s, &mut marks) > 31 {
             return true;
         }
     }

@@ -15,19 +15,19 @@ pub struct StateId(pub u32);
 pub struct LabelId(pub u32);
 
 // The label values known: a list of which the first `count` are in use.
+// Stays: the C interface lends the list with room for more, and a count that may be too large.
 #[derive(Clone, Copy, Debug)]
 pub struct Interner<'a> {
     pub labels: &'a [u32],
     pub count: usize,
 }
 
-// No value of the first `count` is listed twice: each is found where it stands.
-pub(crate) fn single(labels: &[u32], count: usize) -> bool
-    requires { count ≤ length labels.now }
-    ensures { result ≡ Ids.single (take count labels.now) }
+// No value is listed twice: each is found where it stands.
+pub(crate) fn single(labels: &[u32]) -> bool
+    ensures { result ≡ Ids.single labels.now }
 {
-    for i in 0..count {
-        if seek(labels, count, labels[i]) != i {
+    for (i, label) in labels.iter().enumerate() {
+        if seek(labels, *label) != Some(i) {
             return false;
         }
     }
@@ -46,16 +46,14 @@ impl Interner<'_> {
     fn place(&self, value: u32) -> Option<usize>
         ensures { result ≡ Ids.place value (take self.now.count self.now.labels.now) }
     {
-        self.labels[..self.count.min(self.labels.len())]
-            .iter()
-            .position(|x| *x == value)
+        seek(&self.labels[..self.count.min(self.labels.len())], value)
     }
 
     // Too few entries for the count, or a value listed twice.
     fn mislisted(&self) -> bool
         ensures { result ≡ Ids.mislisted self.now.labels.now self.now.count }
     {
-        self.labels.len() < self.count || !single(self.labels, self.count)
+        self.labels.len() < self.count || !single(&self.labels[..self.count])
     }
 
     // Over 256 values in use, or mislisted.
@@ -96,7 +94,7 @@ impl Interner<'_> {
 }
 
 // The id of a label value, and how many values the list then has: a new value goes behind the `count` in use. 3: a 257th label; 4: mislisted; 7: no room.
-// No method of `Interner`: a struct of a list lent by `&mut` would have to promise that it still holds that list.
+// Stays: the C interface lends the list and counts beside it how much is in use, and a refusal has to leave the list as it was.
 pub fn intern(labels: &mut [u32], count: usize, value: u32) -> Result<(LabelId, usize), Refusal>
     ensures { ends (numbered result) labels.new ≡ Ids.interning labels.old count value }
 {

@@ -49,10 +49,10 @@ impl Wlts<'_> {
         if stray || check::unfit(self) {
             return Err(Refusal::OutOfRange);
         }
-        if !check::all_weigh(self.edge_weights, self.shape.edges) {
+        if !check::all_weigh(self) {
             return Err(Refusal::Weight);
         }
-        if check::crowded(self.shape.states, self.offsets, self.edge_targets) {
+        if check::crowded(self) {
             return Err(Refusal::Targets);
         }
         Ok(())

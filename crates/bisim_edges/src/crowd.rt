@@ -10,8 +10,7 @@ fn note(seen: &mut [u32], count: usize, t: u32) -> usize
     requires { (count ≤ length seen.old) × (length seen.old ≤ 4096) }
     ensures { Noted seen.old count t seen.new result }
 {
-    let k = seek(seen, count, t);
-    if k < count {
+    if seek(&seen[..count], t).is_some() {
         return count;
     }
     if count < seen.len() {

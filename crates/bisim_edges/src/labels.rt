@@ -7,15 +7,15 @@ ghost use Rattle.build_theory.proofs.Steps.{Interned};
 
 use numbers::seek;
 
-// Where x stands among the first `count` of distinct values; a good guess spares the search.
-fn place(store: &[u32], count: usize, guess: usize, x: u32) -> usize
-    requires { (count ≤ length store.now) × Single (take count store.now) }
-    ensures { result ≡ Search.seek x (take count store.now) }
+// Where x stands among distinct values, if it does; a good guess spares the search.
+fn place(known: &[u32], guess: usize, x: u32) -> Option<usize>
+    requires { Single known.now }
+    ensures { result ≡ Search.place x known.now }
 {
-    if guess < count && store[guess] == x {
-        return guess;
+    if guess < known.len() && known[guess] == x {
+        return Some(guess);
     }
-    seek(store, count, x)
+    seek(known, x)
 }
 
 // The distinct values of those given go into the store, and the id of each into ids. One more than the store holds is the answer where there are more.
@@ -30,7 +30,7 @@ pub(crate) fn intern_all(values: &[u32], given: usize, store: &mut [u32], ids: &
     for i in 0..n {
         let x = values[i];
         let g = (x % 1024) as usize;
-        let k = place(store, count, guesses[g] as usize, x);
+        let k = place(&store[..count], guesses[g] as usize, x).unwrap_or(count);
         if k == count {
             if count == store.len() {
                 return count + 1;

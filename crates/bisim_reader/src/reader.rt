@@ -73,9 +73,8 @@ pub fn label_id(model: &Wlts, value: u32) -> Result<Option<LabelId>, Refusal>
     ensures { numbered result ≡ label_id model.now.shape (columns_of model.now) value }
 {
     checked(model)?;
-    let at = seek(model.label_values, model.shape.labels, value);
-    if at < model.shape.labels {
-        return Ok(Some(LabelId(at as u32)));
+    match seek(&model.label_values[..model.shape.labels], value) {
+        Some(at) => Ok(Some(LabelId(at as u32))),
+        None => Ok(None),
     }
-    Ok(None)
 }

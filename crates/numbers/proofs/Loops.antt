@@ -3,7 +3,7 @@ use Rattle.std.proofs.Common.{◌≡◌, refl, ap, ℕ, ◌+◌, Bool, true, fal
 use native.Mathlib.Omega.{arith}
 use Rattle.std.specs.List.{list_all, position_or_len}
 use Rattle.numbers.specs.Lists.{all}
-use Rattle.numbers.specs.Search.{seek, here}
+use Rattle.numbers.specs.Search.{seek, here, place}
 use Rattle.numbers.proofs.Seeks.{seek_le}
 
 pub list_all_is : {A : Type 0} (t : A → Bool) (l : List A) → list_all t l ≡ all t l
@@ -21,8 +21,8 @@ position_is x (y ∷ l) = step (eqb y x) (position_is x l)
     step false e = omega (arith, e)
 
 -- the place of x, or the length where there is none
-pub place_or_length : (x : ℕ) (l : List ℕ) → unwrap_or (cond (ltb (position_or_len (λ y. eqb y x) l) (length l)) (Some (position_or_len (λ y. eqb y x) l)) None) (length l) ≡ seek x l
-place_or_length x l = rw (position_is x l) (step (ltb (seek x l) (length l)) refl)
+pub place_or_length : (x : ℕ) (l : List ℕ) → unwrap_or (place x l) (length l) ≡ seek x l
+place_or_length x l = step (ltb (seek x l) (length l)) refl
   where
     step : (b : Bool) → ltb (seek x l) (length l) ≡ b → unwrap_or (cond b (Some (seek x l)) None) (length l) ≡ seek x l
     step true e = refl

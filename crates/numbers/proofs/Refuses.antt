@@ -5,7 +5,7 @@ use mathlib.Core.Logic.{◌≢◌}
 use Prim.Native.Nat.{ℕ, zero, suc}
 use native.Mathlib.Omega.{arith}
 use Rattle.std.specs.Prelude.{Result, Ok, Err}
-use Rattle.std.specs.Result.{IsErrAnd, is_ok}
+use Rattle.std.specs.Result.{IsErrAnd}
 use Rattle.numbers.specs.declared.refusal.Refusal.{Refusal}
 use Rattle.numbers.specs.declared.refusal.Refusal.TheVariants as refusal
 use Rattle.numbers.specs.Refuse.{check, number, numbered, code, answered}
@@ -50,28 +50,6 @@ turned_back (Err s) r n x h e = answered_err s n x (ap number h ∙ e)
 pub turned_back_code : {A : Type 0} (a : Result A Refusal) (r : Refusal) (n : ℕ) → IsErrAnd a (λ e. e ≡ r) → number r ≡ n → code a ≡ n
 turned_back_code (Ok y) r n h e = absurd h
 turned_back_code (Err s) r n h e = ap number h ∙ e
-
--- the value of an answer, and the number of a refusal
-abbrev value_or : {A : Type 0} → A → Result A ℕ → A
-value_or y (Ok x) = x
-value_or y (Err n) = y
-
-abbrev number_or : {A : Type 0} → ℕ → Result A ℕ → ℕ
-number_or k (Ok x) = k
-number_or k (Err n) = n
-
--- what an answer says of the checks
-pub answered_done : {A : Type 0} (n : ℕ) (x y : A) → Ok y ≡ answered n x → (0 ≡ n) × (y ≡ x)
-answered_done zero x y e = (refl, ap (value_or y) e)
-answered_done (suc n) x y e = absurd (true≢false (ap is_ok e))
-
-pub answered_turned : {A : Type 0} (k n : ℕ) (x : A) → Err k ≡ answered n x → k ≡ n
-answered_turned k zero x e = absurd (true≢false (sym (ap is_ok e)))
-answered_turned k (suc n) x e = ap (number_or 0) e
-
--- a call that hands on another one's refusal, of the same checks
-pub handed_on : {A B : Type 0} (a : Result A Refusal) (r : Refusal) (n : ℕ) (x : A) (y : B) → IsErrAnd a (λ e. e ≡ r) → Err (number r) ≡ answered n y → numbered a ≡ answered n x
-handed_on a r n x y h e = turned_back a r n x h (answered_turned (number r) n y e)
 
 -- what is answered, by the code of a check before it
 pub answered_code : {A B : Type 0} (r : Result B Refusal) (n : ℕ) (x : A) → code r ≡ n → code r ≡ 0 → numbered (Ok x) ≡ answered n x

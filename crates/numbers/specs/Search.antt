@@ -1,5 +1,5 @@
 -- The ordered search that stands in for the Rust's hash maps.
-use Rattle.std.specs.Prelude.{ℕ, suc, Bool, true, false, List, [], ◌∷◌, eqb}
+use Rattle.std.specs.Prelude.{ℕ, suc, Bool, true, false, cond, Option, Some, None, List, [], ◌∷◌, length, eqb, ltb}
 
 abbrev pub here : Bool → ℕ → ℕ
 here true later = 0
@@ -9,3 +9,7 @@ here false later = suc later
 unfoldable pub seek : ℕ → List ℕ → ℕ
 seek x [] = 0
 seek x (y ∷ ys) = here (eqb y x) (seek x ys)
+
+-- where it first stands, if it does
+abbrev pub place : ℕ → List ℕ → Option ℕ
+place x l = cond (ltb (seek x l) (length l)) (Some (seek x l)) None

@@ -3,7 +3,7 @@
 
 pub mod refusal; // refusal.rt: why a call is turned back
 
-ghost use Rattle.std.specs.Prelude.{◌≡◌, ◌≤◌, min, false, length, take, [], ◌∷◌};
+ghost use Rattle.std.specs.Prelude.{◌≡◌, min, false, [], ◌∷◌};
 ghost use Rattle.std.specs.Float.{inf};
 ghost use Rattle.numbers.specs.Real.{is_zero, is_valid, sum, one, half, tenth, least_weight, greatest_weight, greatest_joined, least_observation, greatest_factor, greatest_rate, eps, slack, margin, fineness};
 ghost use Rattle.numbers.specs.Choice;
@@ -96,14 +96,15 @@ impl Real {
     }
 }
 
-// There is no literal for it.
+// The infinity that the definitions have: in a proof the constant is its bits.
 pub fn infinity() -> f64
     ensures { result ≡ inf false }
 {
-    1.0 / 0.0
+    f64::INFINITY
 }
 
 // The lesser of two numbers, x where they are equal.
+// Stays: f64's min answers y where x is a NaN, and this one x.
 pub fn smaller(x: f64, y: f64) -> f64
     ensures { result ≡ Choice.smaller x y }
 {
@@ -111,6 +112,7 @@ pub fn smaller(x: f64, y: f64) -> f64
 }
 
 // The greater of two numbers, x where they are equal.
+// Stays: f64's max answers y where x is a NaN, and this one x.
 pub fn larger(x: f64, y: f64) -> f64
     ensures { result ≡ Choice.larger x y }
 {
@@ -118,6 +120,7 @@ pub fn larger(x: f64, y: f64) -> f64
 }
 
 // How far apart two numbers are.
+// Stays: f64's abs turns -0.0 into 0.0, and this one does not.
 pub fn apart(x: f64, y: f64) -> f64
     ensures { result ≡ Choice.apart x y }
 {
@@ -125,26 +128,19 @@ pub fn apart(x: f64, y: f64) -> f64
     if d < 0.0 { -d } else { d }
 }
 
-// The lesser of two counts.
-pub fn lesser(a: usize, b: usize) -> usize
-    ensures { result ≡ min a b }
-{
-    if a < b { a } else { b }
-}
-
 // The least of four counts.
 pub fn least(a: usize, b: usize, c: usize, d: usize) -> usize
     ensures { result ≡ min a (min b (min c d)) }
 {
-    lesser(a, lesser(b, lesser(c, d)))
+    let last = c.min(d);
+    a.min(b.min(last))
 }
 
-// Where x first stands among the first n entries of a list; how many these are if it does not.
-pub fn seek(list: &[u32], n: usize, x: u32) -> usize
-    ensures { result ≡ Search.seek x (take n list.now) }
+// Where x first stands in a list, if it does.
+pub fn seek(list: &[u32], x: u32) -> Option<usize>
+    ensures { result ≡ Search.place x list.now }
 {
-    let front = &list[..n.min(list.len())];
-    front.iter().position(|y| *y == x).unwrap_or(front.len())
+    list.iter().position(|y| *y == x)
 }
 
 // Bit i of a store of bytes, lowest bit of a byte first; false past its end.

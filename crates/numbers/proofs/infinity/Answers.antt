@@ -1,8 +1,8 @@
--- `numbers::infinity` meets its contract: 1 / 0 computes to it.
+-- `numbers::infinity` meets its contract: the bits of the constant compute to it.
 use mathlib.Core.Path.{refl}
-use lib.Ieee.{div, of_bits, of_fields, round}
+use lib.Ieee.{of_bits, of_fields}
 use Rattle.numbers.proofs.infinity.Goals as goal
 
 pub returns : goal.returns
-unfolding div of_bits of_fields round
+unfolding of_bits of_fields
 returns c = refl

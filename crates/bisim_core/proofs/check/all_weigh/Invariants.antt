@@ -8,4 +8,4 @@ use Rattle.numbers.specs.Real.{least_weight, greatest_joined}
 use Rattle.bisim_core.proofs.check.all_weigh.Given as goal
 
 abbrev pub invariant-loop-i : goal.invariant-loop-i
-invariant-loop-i l = ((k : ℕ) → k < l.i → (le least_weight (get_or l.edge_weights k nan) && le (get_or l.edge_weights k nan) greatest_joined) ≡ true)
+invariant-loop-i l = ((k : ℕ) → k < l.i → (le least_weight (get_or l.model.edge_weights.now k nan) && le (get_or l.model.edge_weights.now k nan) greatest_joined) ≡ true)

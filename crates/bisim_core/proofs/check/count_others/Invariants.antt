@@ -6,4 +6,4 @@ use Rattle.bisim_core.proofs.RowChecks.{Counting}
 use Rattle.bisim_core.proofs.check.count_others.Given as goal
 
 abbrev pub invariant-loop-i : goal.invariant-loop-i
-invariant-loop-i l = (l.mark ≡ l.s + 1) × Counting l.edge_targets l.from l.to l.s (length l.initial.marks) l.marks l.count l.i
+invariant-loop-i l = (l.mark ≡ l.s + 1) × Counting l.model.edge_targets.now l.from l.to l.s (length l.initial.marks) l.marks l.count l.i

@@ -1,11 +1,10 @@
-use mathlib.Core.Path.{◌≡◌, refl, sym, ap, ◌∙◌}
+use mathlib.Core.Path.{sym, ◌∙◌}
 use Prim.Native.Nat.{◌+◌}
 use native.Mathlib.Omega.{arith}
 use borrow.Author.Count.{below_more}
 use Rattle.numbers.proofs.Alls.{every_of, every_not}
 use Rattle.bisim_core.specs.Data.{columns_of}
-use Rattle.bisim_core.specs.Model.{rises, row}
-use Rattle.bisim_core.proofs.Models.{begins_up, row_is}
+use Rattle.bisim_core.proofs.Models.{begins_up}
 use Rattle.bisim_core.proofs.check.rows_rise.Goals as goal
 
 pub loop-s-init : goal.loop-s-init
@@ -20,21 +19,16 @@ row_rises-requires c =
     let h = c.loop-s-test.true in
     let a = p.1 s h in
     let b = begins_up M n p.1 (s + 1) n (omega arith) (omega arith) in
+    let i = p.0 in
     let g = p.2 in
     let k = p.3 in
-    (omega arith, omega arith, omega arith)
+    (omega arith, a, omega arith, omega arith)
 
 pub returns-then-not-row_rises : goal.returns-then-not-row_rises
-returns-then-not-row_rises c =
-    let M = columns_of c.args.model.now in
-    let answer : c.row_rises.result ≡ rises (row M c.loop-s.s) = c.row_rises.ensures c.loop-s.s M.edge_weights ∙ ap rises (row_is M c.loop-s.s _ _ refl refl) in
-    sym (every_not _ _ _ c.loop-s-test.true (sym answer ∙ c.if-not-row_rises.true))
+returns-then-not-row_rises c = sym (every_not _ _ _ c.loop-s-test.true (sym c.row_rises.ensures ∙ c.if-not-row_rises.true))
 
 pub loop-s-preserved : goal.loop-s-preserved
-loop-s-preserved c =
-    let M = columns_of c.args.model.now in
-    let answer : c.row_rises.result ≡ rises (row M c.loop-s.s) = c.row_rises.ensures c.loop-s.s M.edge_weights ∙ ap rises (row_is M c.loop-s.s _ _ refl refl) in
-    below_more _ _ c.loop-s.invariant (sym answer ∙ c.if-not-row_rises.false)
+loop-s-preserved c = below_more _ _ c.loop-s.invariant (sym c.row_rises.ensures ∙ c.if-not-row_rises.false)
 
 pub returns : goal.returns
 returns c =

@@ -2,6 +2,7 @@
 use mathlib.Core.Path.{◌≡◌, sym, ap, ◌∙◌}
 use mathlib.Core.Bool.{false, not}
 use native.Mathlib.Omega.{arith}
+use lib.Seq.{length-take-le}
 use borrow.Author.Tests.{not-false}
 use Rattle.numbers.specs.Lists.{every}
 use Rattle.numbers.proofs.Refuses.{hit, skip}
@@ -61,11 +62,11 @@ returns-then-not-sound_edges c =
     skip _ _ _ not_started (skip _ _ _ not_thin (skip _ _ _ not_steady (skip _ _ _ not_rising
     (hit _ _ (sym (ap not c.if-not-sound_edges.true) ∙ ap not (c.sound_edges.ensures ∙ sound_rows in_order))))))
 
-pub single-requires : goal.single-requires
-single-requires c =
+pub slice_bounds-single-end : goal.slice_bounds-single-end
+slice_bounds-single-end c =
     let not_thin : thin c.args.model.now.shape (columns_of c.args.model.now) ≡ false = sym c.thin.ensures ∙ c.if-thin.false in
     let room : Roomy c.args.model.now.shape (columns_of c.args.model.now) = roomy _ _ not_thin in
-    room.labels_in
+    sym (length-take-le c.args.model.now.shape.labels c.args.model.now.label_values.now room.labels_in)
 
 pub returns : goal.returns
 returns c =

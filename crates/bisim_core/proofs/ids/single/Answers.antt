@@ -1,38 +1,29 @@
-use mathlib.Core.Path.{◌≡◌, sym, ap, ◌∙◌}
-use mathlib.Core.Bool.{true, false}
-use mathlib.Core.List.{List}
-use Prim.Native.Nat.{ℕ, ◌≤◌, ◌<◌}
-use native.Mathlib.Omega.{arith}
-use lib.ListN.{length, get_or, take}
-use lib.Seq.{length-take-le, get_or-take}
-use borrow.Author.Tests.{eq-eqb, ne_eqb}
+use Rattle.std.proofs.Common.{◌≡◌, refl, sym, ap, ◌∙◌, ℕ, ◌<◌, Bool, true, false, cond, Option, Some, None, List, length, eqb, ltb, arith}
+use Rattle.std.specs.Option.{option_eq}
+use borrow.Author.Tests.{ne_eqb, eq-eqb, ltb-false, eqb-true, not-true, not-false}
 use borrow.Author.Count.{below_more}
-use Rattle.numbers.specs.Search.{seek}
+use Rattle.numbers.specs.Search.{seek, place}
 use Rattle.numbers.proofs.Alls.{every_of, every_not}
-use Rattle.bisim_core.specs.Ids.{single}
 use Rattle.bisim_core.proofs.ids.single.Goals as goal
 
-module _ (l : List ℕ) (n : ℕ) (h : n ≤ length l) where
-  at : (k : ℕ) → k < n → seek (get_or (take n l) k 0) (take n l) ≡ seek (get_or l k 0) (take n l)
-  at k j = ap (λ (x : ℕ). seek x (take n l)) (get_or-take n l k 0 j)
+found_at : (x i : ℕ) (l : List ℕ) (k : Option ℕ) → i < length l → k ≡ place x l → option_eq eqb k (Some i) ≡ eqb (seek x l) i
+found_at x i l k h e = ap (λ o. option_eq eqb o (Some i)) e ∙ step (ltb (seek x l) (length l)) refl
+  where
+    step : (b : Bool) → ltb (seek x l) (length l) ≡ b → option_eq eqb (cond b (Some (seek x l)) None) (Some i) ≡ eqb (seek x l) i
+    step true e = refl
+    step false e = sym (ne_eqb _ _ (λ q. let g = ltb-false _ _ e in omega arith))
 
-  passed : ((k : ℕ) → k < n → seek (get_or l k 0) (take n l) ≡ k) → single (take n l) ≡ true
-  passed f = every_of _ _ (λ k j. let q = length-take-le n l h in let g : k < n = omega arith in eq-eqb _ _ (at k g ∙ f k g))
-
-  failed : (k : ℕ) → k < n → (seek (get_or l k 0) (take n l) ≡ k → ⊥) → single (take n l) ≡ false
-  failed k j f = every_not _ _ k (let q = length-take-le n l h in omega arith) (ne_eqb _ _ (λ e. f (sym (at k j) ∙ e)))
-
-pub loop-i-init : goal.loop-i-init
-loop-i-init c = λ k h. absurd (omega arith)
-
-pub returns-then-seek-i : goal.returns-then-seek-i
-returns-then-seek-i c = sym (failed _ _ c.requires _ c.loop-i-test.true (λ e. c.if-seek-i.true (c.seek.ensures ∙ e)))
+pub returns-then-ne : goal.returns-then-ne
+returns-then-ne c =
+    let n = not-true _ (sym c.ne.ensures ∙ c.if-ne.true) in
+    sym (every_not _ _ _ c.loop-i-test.true (sym (found_at _ _ _ _ c.loop-i-test.true c.seek.ensures) ∙ n))
 
 pub loop-i-preserved : goal.loop-i-preserved
-loop-i-preserved c = below_more _ _ c.loop-i.invariant (sym c.seek.ensures ∙ c.if-seek-i.false)
+loop-i-preserved c =
+    let e = not-false _ (sym c.ne.ensures ∙ c.if-ne.false) in
+    below_more _ _ c.loop-i.invariant (eqb-true _ _ (sym (found_at _ _ _ _ c.loop-i-test.true c.seek.ensures) ∙ e))
 
 pub returns : goal.returns
 returns c =
     let g = c.loop-i-test.false in
-    let p = c.requires in
-    sym (passed _ _ p (λ k h. c.loop-i.invariant k (omega arith)))
+    sym (every_of _ _ (λ k h. eq-eqb _ _ (c.loop-i.invariant k (omega arith))))

@@ -1,27 +1,30 @@
--- A model that passes has as many label values as it counts, so a value is listed if it is found below the count.
-use Rattle.std.proofs.Common.{ap, sym, ◌∙◌, Ok, take, arith}
+-- A model that passes has as many label values as it counts; a value is listed if it has a place among them.
+use Rattle.std.proofs.Common.{sym, ap, ◌∙◌, Ok, take, arith}
 use lib.Seq.{length-take-le}
 use Rattle.numbers.proofs.Refuses.{answered_ok}
 use Rattle.bisim_core.specs.Data.{columns_of}
 use Rattle.bisim_core.specs.Model.{label_id}
-use Rattle.bisim_reader.proofs.Answers.{passed, id_found, id_absent}
+use Rattle.bisim_reader.proofs.Answers.{passed, id_found, id_absent, id_below}
 use Rattle.bisim_reader.proofs.reader.label_id.Goals as goal
+
+pub slice_bounds-seek-end : goal.slice_bounds-seek-end
+slice_bounds-seek-end c =
+    let M = c.args.model.now in
+    sym (length-take-le M.shape.labels M.label_values.now (passed M.shape (columns_of M) (sym c.in_ok-checked.ensures.refusal)).1.room.labels_in)
 
 pub overflow_cast-result : goal.overflow_cast-result
 overflow_cast-result c =
-    let s = (passed _ (columns_of c.args.model.now) (sym c.in_ok-checked.ensures.refusal)).0.labels_in in
-    let h = c.if-at-model.true in record { fits = omega arith }
-
-pub returns-then-at-model : goal.returns-then-at-model
-unfolding label_id
-returns-then-at-model c =
     let M = c.args.model.now in
-    let room = (passed M.shape (columns_of M) (sym c.in_ok-checked.ensures.refusal)).1.room.labels_in in
-    ap Ok (id_found c.args.value _ _ (take M.shape.labels M.label_values.now) (length-take-le M.shape.labels M.label_values.now room) c.seek-at.ensures c.if-at-model.true) ∙ answered_ok _ _ c.in_ok-checked.ensures.refusal
+    let p = passed M.shape (columns_of M) (sym c.in_ok-checked.ensures.refusal) in
+    let s = p.0.labels_in in
+    let l = length-take-le M.shape.labels M.label_values.now p.1.room.labels_in in
+    let h = id_below c.args.value c.in-Some.at (take M.shape.labels M.label_values.now) (sym c.in-Some.is ∙ c.seek.ensures) in
+    record { fits = omega arith }
 
-pub returns : goal.returns
+pub returns-in-Some : goal.returns-in-Some
 unfolding label_id
-returns c =
-    let M = c.args.model.now in
-    let room = (passed M.shape (columns_of M) (sym c.in_ok-checked.ensures.refusal)).1.room.labels_in in
-    ap Ok (id_absent c.args.value _ _ (take M.shape.labels M.label_values.now) (length-take-le M.shape.labels M.label_values.now room) c.seek-at.ensures c.if-at-model.false) ∙ answered_ok _ _ c.in_ok-checked.ensures.refusal
+returns-in-Some c = ap Ok (id_found c.args.value _ (take c.args.model.now.shape.labels c.args.model.now.label_values.now) (sym c.in-Some.is ∙ c.seek.ensures)) ∙ answered_ok _ _ c.in_ok-checked.ensures.refusal
+
+pub returns-in-None : goal.returns-in-None
+unfolding label_id
+returns-in-None c = ap Ok (id_absent c.args.value (take c.args.model.now.shape.labels c.args.model.now.label_values.now) (sym c.in-None.is ∙ c.seek.ensures)) ∙ answered_ok _ _ c.in_ok-checked.ensures.refusal

@@ -34,9 +34,9 @@ crowded-requires c =
 pub returns-then-crowded : goal.returns-then-crowded
 returns-then-crowded c =
     let n4 : unfit c.args.self.now.shape (columns_of c.args.self.now) ≡ false = sym c.unfit.ensures ∙ c.if-unfit.false in
-    refused_6 c.args.stray c.args.self.now.shape (columns_of c.args.self.now) (sym c.large.ensures ∙ c.if-large.false) (none _ _ c.if-stray.false n4) (ap not (sym (c.all_weigh.ensures ∙ weigh_rows (fit c.args.self.now.shape (columns_of c.args.self.now) n4).order)) ∙ ap not c.if-not-all_weigh.false) (sym (c.crowded.ensures _ _ _) ∙ c.if-crowded.true)
+    refused_6 c.args.stray c.args.self.now.shape (columns_of c.args.self.now) (sym c.large.ensures ∙ c.if-large.false) (none _ _ c.if-stray.false n4) (ap not (sym (c.all_weigh.ensures ∙ weigh_rows (fit c.args.self.now.shape (columns_of c.args.self.now) n4).order)) ∙ ap not c.if-not-all_weigh.false) (sym (c.crowded.ensures) ∙ c.if-crowded.true)
 
 pub returns : goal.returns
 returns c =
     let n4 : unfit c.args.self.now.shape (columns_of c.args.self.now) ≡ false = sym c.unfit.ensures ∙ c.if-unfit.false in
-    refused_none c.args.stray c.args.self.now.shape (columns_of c.args.self.now) (sym c.large.ensures ∙ c.if-large.false) (none _ _ c.if-stray.false n4) (ap not (sym (c.all_weigh.ensures ∙ weigh_rows (fit c.args.self.now.shape (columns_of c.args.self.now) n4).order)) ∙ ap not c.if-not-all_weigh.false) (sym (c.crowded.ensures _ _ _) ∙ c.if-crowded.false)
+    refused_none c.args.stray c.args.self.now.shape (columns_of c.args.self.now) (sym c.large.ensures ∙ c.if-large.false) (none _ _ c.if-stray.false n4) (ap not (sym (c.all_weigh.ensures ∙ weigh_rows (fit c.args.self.now.shape (columns_of c.args.self.now) n4).order)) ∙ ap not c.if-not-all_weigh.false) (sym (c.crowded.ensures) ∙ c.if-crowded.false)
