@@ -1,216 +1,153 @@
 // Discovery: the pairs that follow a pair are met one after the other, from a first pair on.
-ghost use Rattle.std.specs.Prelude.{◌≡◌, List, [], ◌∷◌, map, ◌≤◌, Float, length};
-ghost use Rattle.chain_theory.specs.Columns.{chain_columns};
+ghost use Rattle.std.specs.Prelude.{◌≡◌, true, [], ◌∷◌, map, ◌≤◌, length, take};
+ghost use Rattle.numbers.specs.Refuse.{numbered};
+ghost use Rattle.chain_theory.specs.Lent.{of_chain};
+ghost use Rattle.distance_theory.specs.Lent.{SamePairs};
 ghost use Rattle.distance_theory.specs.Pairs.{pair};
-ghost use Rattle.distance_theory.proofs.Discovery.{Lists, Takes, crossing, row_in, Rowed, Explorable, Explores, discovered, discover};
+ghost use Rattle.distance_theory.proofs.Discovery.{Noting, Meets, crossing, row_in, Rowed, Explorable, Explores, found, found_in, discover};
 ghost use Rattle.distance_theory.proofs.Discovery;
-ghost use Rattle.distance_pairs.specs.Starting.{starting_in};
+ghost use Rattle.distance_theory.proofs.Index.{keyed};
+ghost use Rattle.distance_theory.proofs.Index;
 
-use crate::index::{code, goes_by, is_at, key, push};
-use bisim_core::ids::StateId;
+use crate::index::{code, goes_by, is_at, key};
 use chain_check::shape::misshapen;
-use chain_theory::{Chain, ChainShape};
+use chain_theory::Chain;
+use distance_theory::lent::PairsMut;
+use numbers::refusal::Refusal;
+use parts::rates::insert;
 
-// A pair is met: it is known, or the next one. How many pairs there are then; pair 4,097 is counted, and not noted.
-fn meet(x: u32, y: u32, lefts: &mut [u32], rights: &mut [u32], codes: &mut [u64], n: usize) -> usize
-    requires { Lists n lefts.old rights.old codes.old }
-    ensures { (result ≤ 4097) × Takes (pair x y ∷ []) n lefts.old rights.old codes.old result lefts.new rights.new codes.new }
+// Where the codes of a key go among those of the pairs so far.
+fn goes(pairs: &PairsMut, key: u64) -> usize
+    requires { (key ≤ 8800387989504) × (pairs.now.count ≤ length pairs.now.codes.now) }
+    ensures { (result ≡ keyed (take pairs.now.count pairs.now.codes.now) key) × (result ≤ pairs.now.count) }
+{
+    goes_by(&pairs.codes[..pairs.count], key)
+}
+
+// Whether the code at a place is one of a key.
+fn known(pairs: &PairsMut, at: usize, key: u64) -> bool
+    requires { pairs.now.count ≤ length pairs.now.codes.now }
+    ensures { result ≡ Index.is_at (take pairs.now.count pairs.now.codes.now) at key }
+{
+    is_at(&pairs.codes[..pairs.count], at, key)
+}
+
+// A pair is met: it is known, or the next one. Pair 4,097 is counted, and not noted.
+fn meet(pairs: &mut PairsMut, x: u32, y: u32)
+    requires { Noting pairs.old }
+    ensures lists { SamePairs pairs.old pairs.new }
+    ensures met { Meets (pair x y ∷ []) pairs.old pairs.new }
 {
     let pair = key(x, y);
-    let at = goes_by(&codes[..n], pair);
-    if is_at(&codes[..n], at, pair) {
-        return n;
+    let n = pairs.count;
+    let at = goes(pairs, pair);
+    if known(pairs, at, pair) {
+        return;
     }
-    if n >= 4096 {
-        return n + 1;
+    pairs.count = n + 1;
+    if n < 4096 {
+        insert(pairs.codes, at, n, code(x, y, n));
+        pairs.lefts[n] = x;
+        pairs.rights[n] = y;
     }
-    let c = code(x, y, n);
-    push(&mut codes[at..], n - at, c);
-    lefts[n] = x;
-    rights[n] = y;
-    n + 1
 }
 
 // State x with each of a row.
-fn meet_row(
-    x: u32,
-    ys: &[u32],
-    lefts: &mut [u32],
-    rights: &mut [u32],
-    codes: &mut [u64],
-    n: usize,
-) -> usize
-    requires { Lists n lefts.old rights.old codes.old }
-    ensures { (result ≤ 4097) × Takes (map (pair x) ys.now) n lefts.old rights.old codes.old result lefts.new rights.new codes.new }
+fn meet_row(pairs: &mut PairsMut, x: u32, ys: &[u32])
+    requires { Noting pairs.old }
+    ensures lists { SamePairs pairs.old pairs.new }
+    ensures met { Meets (map (pair x) ys.now) pairs.old pairs.new }
 {
-    let mut count = n;
     for y in ys {
-        count = meet(x, *y, lefts, rights, codes, count);
-        if count > 4096 {
-            return count;
+        meet(pairs, x, *y);
+        if pairs.count > 4096 {
+            return;
         }
     }
-    count
 }
 
 // Each state of one row with each of another.
-fn meet_rows(
-    xs: &[u32],
-    ys: &[u32],
-    lefts: &mut [u32],
-    rights: &mut [u32],
-    codes: &mut [u64],
-    n: usize,
-) -> usize
-    requires { Lists n lefts.old rights.old codes.old }
-    ensures { (result ≤ 4097) × Takes (crossing xs.now ys.now) n lefts.old rights.old codes.old result lefts.new rights.new codes.new }
+fn meet_rows(pairs: &mut PairsMut, xs: &[u32], ys: &[u32])
+    requires { Noting pairs.old }
+    ensures lists { SamePairs pairs.old pairs.new }
+    ensures met { Meets (crossing xs.now ys.now) pairs.old pairs.new }
 {
-    let mut count = n;
     for x in xs {
-        count = meet_row(*x, ys, lefts, rights, codes, count);
-        if count > 4096 {
-            return count;
+        meet_row(pairs, *x, ys);
+        if pairs.count > 4096 {
+            return;
         }
     }
-    count
 }
 
-// The pairs that follow the states x and y.
-fn follow(
-    x: usize,
-    y: usize,
-    left_offsets: &[u32],
-    left_targets: &[u32],
-    right_offsets: &[u32],
-    right_targets: &[u32],
-    lefts: &mut [u32],
-    rights: &mut [u32],
-    codes: &mut [u64],
-    n: usize,
-) -> usize
-    requires lists { Lists n lefts.old rights.old codes.old }
-    requires rowed { (Rowed left_offsets.now left_targets.now x) × (Rowed right_offsets.now right_targets.now y) }
-    ensures { (result ≤ 4097) × Takes (crossing (row_in left_offsets.now left_targets.now x) (row_in right_offsets.now right_targets.now y)) n lefts.old rights.old codes.old result lefts.new rights.new codes.new }
+// The targets of a state.
+fn row<'a>(chain: &Chain<'a>, x: usize) -> &'a [u32]
+    requires { Rowed chain.now.offsets.now chain.now.targets.now x }
+    ensures { result.now ≡ row_in chain.now.offsets.now chain.now.targets.now x }
 {
-    let left_from = left_offsets[x] as usize;
-    let left_to = left_offsets[x + 1] as usize;
-    let right_from = right_offsets[y] as usize;
-    let right_to = right_offsets[y + 1] as usize;
-    meet_rows(
-        &left_targets[left_from..left_to],
-        &right_targets[right_from..right_to],
-        lefts,
-        rights,
-        codes,
-        n,
-    )
+    &chain.targets[chain.offsets[x] as usize..chain.offsets[x + 1] as usize]
 }
 
 // Discovery from the first pair on, which is noted.
-fn discover_in(
-    left_offsets: &[u32],
-    left_targets: &[u32],
-    right_offsets: &[u32],
-    right_targets: &[u32],
-    lefts: &mut [u32],
-    rights: &mut [u32],
-    codes: &mut [u64],
-) -> usize
-    requires lists { Lists 1 lefts.old rights.old codes.old }
-    requires explorable { Explorable left_offsets.now left_targets.now right_offsets.now right_targets.now lefts.old rights.old codes.old }
-    ensures { Explores left_offsets.now left_targets.now right_offsets.now right_targets.now lefts.old rights.old codes.old result lefts.new rights.new codes.new }
+fn discover_in(left: &Chain, right: &Chain, pairs: &mut PairsMut)
+    requires lists { (pairs.old.count ≡ 1) × Noting pairs.old }
+    requires explorable { Explorable left.now.offsets.now left.now.targets.now right.now.offsets.now right.now.targets.now pairs.old.lefts.now pairs.old.rights.now pairs.old.codes.now }
+    ensures lists { SamePairs pairs.old pairs.new }
+    ensures explores { Explores left.now.offsets.now left.now.targets.now right.now.offsets.now right.now.targets.now pairs.old.lefts.now pairs.old.rights.now pairs.old.codes.now pairs.new.count pairs.new.lefts.now pairs.new.rights.now pairs.new.codes.now }
 {
-    let mut n = 1;
     let mut i = 0;
-    while i < n {
-        let x = lefts[i] as usize;
-        let y = rights[i] as usize;
-        n = follow(
-            x,
-            y,
-            left_offsets,
-            left_targets,
-            right_offsets,
-            right_targets,
-            lefts,
-            rights,
-            codes,
-            n,
-        );
-        if n > 4096 {
-            return n;
+    while i < pairs.count {
+        let x = pairs.lefts[i] as usize;
+        let y = pairs.rights[i] as usize;
+        meet_rows(pairs, row(left, x), row(right, y));
+        if pairs.count > 4096 {
+            return;
         }
         i += 1;
     }
-    n
 }
 
-// Columns as check 4 wants them, of at most 2,000 states, `initial` one of these.
-fn readable(
-    initial: StateId,
-    chain: ChainShape,
-    offsets: &[u32],
-    targets: &[u32],
-    probs: &[f64],
-) -> bool
-    ensures { result ≡ Discovery.readable (starting_in initial chain) (chain_columns offsets.now targets.now probs.now []) }
+// Columns as check 4 wants them, of at most 2,000 states.
+fn readable(chain: &Chain) -> bool
+    ensures { result ≡ Discovery.readable chain.now.shape (of_chain chain.now) }
 {
-    let chain = Chain {
-        shape: ChainShape { initial, ..chain },
-        offsets,
-        targets,
-        probs,
-        observations: &[],
-    };
-    chain.shape.states <= 2000 && !misshapen(&chain)
+    chain.shape.states <= 2000 && !misshapen(chain)
 }
 
 // At least 4,096 entries each.
-fn long(lefts: usize, rights: usize, codes: usize) -> bool
-    ensures { result ≡ Discovery.long lefts rights codes }
+fn long(pairs: &PairsMut) -> bool
+    ensures { result ≡ Discovery.long (length pairs.now.lefts.now) (length pairs.now.rights.now) (length pairs.now.codes.now) }
 {
-    lefts >= 4096 && rights >= 4096 && codes >= 4096
+    pairs.lefts.len() >= 4096 && pairs.rights.len() >= 4096 && pairs.codes.len() >= 4096
 }
 
-// The pairs of states that are met from x and y on, in the order of their discovery: left and right states, and their index. How many there are, 4,097 where there are more than 4,096; then the first 4,096 are listed. 0 where the chains are not as check 4 wants them, x and y their initial states, have over 2,000 states, or a list is short: the lists are then as they were.
-pub fn discover_from(
-    x: StateId,
-    y: StateId,
-    left: ChainShape,
-    left_offsets: &[u32],
-    left_targets: &[u32],
-    left_probs: &[f64],
-    right: ChainShape,
-    right_offsets: &[u32],
-    right_targets: &[u32],
-    right_probs: &[f64],
-    lefts: &mut [u32],
-    rights: &mut [u32],
-    codes: &mut [u64],
-) -> usize
-    ensures { (seen₁ seen₂ : List Float) → discovered result lefts.new rights.new codes.new ≡ discover (starting_in x left) (chain_columns left_offsets.now left_targets.now left_probs.now seen₁) (starting_in y right) (chain_columns right_offsets.now right_targets.now right_probs.now seen₂) lefts.old rights.old codes.old }
+// The first pair is noted, and all that are met from it on.
+fn discover(left: &Chain, right: &Chain, pairs: &mut PairsMut)
+    requires { Discovery.discoverable left.now.shape (of_chain left.now) right.now.shape (of_chain right.now) pairs.old.lefts.now pairs.old.rights.now pairs.old.codes.now ≡ true }
+    ensures lists { SamePairs pairs.old pairs.new }
+    ensures discovered { Discovery.discovered pairs.new.count pairs.new.lefts.now pairs.new.rights.now pairs.new.codes.now ≡ discover left.now.shape (of_chain left.now) right.now.shape (of_chain right.now) pairs.old.lefts.now pairs.old.rights.now pairs.old.codes.now }
 {
-    if !long(lefts.len(), rights.len(), codes.len()) {
-        return 0;
+    let left_state = left.shape.initial.0;
+    let right_state = right.shape.initial.0;
+    pairs.lefts[0] = left_state;
+    pairs.rights[0] = right_state;
+    pairs.codes[0] = code(left_state, right_state, 0);
+    pairs.count = 1;
+    discover_in(left, right, pairs);
+}
+
+// The pairs of states that are met from the initial ones on, in the order of their discovery: left and right states, and their index. How many there are; 17 where there are more than 4,096, of which the first 4,096 are listed then.
+// 4 where the chains are not as check 4 wants them, have over 2,000 states, or a list is short: the lists are then as they were.
+pub fn discover_from(left: &Chain, right: &Chain, pairs: &mut PairsMut) -> Result<usize, Refusal>
+    ensures lists { SamePairs pairs.old pairs.new }
+    ensures found { found (numbered result) pairs.new.lefts.now pairs.new.rights.now pairs.new.codes.now ≡ found_in (discover left.now.shape (of_chain left.now) right.now.shape (of_chain right.now) pairs.old.lefts.now pairs.old.rights.now pairs.old.codes.now) }
+{
+    if !long(pairs) || !readable(left) || !readable(right) {
+        return Err(Refusal::OutOfRange);
     }
-    if !readable(x, left, left_offsets, left_targets, left_probs) {
-        return 0;
+    discover(left, right, pairs);
+    if pairs.count > 4096 {
+        return Err(Refusal::Pairs);
     }
-    if !readable(y, right, right_offsets, right_targets, right_probs) {
-        return 0;
-    }
-    let left_state = x.0;
-    let right_state = y.0;
-    lefts[0] = left_state;
-    rights[0] = right_state;
-    codes[0] = code(left_state, right_state, 0);
-    discover_in(
-        left_offsets,
-        left_targets,
-        right_offsets,
-        right_targets,
-        lefts,
-        rights,
-        codes,
-    )
+    Ok(pairs.count)
 }

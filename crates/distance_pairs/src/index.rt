@@ -1,6 +1,5 @@
 // The index of the pairs: each pair with its number as one code, the codes rising, searched by halves.
 ghost use Rattle.std.specs.Prelude.{◌≡◌, ◌≤◌, ◌<◌, length};
-ghost use Rattle.epsdelta_theory.proofs.RowsIn;
 ghost use Rattle.distance_theory.specs.Pairs.{pair};
 ghost use Rattle.distance_theory.proofs.Index.{keyed, look_up};
 ghost use Rattle.distance_theory.proofs.Index;
@@ -20,15 +19,6 @@ pub(crate) fn code(x: u32, y: u32, n: usize) -> u64
     ensures { result ≡ Index.code (pair x y) n }
 {
     key(x, y) * 4096 + n as u64
-}
-
-// A code put in at the front; the k codes from there on move on by one.
-pub(crate) fn push(codes: &mut [u64], k: usize, code: u64)
-    requires { k < length codes.old }
-    ensures { codes.new ≡ RowsIn.pushed k codes.old code }
-{
-    codes.copy_within(..k, 1);
-    codes[0] = code;
 }
 
 // 1 where a code is below those of a key, else 0. The sign of a difference, and no branch, which half of the time would be foretold wrongly.

@@ -7,18 +7,20 @@ use mathlib.Core.List.{List, [], ◌∷◌, ◌++◌, map, map-append, append-ni
 use native.Mathlib.Omega.{arith}
 use native.Mathlib.Numerals.{add-one}
 use native.Mathlib.Nat.{le_of_suc-le-suc, not-suc-le-zero}
-use lib.Dec.{ltb, leb}
+use lib.Dec.{eqb, ltb, leb}
 use lib.ListN.{length, get_or, set, take, drop, length-append, length-drop, length-map, length-take, take-append-drop, get_or-append}
-use lib.Seq.{paste, slice, take_all, take-suc, take_at, take-append-le, length-slice, drop-append-add, drop-drop}
-use Rattle.std.specs.List.{copy_within}
+use lib.Seq.{slice, take_all, take-suc, take_at, take-append-le, length-slice, drop-append-add, drop-drop}
+use Rattle.std.specs.Prelude.{Result, Ok, Err}
+use Rattle.numbers.specs.Refuse.{check, answered}
 use Rattle.numbers.specs.Lists.{In, over}
 use Rattle.numbers.specs.Sort.{insert}
-use borrow.Author.Tests.{ltb-true, ltb-false, leb-true, not-true, not-false}
+use borrow.Author.Tests.{ltb-true, ltb-false, leb-true, not-true, lt-ltb, le-ltb, ne_eqb}
+use Rattle.numbers.proofs.Refuses.{check_hit, check_skip}
 use Rattle.numbers.proofs.Bools.{and_t}
 use Rattle.numbers.proofs.Members.{in_at, in_left, in_right, in_snoc, apart_snoc}
 use Rattle.numbers.proofs.Sorts.{insert_here, insert_past}
 use Rattle.epsdelta_theory.specs.Jumps.{Jump, targets}
-use Rattle.epsdelta_theory.proofs.RowsIn.{pushed}
+use Rattle.epsdelta_theory.proofs.RowsIn.{pushed, put}
 use Rattle.epsdelta_theory.proofs.RowReads.{starts_up, jumps_targets}
 use Rattle.chain_theory.specs.Chain.{Chain}
 use Rattle.chain_theory.specs.Columns.{ChainColumns, begins, chain_of}
@@ -26,8 +28,9 @@ use Rattle.chain_theory.specs.Check.{misshapen}
 use Rattle.chain_theory.specs.declared.ChainShape.{ChainShape}
 use Rattle.chain_theory.proofs.Shaped.{shaped}
 use Rattle.distance_theory.specs.Pairs.{Pair, pair, pair_at, place, most, meet, meet_all, cross, target_pair, row_of, successors, explore, pairs}
+use Rattle.distance_theory.specs.declared.lent.PairsMut.{PairsMut}
 use Rattle.distance_theory.proofs.Crossings.{map_at}
-use Rattle.distance_theory.proofs.Explore.{place_in, Sane, meet_known, meet_new, meet_all_full, follow, explore_on, explore_end, explore_full}
+use Rattle.distance_theory.proofs.Explore.{pairs_some, place_in, Sane, meet_known, meet_new, meet_all_full, follow, explore_on, explore_end, explore_full}
 use Rattle.distance_theory.proofs.Inside.{Sound, Of, AllOf, successors_of_lem, row_at, chain_sound}
 use Rattle.distance_theory.proofs.Index.{key, code, index, keyed, is_at, Splits, goes_in, is_known, index_length, index_more}
 
@@ -65,9 +68,12 @@ readable H C = leb H.states 2000 && not (misshapen H C)
 abbrev pub long : ℕ → ℕ → ℕ → Bool
 long l r c = leb most l && (leb most r && leb most c)
 
+abbrev pub discoverable : ChainShape → ChainColumns → ChainShape → ChainColumns → List ℕ → List ℕ → List ℕ → Bool
+discoverable HL CL HR CR l r c = long (length l) (length r) (length c) && (readable HL CL && readable HR CR)
+
 -- the pairs of two chains; lists that do not fit stay as they are
 abbrev pub discover : ChainShape → ChainColumns → ChainShape → ChainColumns → List ℕ → List ℕ → List ℕ → Discovery
-discover HL CL HR CR l r c = listed_if (long (length l) (length r) (length c) && (readable HL CL && readable HR CR)) (pairs (chain_of HL CL) (chain_of HR CR)) l r c
+discover HL CL HR CR l r c = listed_if (discoverable HL CL HR CR l r c) (pairs (chain_of HL CL) (chain_of HR CR)) l r c
 
 -- ---- what they hold at every time
 
@@ -91,6 +97,33 @@ pub record Lists (n : ℕ) (l r c : List ℕ) : Type 0 where
 abbrev pub Takes : List Pair → ℕ → List ℕ → List ℕ → List ℕ → ℕ → List ℕ → List ℕ → List ℕ → Type 0
 Takes ps n l r c n' l' r' c' =
     (a b : ℕ) (found : List Pair) (l₀ r₀ c₀ : List ℕ) → b ≤ 2048 → AllOf a b ps → Noted a b found l₀ r₀ c₀ n l r c → Noted a b (meet_all ps found) l₀ r₀ c₀ n' l' r' c'
+
+-- the same of lists that are lent
+abbrev pub Noting : PairsMut → Type 0
+Noting P = Lists P.count P.lefts.now P.rights.now P.codes.now
+
+abbrev pub Taken : List Pair → PairsMut → PairsMut → Type 0
+Taken ps P Q = Takes ps P.count P.lefts.now P.rights.now P.codes.now Q.count Q.lefts.now Q.rights.now Q.codes.now
+
+abbrev pub Meets : List Pair → PairsMut → PairsMut → Type 0
+Meets ps P Q = (Q.count ≤ 4097) × (Q.count ≤ 4096 → Noting Q) × Taken ps P Q
+
+-- the number of the refusal, or how many pairs were found; and the lists then
+pub record Found : Type 0 where
+  pub answer : Result ℕ ℕ
+  pub lefts : List ℕ
+  pub rights : List ℕ
+  pub codes : List ℕ
+
+abbrev pub found : Result ℕ ℕ → List ℕ → List ℕ → List ℕ → Found
+found a l r c = record { answer = a; lefts = l; rights = r; codes = c }
+
+-- 4 where nothing can be looked for, 17 where there are over 4,096 pairs
+abbrev pub found_refusal : ℕ → ℕ
+found_refusal n = check 4 (eqb n 0) (check 17 (ltb most n) 0)
+
+abbrev pub found_in : Discovery → Found
+found_in D = found (answered (found_refusal D.count) D.count) D.lefts D.rights D.codes
 
 -- each target of one row with each of another
 unfoldable pub crossing : List ℕ → List ℕ → List Pair
@@ -154,13 +187,20 @@ push_insert t (suc n) k (suc m) (x ∷ l) s h S =
     ap (λ (r : List ℕ). x ∷ r) (push_insert t n k m l (omega arith) (le_of_suc-le-suc h) R)
     ∙ ap (λ (r : List ℕ). r ++ drop (suc m) l) (sym (insert_past t x (take m l) (S.before 0 (omega arith))))
 
--- the first k entries are moved on by one, and c goes before them
-pub push_moved : (k : ℕ) (l : List ℕ) (c : ℕ) → k < length l → set (copy_within l 0 k 1) 0 c ≡ pushed k l c
-push_moved k [] c h = absurd (not-suc-le-zero h)
-push_moved k (y ∷ l) c h =
-    let e : k - 0 ≡ k = omega arith in
-    let s : 1 + k ≡ suc k = omega arith in
-    ap (λ (j : ℕ). set (paste (y ∷ l) 1 (y ∷ l) j) 0 c) e ∙ ap (λ (j : ℕ). (c ∷ take k (y ∷ l)) ++ drop j (y ∷ l)) s ∙ sym (pushed_is k (y ∷ l) c h)
+-- an entry put in at a place is pushed in there
+pub put_pushed : (n k : ℕ) (l : List ℕ) (c : ℕ) → put n k l c ≡ take n l ++ pushed k (drop n l) c
+unfolding put pushed
+put_pushed zero k l c = refl
+put_pushed (suc n) k [] c = refl
+put_pushed (suc n) k (y ∷ l) c = ap (λ (r : List ℕ). y ∷ r) (put_pushed n k l c)
+
+pub put_length : (n k : ℕ) (l : List ℕ) (c : ℕ) → length (put n k l c) ≡ length l
+unfolding put pushed
+put_length (suc n) k [] c = refl
+put_length (suc n) k (y ∷ l) c = ap suc (put_length n k l c)
+put_length zero k [] c = refl
+put_length zero zero (y ∷ l) c = refl
+put_length zero (suc k) (y ∷ l) c = ap suc (put_length zero k l y)
 
 -- ---- some pairs met
 
@@ -261,7 +301,7 @@ module _ (x y n : ℕ) (l r c : List ℕ) (L : Lists n l r c) where
           })
 
       -- it is noted
-      pub takes_new : n < most → (c' : List ℕ) → c' ≡ take at c ++ pushed (n - at) (drop at c) (code (pair x y) n) → Takes (pair x y ∷ []) n l r c (n + 1) (set l n x) (set r n y) c'
+      pub takes_new : n < most → (c' : List ℕ) → c' ≡ put at (n - at) c (code (pair x y) n) → Takes (pair x y ∷ []) n l r c (n + 1) (set l n x) (set r n y) c'
       takes_new m c' ec a b found l₀ r₀ c₀ h w N =
           let s = N.count_is in
           let z = length-append found (pair x y ∷ []) in
@@ -292,7 +332,7 @@ module _ (x y n : ℕ) (l r c : List ℕ) (L : Lists n l r c) where
               let u = s.within in
               let w = length-take n c in
               let g = L.codes_long in
-              ec ∙ push_insert (code (pair x y) n) at (n - at) n c (omega arith) (omega arith) s
+              ec ∙ put_pushed at (n - at) c (code (pair x y) n) ∙ push_insert (code (pair x y) n) at (n - at) n c (omega arith) (omega arith) s
               ∙ ap₂ (λ (p q : List ℕ). p ++ q) (ap (insert (code (pair x y) n)) i ∙ ap (λ (j : ℕ). insert (code (pair x y) j) (index found)) v ∙ sym (index_more found (pair x y)))
               (ap (drop (suc n)) e ∙ tail)
             where
@@ -346,11 +386,8 @@ crossing_one x ys = append-nil (map (pair x) ys)
 pub takes_row : (x : ℕ) (ys : List ℕ) {n n₁ : ℕ} {l r c l₁ r₁ c₁ : List ℕ} → Takes (map (pair x) ys) n l r c n₁ l₁ r₁ c₁ → Takes (crossed ys (x ∷ [])) n l r c n₁ l₁ r₁ c₁
 takes_row x ys {n} {n₁} {l} {r} {c} {l₁} {r₁} {c₁} f = subst⁻¹ (λ (ps : List Pair). Takes ps n l r c n₁ l₁ r₁ c₁) (crossing_one x ys) f
 
--- rows xs and ys, which are read from f to t and from g to u
-pub takes_rows : (O T P U xs ys : List ℕ) (x y f t g u : ℕ) → f ≡ get_or O x 0 → t ≡ get_or O (x + 1) 0 → g ≡ get_or P y 0 → u ≡ get_or P (y + 1) 0 → xs ≡ slice f t T → ys ≡ slice g u U
-    → {n n₁ : ℕ} {l r c l₁ r₁ c₁ : List ℕ} → Takes (crossing xs ys) n l r c n₁ l₁ r₁ c₁ → Takes (crossing (row_in O T x) (row_in P U y)) n l r c n₁ l₁ r₁ c₁
-takes_rows O T P U xs ys x y f t g u ef et eg eu ex ey {n} {n₁} {l} {r} {c} {l₁} {r₁} {c₁} k =
-    subst (λ (ps : List Pair). Takes ps n l r c n₁ l₁ r₁ c₁) (ap₂ crossing (ex ∙ ap₂ (λ (v w : ℕ). slice v w T) ef et) (ey ∙ ap₂ (λ (v w : ℕ). slice v w U) eg eu)) k
+pub takes_rows : {xs ys us vs : List ℕ} → xs ≡ us → ys ≡ vs → {n n₁ : ℕ} {l r c l₁ r₁ c₁ : List ℕ} → Takes (crossing xs ys) n l r c n₁ l₁ r₁ c₁ → Takes (crossing us vs) n l r c n₁ l₁ r₁ c₁
+takes_rows ex ey {n} {n₁} {l} {r} {c} {l₁} {r₁} {c₁} k = subst (λ (ps : List Pair). Takes ps n l r c n₁ l₁ r₁ c₁) (ap₂ crossing ex ey) k
 
 cross_row_lem : (x : ℕ) (e : Jump) (fs : List Jump) → e.target ≡ x → map (target_pair e) fs ≡ map (pair x) (targets fs)
 cross_row_lem x e [] q = refl
@@ -518,49 +555,55 @@ shaped_reads H C h e =
           (length-slice (begins C s) (begins C (s + 1)) C.targets (omega arith) ∙ sym (length-slice (begins C s) (begins C (s + 1)) C.probabilities (omega arith)));
     }
 
-pub roomy : (l r c : ℕ) (b : Bool) → b ≡ long l r c → not b ≡ false → (most ≤ l) × (most ≤ r) × (most ≤ c)
-roomy l r c b e h =
-    let (a₁, a₂) = and_t (leb most l) _ (sym e ∙ not-false b h) in
+pub roomy : (l r c : ℕ) → long l r c ≡ true → (most ≤ l) × (most ≤ r) × (most ≤ c)
+roomy l r c e =
+    let (a₁, a₂) = and_t (leb most l) _ e in
     let (a₃, a₄) = and_t (leb most r) _ a₂ in
     (leb-true most l a₁, leb-true most r a₃, leb-true most c a₄)
 
 module _ (HL : ChainShape) (CL : ChainColumns) (HR : ChainShape) (CR : ChainColumns) (l r c : List ℕ) where
-  abbrev fitting : Bool
-  fitting = long (length l) (length r) (length c) && (readable HL CL && readable HR CR)
+  -- nothing is looked for where it can't be
+  pub undiscovered : discoverable HL CL HR CR l r c ≡ false → found (Err 4) l r c ≡ found_in (discover HL CL HR CR l r c)
+  undiscovered e = ap (λ (b : Bool). found_in (listed_if b (pairs (chain_of HL CL) (chain_of HR CR)) l r c)) (sym e)
 
-  undiscovered : fitting ≡ false → discovered 0 l r c ≡ discover HL CL HR CR l r c
-  undiscovered e = ap (λ (b : Bool). listed_if b (pairs (chain_of HL CL) (chain_of HR CR)) l r c) (sym e)
+  module _ (h : discoverable HL CL HR CR l r c ≡ true) where
+    rooms : long (length l) (length r) (length c) ≡ true
+    rooms = (and_t (long (length l) (length r) (length c)) _ h).0
 
-  -- the tests, each made where those before it passed
-  pub not_long : (b : Bool) → b ≡ long (length l) (length r) (length c) → not b ≡ true → discovered 0 l r c ≡ discover HL CL HR CR l r c
-  not_long b e h = undiscovered (ap (λ (t : Bool). t && (readable HL CL && readable HR CR)) (sym e ∙ not-true b h))
+    pub has_rooms : (most ≤ length l) × (most ≤ length r) × (most ≤ length c)
+    has_rooms = roomy (length l) (length r) (length c) rooms
 
-  module _ (u : Bool) (eu : u ≡ long (length l) (length r) (length c)) (hu : not u ≡ false) where
-    pub unread_left : (b : Bool) → b ≡ readable HL CL → not b ≡ true → discovered 0 l r c ≡ discover HL CL HR CR l r c
-    unread_left b e h = undiscovered (ap₂ (λ (s t : Bool). s && (t && readable HR CR)) (sym eu ∙ not-false u hu) (sym e ∙ not-true b h))
+    reads_left : Reads HL.states (chain_of HL CL) CL.offsets CL.targets
+    reads_left = let (a, b) = and_t (leb HL.states 2000) _ (and_t (readable HL CL) _ (and_t (long (length l) (length r) (length c)) _ h).1).0 in shaped_reads HL CL (leb-true HL.states 2000 a) (not-true (misshapen HL CL) b)
 
-    module _ (v : Bool) (ev : v ≡ readable HL CL) (hv : not v ≡ false) where
-      pub unread_right : (b : Bool) → b ≡ readable HR CR → not b ≡ true → discovered 0 l r c ≡ discover HL CL HR CR l r c
-      unread_right b e h = undiscovered (ap₂ (λ (s t : Bool). s && (t && readable HR CR)) (sym eu ∙ not-false u hu) (sym ev ∙ not-false v hv) ∙ sym e ∙ not-true b h)
+    reads_right : Reads HR.states (chain_of HR CR) CR.offsets CR.targets
+    reads_right = let (a, b) = and_t (leb HR.states 2000) _ (and_t (readable HL CL) _ (and_t (long (length l) (length r) (length c)) _ h).1).1 in shaped_reads HR CR (leb-true HR.states 2000 a) (not-true (misshapen HR CR) b)
 
-      module _ (w : Bool) (ew : w ≡ readable HR CR) (hw : not w ≡ false) (x y k : ℕ) (ex : HL.initial.0 ≡ x) (ey : HR.initial.0 ≡ y) (ek : k ≡ code (pair x y) 0) where
-        reads_left : Reads HL.states (chain_of HL CL) CL.offsets CL.targets
-        reads_left = let (a, b) = and_t (leb HL.states 2000) _ (sym ev ∙ not-false v hv) in shaped_reads HL CL (leb-true HL.states 2000 a) (not-true (misshapen HL CL) b)
+    module _ (x y k : ℕ) (ex : HL.initial.0 ≡ x) (ey : HR.initial.0 ≡ y) (ek : k ≡ code (pair x y) 0) where
+      -- the initial pair is noted
+      started : Finds (chain_of HL CL) (chain_of HR CR) HL.states HR.states l r c 0 1 (set l 0 x) (set r 0 y) (set c 0 k)
+      unfolding chain_of
+      started = let (i, j, n) = has_rooms in subst⁻¹ (λ (z : ℕ). Finds (chain_of HL CL) (chain_of HR CR) HL.states HR.states l r c 0 1 (set l 0 x) (set r 0 y) (set c 0 z)) ek
+          (finds_start (chain_of HL CL) (chain_of HR CR) HL.states HR.states CL.offsets CL.targets CR.offsets CR.targets reads_left reads_right x y ex ey l r c i j n)
 
-        reads_right : Reads HR.states (chain_of HR CR) CR.offsets CR.targets
-        reads_right = let (a, b) = and_t (leb HR.states 2000) _ (sym ew ∙ not-false w hw) in shaped_reads HR CR (leb-true HR.states 2000 a) (not-true (misshapen HR CR) b)
+      pub startable : Explorable CL.offsets CL.targets CR.offsets CR.targets (set l 0 x) (set r 0 y) (set c 0 k)
+      startable = (chain_of HL CL, chain_of HR CR, HL.states, HR.states, l, r, c, reads_left, reads_right, started)
 
-        -- the initial pair is noted
-        started : Finds (chain_of HL CL) (chain_of HR CR) HL.states HR.states l r c 0 1 (set l 0 x) (set r 0 y) (set c 0 k)
-        unfolding chain_of
-        started = let (i, j, n) = roomy (length l) (length r) (length c) u eu hu in subst⁻¹ (λ (z : ℕ). Finds (chain_of HL CL) (chain_of HR CR) HL.states HR.states l r c 0 1 (set l 0 x) (set r 0 y) (set c 0 z)) ek
-            (finds_start (chain_of HL CL) (chain_of HR CR) HL.states HR.states CL.offsets CL.targets CR.offsets CR.targets reads_left reads_right x y ex ey l r c i j n)
+      pub all_discovered : {n : ℕ} {l₁ r₁ c₁ : List ℕ} → Explores CL.offsets CL.targets CR.offsets CR.targets (set l 0 x) (set r 0 y) (set c 0 k) n l₁ r₁ c₁ → discovered n l₁ r₁ c₁ ≡ discover HL CL HR CR l r c
+      all_discovered {n} {l₁} {r₁} {c₁} f =
+          noted_listed (f (chain_of HL CL) (chain_of HR CR) HL.states HR.states l r c reads_left reads_right started)
+          ∙ ap (λ (b : Bool). listed_if b (pairs (chain_of HL CL) (chain_of HR CR)) l r c) (sym h)
 
-        pub startable : Explorable CL.offsets CL.targets CR.offsets CR.targets (set l 0 x) (set r 0 y) (set c 0 k)
-        startable = (chain_of HL CL, chain_of HR CR, HL.states, HR.states, l, r, c, reads_left, reads_right, started)
+  -- how many there are, or 17
+  module _ (h : discoverable HL CL HR CR l r c ≡ true) {n : ℕ} {l₁ r₁ c₁ : List ℕ} (e : discovered n l₁ r₁ c₁ ≡ discover HL CL HR CR l r c) where
+    some_found : 0 < n
+    some_found = let a = pairs_some (chain_of HL CL) (chain_of HR CR) in let b = ap (λ (D : Discovery). D.count) e ∙ ap (λ (b : Bool). (listed_if b (pairs (chain_of HL CL) (chain_of HR CR)) l r c).count) h in omega arith
 
-        pub all_discovered : {n : ℕ} {l₁ r₁ c₁ : List ℕ} → Explores CL.offsets CL.targets CR.offsets CR.targets (set l 0 x) (set r 0 y) (set c 0 k) n l₁ r₁ c₁ → discovered n l₁ r₁ c₁ ≡ discover HL CL HR CR l r c
-        all_discovered {n} {l₁} {r₁} {c₁} f =
-            noted_listed (f (chain_of HL CL) (chain_of HR CR) HL.states HR.states l r c reads_left reads_right started)
-            ∙ ap (λ (b : Bool). listed_if b (pairs (chain_of HL CL) (chain_of HR CR)) l r c)
-            (sym (ap₂ (λ (s t : Bool). s && (t && readable HR CR)) (sym eu ∙ not-false u hu) (sym ev ∙ not-false v hv) ∙ sym ew ∙ not-false w hw))
+    with_refusal : (k : ℕ) → found_refusal n ≡ k → found (answered k n) l₁ r₁ c₁ ≡ found_in (discover HL CL HR CR l r c)
+    with_refusal k f = ap (λ (j : ℕ). found (answered j n) l₁ r₁ c₁) (sym f) ∙ ap found_in e
+
+    pub found_few : n ≤ most → found (Ok n) l₁ r₁ c₁ ≡ found_in (discover HL CL HR CR l r c)
+    found_few k = let s = some_found in with_refusal 0 (check_skip 4 (eqb n 0) _ 0 (ne_eqb n 0 (λ q. absurd (omega arith))) (check_skip 17 (ltb most n) 0 0 (le-ltb most n k) refl))
+
+    pub found_many : most < n → found (Err 17) l₁ r₁ c₁ ≡ found_in (discover HL CL HR CR l r c)
+    found_many k = let s = some_found in with_refusal 17 (check_skip 4 (eqb n 0) _ 17 (ne_eqb n 0 (λ q. absurd (omega arith))) (check_hit 17 (ltb most n) 0 (lt-ltb most n k)))

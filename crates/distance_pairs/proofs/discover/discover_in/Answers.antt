@@ -1,16 +1,22 @@
 use mathlib.Core.Path.{refl}
-use native.Mathlib.Omega.{arith}
-use Rattle.distance_theory.proofs.Discovery.{turn_rows, turn, discovers_full, discovers_end}
+use Rattle.std.proofs.Common.{rules}
+use Rattle.distance_theory.proofs.Discovery.{turn_rows, turn, takes_rows, discovers_start, discovers_full, discovers_end}
 use Rattle.distance_pairs.proofs.discover.discover_in.Goals as goal
 
-pub follow-n-requires : goal.follow-n-requires
-follow-n-requires c = record { lists = (let I = c.loop-i.invariant in let P = c.requires.lists in record { few = I.0; lefts_long = (let a = I.1 in let b = P.lefts_long in omega arith); rights_long = (let a = I.2 in let b = P.rights_long in omega arith); codes_long = (let a = I.3 in let b = P.codes_long in omega arith) }); rowed = turn_rows c.loop-i.invariant.4 c.loop-i.invariant.0 c.loop-i-test.true _ _ refl refl c.requires.explorable }
+pub loop-i-init : goal.loop-i-init
+loop-i-init c = let P = c.args.pairs.now in ((refl, refl, refl), c.requires.lists.1, rw c.requires.lists.0 (discovers_start c.args.left.now.offsets.now c.args.left.now.targets.now c.args.right.now.offsets.now c.args.right.now.targets.now P.lefts.now P.rights.now P.codes.now))
 
-pub returns-then-n-gt4096 : goal.returns-then-n-gt4096
-returns-then-n-gt4096 c = discovers_full (turn c.loop-i.invariant.4 c.loop-i.invariant.0 c.loop-i-test.true _ _ refl refl c.follow-n.ensures.1) c.if-n-gt4096.true
+pub row-requires : goal.row-requires
+row-requires c = let N = c.loop-i.invariant.1 in (turn_rows c.loop-i.invariant.2 N.few c.loop-i-test.true _ _ refl refl c.requires.explorable).0
+
+pub row-requires-in-loop-i : goal.row-requires-in-loop-i
+row-requires-in-loop-i c = let N = c.loop-i.invariant.1 in (turn_rows c.loop-i.invariant.2 N.few c.loop-i-test.true _ _ refl refl c.requires.explorable).1
+
+pub returns-then-pairs-gt4096-clause-explores : goal.returns-then-pairs-gt4096-clause-explores
+returns-then-pairs-gt4096-clause-explores c = let N = c.loop-i.invariant.1 in discovers_full (turn c.loop-i.invariant.2 N.few c.loop-i-test.true _ _ refl refl (takes_rows c.row.ensures c.row-in-loop-i.ensures c.meet_rows.ensures.met.2)) c.if-pairs-gt4096.true
 
 pub loop-i-preserved : goal.loop-i-preserved
-loop-i-preserved c = (c.if-n-gt4096.false, omega arith, omega arith, omega arith, turn c.loop-i.invariant.4 c.loop-i.invariant.0 c.loop-i-test.true _ _ refl refl c.follow-n.ensures.1)
+loop-i-preserved c = let N = c.loop-i.invariant.1 in (search rules, c.meet_rows.ensures.met.1 c.if-pairs-gt4096.false, turn c.loop-i.invariant.2 N.few c.loop-i-test.true _ _ refl refl (takes_rows c.row.ensures c.row-in-loop-i.ensures c.meet_rows.ensures.met.2))
 
-pub returns : goal.returns
-returns c = discovers_end c.loop-i.invariant.4 c.loop-i-test.false
+pub returns-clause-explores : goal.returns-clause-explores
+returns-clause-explores c = discovers_end c.loop-i.invariant.2 c.loop-i-test.false

@@ -1,20 +1,24 @@
--- By the cases of the tests: the pair is known, or it is pair 4,097, or it is noted.
-use mathlib.Core.Path.{sym, ap, ap₂, ◌∙◌}
-use Prim.Native.Nat.{ℕ, ◌-◌}
-use mathlib.Core.List.{List, ◌++◌}
+-- By the cases of the tests: the pair is known, or it is noted, or it is pair 4,097.
+use mathlib.Core.Path.{sym, ap, ◌∙◌}
 use native.Mathlib.Omega.{arith}
-use lib.ListN.{take}
-use lib.Seq.{length-take-le}
-use Rattle.epsdelta_theory.proofs.RowsIn.{pushed}
-use Rattle.parts.proofs.Lent.{part_all, back_is}
-use Rattle.distance_theory.proofs.Discovery.{takes_known, takes_last, takes_new}
+use Prim.Native.Nat.{◌-◌}
+use lib.ListN.{length, length-set}
+use Rattle.epsdelta_theory.proofs.RowsIn.{put}
+use Rattle.distance_theory.proofs.Discovery.{takes_known, takes_last, takes_new, put_length}
 use Rattle.distance_pairs.proofs.discover.meet.Goals as goal
 
-pub returns-then-is_at : goal.returns-then-is_at
-returns-then-is_at c = ((let f = c.requires.few in omega arith), takes_known c.args.x c.args.y c.args.n c.args.lefts.now c.args.rights.now c.args.codes.now c.requires _ c.goes_by-at.result c.key-pair.ensures.0 c.goes_by-at.ensures.0 (sym c.is_at.ensures ∙ c.if-is_at.true))
+pub returns-then-known-clause-met : goal.returns-then-known-clause-met
+returns-then-known-clause-met c = let p = c.args.pairs.now in ((let f = c.requires.few in omega arith), λ h. c.requires, takes_known c.args.x c.args.y p.count p.lefts.now p.rights.now p.codes.now c.requires _ c.goes-at.result c.key-pair.ensures.0 c.goes-at.ensures.0 (sym c.known.ensures ∙ c.if-known.true))
 
-pub returns-then-n-ge4096 : goal.returns-then-n-ge4096
-returns-then-n-ge4096 c = ((let f = c.requires.few in omega arith), takes_last c.args.x c.args.y c.args.n c.args.lefts.now c.args.rights.now c.args.codes.now c.requires _ c.goes_by-at.result c.key-pair.ensures.0 c.goes_by-at.ensures.0 (sym c.is_at.ensures ∙ c.if-is_at.false) c.if-n-ge4096.true)
+pub returns-else-n-lt4096-clause-met : goal.returns-else-n-lt4096-clause-met
+returns-else-n-lt4096-clause-met c = let p = c.args.pairs.now in let R = c.requires in ((let f = c.requires.few in omega arith), λ h. absurd (omega arith), takes_last c.args.x c.args.y p.count p.lefts.now p.rights.now p.codes.now c.requires _ c.goes-at.result c.key-pair.ensures.0 c.goes-at.ensures.0 (sym c.known.ensures ∙ c.if-known.false) c.if-n-lt4096.false)
 
-pub returns : goal.returns
-returns c = let at = c.goes_by-at.result in let l = c.args.codes.now in ((let f = c.requires.few in omega arith), takes_new c.args.x c.args.y c.args.n c.args.lefts.now c.args.rights.now c.args.codes.now c.requires _ c.goes_by-at.result c.key-pair.ensures.0 c.goes_by-at.ensures.0 (sym c.is_at.ensures ∙ c.if-is_at.false) c.if-n-ge4096.false _ (back_is at l _ (let f = c.requires.few in let g = c.requires.codes_long in let k = length-take-le c.args.n l (omega arith) in let h = c.goes_by-at.ensures.1 in omega arith) ∙ ap (λ (z : List ℕ). take at l ++ z) (c.push.ensures ∙ ap₂ (pushed (c.args.n - at)) (part_all at l) c.code-c.ensures)))
+pub returns-then-n-lt4096-clause-met : goal.returns-then-n-lt4096-clause-met
+returns-then-n-lt4096-clause-met c =
+    let p = c.args.pairs.now in
+    let at = c.goes-at.result in
+    let R = c.requires in (
+      (let f = R.few in omega arith),
+      λ h. record { few = h; lefts_long = rw length-set R.lefts_long; rights_long = rw length-set R.rights_long; codes_long = (let a = R.codes_long in let e = ap length c.insert.ensures ∙ put_length at (p.count - at) p.codes.now c.code.result in omega arith) },
+      takes_new c.args.x c.args.y p.count p.lefts.now p.rights.now p.codes.now c.requires _ at c.key-pair.ensures.0 c.goes-at.ensures.0 (sym c.known.ensures ∙ c.if-known.false) c.if-n-lt4096.true _ (c.insert.ensures ∙ ap (put at (p.count - at) p.codes.now) c.code.ensures),
+    )

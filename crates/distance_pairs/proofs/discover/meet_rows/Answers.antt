@@ -1,18 +1,19 @@
+use native.Mathlib.Omega.{arith}
 use mathlib.Core.Path.{refl}
 use Prim.Native.Nat.{◌+◌}
-use native.Mathlib.Omega.{arith}
 use lib.ListN.{get_or}
 use Rattle.distance_theory.proofs.Discovery.{takes_none, takes_next, takes_stop, takes_done, crossed, crossing_joins, takes_row}
+use Rattle.std.proofs.Common.{rules}
 use Rattle.distance_pairs.proofs.discover.meet_rows.Goals as goal
 
 pub loop-x-init : goal.loop-x-init
-loop-x-init c = (c.requires.few, refl, refl, refl, takes_none c.args.ys.now _ _ _ _)
+loop-x-init c = ((refl, refl, refl), c.requires, takes_none c.args.ys.now _ _ _ _)
 
-pub returns-then-count-gt4096 : goal.returns-then-count-gt4096
-returns-then-count-gt4096 c = (c.meet_row-count.ensures.0, takes_stop (crossed c.args.ys.now) (crossing_joins c.args.ys.now) c.args.xs.now (c.loop-x.x-index + 1) c.if-count-gt4096.true (takes_next (crossed c.args.ys.now) (crossing_joins c.args.ys.now) c.args.xs.now c.loop-x.x-index c.loop-x-test.true c.loop-x.invariant.4 (takes_row (get_or c.args.xs.now c.loop-x.x-index 0) c.args.ys.now c.meet_row-count.ensures.1)))
+pub returns-then-pairs-gt4096-clause-met : goal.returns-then-pairs-gt4096-clause-met
+returns-then-pairs-gt4096-clause-met c = (c.meet_row.ensures.met.0, c.meet_row.ensures.met.1, takes_stop (crossed c.args.ys.now) (crossing_joins c.args.ys.now) c.args.xs.now (c.loop-x.x-index + 1) c.if-pairs-gt4096.true (takes_next (crossed c.args.ys.now) (crossing_joins c.args.ys.now) c.args.xs.now c.loop-x.x-index c.loop-x-test.true c.loop-x.invariant.2 (takes_row (get_or c.args.xs.now c.loop-x.x-index 0) c.args.ys.now c.meet_row.ensures.met.2)))
 
 pub loop-x-preserved : goal.loop-x-preserved
-loop-x-preserved c = (c.if-count-gt4096.false, omega arith, omega arith, omega arith, takes_next (crossed c.args.ys.now) (crossing_joins c.args.ys.now) c.args.xs.now c.loop-x.x-index c.loop-x-test.true c.loop-x.invariant.4 (takes_row (get_or c.args.xs.now c.loop-x.x-index 0) c.args.ys.now c.meet_row-count.ensures.1))
+loop-x-preserved c = (search rules, c.meet_row.ensures.met.1 c.if-pairs-gt4096.false, takes_next (crossed c.args.ys.now) (crossing_joins c.args.ys.now) c.args.xs.now c.loop-x.x-index c.loop-x-test.true c.loop-x.invariant.2 (takes_row (get_or c.args.xs.now c.loop-x.x-index 0) c.args.ys.now c.meet_row.ensures.met.2))
 
-pub returns : goal.returns
-returns c = ((let a = c.loop-x.invariant.0 in omega arith), takes_done (crossed c.args.ys.now) (crossing_joins c.args.ys.now) c.args.xs.now c.loop-x.x-index c.loop-x-test.false c.loop-x.invariant.4)
+pub returns-clause-met : goal.returns-clause-met
+returns-clause-met c = let N = c.loop-x.invariant.1 in let f = N.few in (omega arith, λ h. N, takes_done (crossed c.args.ys.now) (crossing_joins c.args.ys.now) c.args.xs.now c.loop-x.x-index c.loop-x-test.false c.loop-x.invariant.2)
