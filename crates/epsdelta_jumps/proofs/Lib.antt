@@ -1,4 +1,3 @@
-pub mod Edges
 pub mod Fills
 pub mod Makes
 pub mod Unions

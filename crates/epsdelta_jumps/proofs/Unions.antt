@@ -2,86 +2,101 @@
 use mathlib.Core.Path.{◌≡◌, refl, sym, ap, subst, ◌∙◌}
 use Prim.Native.Nat.{ℕ, zero, suc, ◌+◌, ◌≤◌, ◌<◌}
 use mathlib.Core.Bool.{Bool, false, ◌||◌}
-use mathlib.Core.List.{List, []}
+use mathlib.Core.List.{[]}
 use native.Mathlib.Omega.{arith}
 use lib.Dec.{ltb, leb}
-use lib.Ieee.{Float}
 use lib.ListN.{length, get_or}
 use lib.Seq.{take_all}
 use borrow.Author.Tests.{ltb-false, leb-false}
 use Rattle.numbers.proofs.Bools.{or_f}
-use Rattle.bisim_core.specs.Data.{Columns, columns}
-use Rattle.bisim_core.specs.declared.wlts.Shape.{Shape}
-use Rattle.bisim_core.specs.Model.{begins, model, model_refusal, large, unfit, weights_outside, crowded}
+use Rattle.std.specs.Prelude.{Result, Ok, Err, Some, IsErrAnd}
+use Rattle.numbers.specs.declared.refusal.Refusal.{Refusal}
+use Rattle.numbers.specs.Refuse.{number}
+use Rattle.numbers.proofs.Refuses.{number_positive}
+use Rattle.bisim_core.specs.Data.{columns_of}
+use Rattle.bisim_core.specs.declared.wlts.Wlts.{Wlts}
+use Rattle.bisim_core.specs.Model.{begins, model, model_refusal}
 use Rattle.bisim_core.specs.Model as models
 use Rattle.bisim_core.proofs.Accepted.{Accepted}
 use Rattle.epsdelta_theory.specs.Jumps.{Jumps, no_row, row, union}
-use Rattle.epsdelta_theory.specs.Refusal.{models_refusal}
 use Rattle.epsdelta_theory.proofs.Rows.{model_length, model_at, union_length, union_left, union_right}
-use Rattle.epsdelta_theory.proofs.RowsIn.{Readable, Laid, LaidTo}
+use Rattle.epsdelta_theory.specs.Refusal.{models_refusal}
 use Rattle.parts.specs.Earlier.{earlier}
-use Rattle.parts.proofs.Models.{models_number, readable}
-use Rattle.epsdelta_jumps.specs.Union.{settled, joined}
-use Rattle.epsdelta_jumps.specs.declared.jumps.Joined.TheVariants.{Rows, Refused, Short}
+use Rattle.parts.specs.Jumping.{HasRows}
+use Rattle.parts.proofs.Models.{models_number, models_accepted, readable}
+use Rattle.epsdelta_jumps.specs.declared.store.RowStore.{RowStore}
+use Rattle.epsdelta_jumps.specs.declared.jumps.Fault.{Fault}
+use Rattle.epsdelta_jumps.specs.declared.jumps.Fault.TheVariants.{Refused}
+use Rattle.epsdelta_jumps.specs.Union.{fault_number, faulted, settled, joined}
+use Rattle.epsdelta_jumps.specs.Store.{cramped, LaidIn, LaidInTo}
 
 -- ---- the answer
 
-refused_is : (n : ℕ) (b : Bool) → (n ≡ 0 → ⊥) → Refused n ≡ settled n b
-refused_is zero b h = absurd (h refl)
-refused_is (suc n) b h = refl
+-- a refusal that is handed on, and a fault
+refused : (n : ℕ) (b : Bool) (a : Result (Unit {0}) Fault) (r : Refusal) → IsErrAnd a (λ f. f ≡ Refused r) → number r ≡ n → faulted a ≡ settled n b
+refused zero b a r h e = absurd (number_positive r e)
+refused (suc n) b (Ok x) r h e = absurd h
+refused (suc n) b (Err f) r h e = ap (λ (g : Fault). Err (fault_number g)) h ∙ ap (λ (k : ℕ). Err (Some k)) e
 
-pub no_rows : {P : Type 0} (n : ℕ) → Refused n ≡ Rows → P
-no_rows n e = let z : ◌≡◌ {A = ℕ} 0 1 = cc in absurd (omega arith)
+-- a model that is refused turns the call back
+pub turned_back : (L R : Wlts) (b : Bool) {x y : ℕ} (a : Result (Unit {0}) Fault) (r : Refusal) → x ≡ model_refusal L.shape (columns_of L) → y ≡ model_refusal R.shape (columns_of R) → number r ≡ earlier x y
+    → IsErrAnd a (λ f. f ≡ Refused r) → faulted a ≡ joined L.shape (columns_of L) R.shape (columns_of R) b
+unfolding joined
+turned_back L R b {x} {y} a r l m n h = refused (models_refusal L.shape (columns_of L) R.shape (columns_of R) 0) b a r h (models_number L.shape (columns_of L) R.shape (columns_of R) x y (number r) l m n)
 
-pub short_no_rows : {P : Type 0} → Short ≡ Rows → P
-short_no_rows e = let z : ◌≡◌ {A = ℕ} 0 1 = cc in absurd (omega arith)
+-- neither is refused
+module _ (L R : Wlts) {x y : ℕ} (l : x ≡ model_refusal L.shape (columns_of L)) (m : y ≡ model_refusal R.shape (columns_of R)) (n : 0 ≡ earlier x y) where
+  pub both_accepted : Accepted L.shape (columns_of L) × Accepted R.shape (columns_of R)
+  both_accepted = models_accepted L.shape (columns_of L) R.shape (columns_of R) x y 0 l m n refl
 
-module _ (SL : Shape) (ML : Columns) (SR : Shape) (MR : Columns) (x y n : ℕ) (l : x ≡ model_refusal SL ML) (r : y ≡ model_refusal SR MR) (f : n ≡ earlier x y) where
-  number : n ≡ models_refusal SL ML SR MR 0
-  number = models_number SL ML SR MR x y n l r f
+  pub few_together : (L.shape.states + R.shape.states ≤ 4000) × (L.shape.edges + R.shape.edges ≤ 8192)
+  few_together = let (a, b) = both_accepted in let p = a.states_few in let q = b.states_few in let u = a.edges_few in let v = b.edges_few in (omega arith, omega arith)
 
-  pub refused : (b : Bool) → (n ≡ 0 → ⊥) → Refused n ≡ joined SL ML SR MR b
+  -- then the answer depends on the lists
+  pub by_lists : {b c : Bool} → b ≡ c → settled 0 c ≡ joined L.shape (columns_of L) R.shape (columns_of R) b
   unfolding joined
-  refused b h = refused_is n b h ∙ ap (λ (k : ℕ). settled k b) number
+  by_lists {b} e = ap (settled 0) (sym e) ∙ ap (λ (k : ℕ). settled k b) (models_number L.shape (columns_of L) R.shape (columns_of R) x y 0 l m n)
 
-  pub unrefused : (b c : Bool) → n ≡ 0 → b ≡ c → settled 0 c ≡ joined SL ML SR MR b
-  unfolding joined
-  unrefused b c h e = ap (settled 0) (sym e) ∙ ap (λ (k : ℕ). settled k b) (sym h ∙ number)
+module _ (L R : Wlts) (A : Accepted L.shape (columns_of L)) (B : Accepted R.shape (columns_of R)) where
+  -- ---- the rows can be made
 
--- ---- the rows can be made
+  pub ready : HasRows L × HasRows R
+  ready = (readable A, readable B)
 
--- too few places for the exit rates, the starts, the targets or the divided rates
-abbrev short : Shape → Shape → ℕ → ℕ → ℕ → ℕ → Bool
-short SL SR exits starts targets probs =
-    ltb exits (SL.states + SR.states) || (leb starts (SL.states + SR.states) || (ltb targets (SL.edges + SR.edges) || ltb probs (SL.edges + SR.edges)))
-
-module _ {SL : Shape} {ML : Columns} {SR : Shape} {MR : Columns} (A : Accepted SL ML) (B : Accepted SR MR) where
-  pub ready : (e s t p : ℕ) → short SL SR e s t p ≡ false
-      → Readable SL.states ML.offsets ML.edge_targets ML.edge_weights × Readable SR.states MR.offsets MR.edge_targets MR.edge_weights
-      × (SL.states + SR.states ≤ e) × (SL.states + SR.states < s) × (begins ML SL.states + begins MR SR.states ≤ t) × (begins ML SL.states + begins MR SR.states ≤ p)
-  ready e s t p h =
-      let (a, i) = or_f (ltb e (SL.states + SR.states)) (leb s (SL.states + SR.states) || (ltb t (SL.edges + SR.edges) || ltb p (SL.edges + SR.edges))) h in
-      let (b, j) = or_f (leb s (SL.states + SR.states)) (ltb t (SL.edges + SR.edges) || ltb p (SL.edges + SR.edges)) i in
-      let (c, d) = or_f (ltb t (SL.edges + SR.edges)) (ltb p (SL.edges + SR.edges)) j in
-      let c' = ltb-false t (SL.edges + SR.edges) c in
-      let d' = ltb-false p (SL.edges + SR.edges) d in
+  pub roomy : (V : RowStore) → cramped (L.shape.states + R.shape.states) (L.shape.edges + R.shape.edges) V ≡ false
+      → (L.shape.states + R.shape.states ≤ length V.exits.now) × (L.shape.states + R.shape.states < length V.starts.now)
+      × (begins (columns_of L) L.shape.states + begins (columns_of R) R.shape.states ≤ length V.targets.now) × (begins (columns_of L) L.shape.states + begins (columns_of R) R.shape.states ≤ length V.probs.now)
+  roomy V h =
+      let n = L.shape.states + R.shape.states in
+      let m = L.shape.edges + R.shape.edges in
+      let e = length V.exits.now in
+      let s = length V.starts.now in
+      let t = length V.targets.now in
+      let p = length V.probs.now in
+      let (a, i) = or_f (ltb e n) (leb s n || (ltb t m || ltb p m)) h in
+      let (b, j) = or_f (leb s n) (ltb t m || ltb p m) i in
+      let (c, d) = or_f (ltb t m) (ltb p m) j in
+      let c' = ltb-false t m c in
+      let d' = ltb-false p m d in
       let u = A.begins_last in
       let v = B.begins_last in
-      (readable A, readable B, ltb-false e (SL.states + SR.states) a, leb-false s (SL.states + SR.states) b, omega arith, omega arith)
+      (ltb-false e n a, leb-false s n b, omega arith, omega arith)
 
   -- ---- what is made is the union
 
-  pub united : {E₀ : List Float} {S₀ T₀ : List ℕ} {P₀ E : List Float} {S T : List ℕ} {P : List Float}
-      → ((C D F G : List ℕ) (J : Jumps) → SL.states + SR.states ≤ length J → ((s : ℕ) → s < SL.states → get_or J s no_row ≡ row 0 (models.row (columns C ML.offsets D ML.edge_targets ML.edge_weights) s))
-      → ((s : ℕ) → s < SR.states → get_or J (SL.states + s) no_row ≡ row SL.states (models.row (columns F MR.offsets G MR.edge_targets MR.edge_weights) s))
-      → LaidTo J (SL.states + SR.states) E₀ S₀ T₀ P₀ E S T P)
-      → Laid (union (model SL ML) (model SR MR)) E₀ S₀ T₀ P₀ E S T P
-  united {E₀} {S₀} {T₀} {P₀} {E} {S} {T} {P} f =
-      let J = union (model SL ML) (model SR MR) in
-      let n = model_length SL ML in
-      let m = model_length SR MR in
-      let z : length J ≡ SL.states + SR.states = union_length (model SL ML) (model SR MR) ∙ omega arith in
-      subst (λ (K : Jumps). Laid K E₀ S₀ T₀ P₀ E S T P) (take_all (SL.states + SR.states) J (omega arith))
-      (f ML.labels ML.edge_labels MR.labels MR.edge_labels J (omega arith)
-      (λ s h. union_left (model SL ML) (model SR MR) s (omega arith) ∙ ap (row 0) (model_at SL ML s h))
-      (λ s h. subst (λ (k : ℕ). get_or J (k + s) no_row ≡ row k (get_or (model SR MR) s [])) n (union_right (model SL ML) (model SR MR) s) ∙ ap (row SL.states) (model_at SR MR s h)))
+  pub united : (V W : RowStore)
+      → ((J : Jumps) → L.shape.states + R.shape.states ≤ length J → ((s : ℕ) → s < L.shape.states → get_or J s no_row ≡ row 0 (models.row (columns_of L) s))
+      → ((s : ℕ) → s < R.shape.states → get_or J (L.shape.states + s) no_row ≡ row L.shape.states (models.row (columns_of R) s))
+      → LaidInTo J (L.shape.states + R.shape.states) V W)
+      → LaidIn (union (model L.shape (columns_of L)) (model R.shape (columns_of R))) V W
+  united V W f =
+      let l = model L.shape (columns_of L) in
+      let r = model R.shape (columns_of R) in
+      let J = union l r in
+      let n = model_length L.shape (columns_of L) in
+      let m = model_length R.shape (columns_of R) in
+      let z : length J ≡ L.shape.states + R.shape.states = union_length l r ∙ omega arith in
+      subst (λ (K : Jumps). LaidIn K V W) (take_all (L.shape.states + R.shape.states) J (omega arith))
+      (f J (omega arith)
+      (λ s h. union_left l r s (omega arith) ∙ ap (row 0) (model_at L.shape (columns_of L) s h))
+      (λ s h. subst (λ (k : ℕ). get_or J (k + s) no_row ≡ row k (get_or r s [])) n (union_right l r s) ∙ ap (row L.shape.states) (model_at R.shape (columns_of R) s h)))

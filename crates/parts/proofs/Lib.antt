@@ -1,4 +1,5 @@
 pub mod Earlier
+pub mod Edges
 pub mod Inserts
 pub mod Laid
 pub mod Lent

@@ -5,4 +5,4 @@ use Rattle.numbers.proofs.Over.{over}
 use Rattle.epsdelta_jumps.proofs.rates.divide.Given as goal
 
 abbrev pub invariant-loop-p : goal.invariant-loop-p
-invariant-loop-p l = l.probs ≡ over (map (λ (p : Float). div binary64 p l.x) l.initial.probs) l.p-index l.initial.probs
+invariant-loop-p l = l.rates ≡ over (map (λ (p : Float). div binary64 p l.x) l.initial.rates) l.p-index l.initial.rates

@@ -1,25 +1,20 @@
-use Prim.Native.Nat.{◌≤◌}
+-- A turn makes the row of the next state behind those made.
 use mathlib.Core.Path.{refl}
+use Prim.Native.Nat.{ℕ, ◌≤◌}
 use native.Mathlib.Omega.{arith}
-use Rattle.epsdelta_jumps.proofs.Makes.{fillable, turn, within, done}
+use lib.ListN.{length-set}
+use Rattle.epsdelta_jumps.proofs.Makes.{fillable, turn, within}
 use Rattle.epsdelta_jumps.proofs.rows.model_rows.Goals as goal
 
-pub fill-end-requires : goal.fill-end-requires
-fill-end-requires c =
-    let p = c.requires in
-    fillable p.0 (p.3, p.4, p.5, p.6) c.loop-s.invariant c.loop-s-test.true _ _ refl refl p.1
+pub fill-end-requires-clause-room : goal.fill-end-requires-clause-room
+fill-end-requires-clause-room c = fillable c.requires.model.0 c.requires.room c.loop-s.invariant c.loop-s-test.true
 
-pub overflow_cast-starts : goal.overflow_cast-starts
-overflow_cast-starts c =
-    let p = c.requires in
-    let low : c.fill-end.result ≤ 8192 = within p.0 (p.3, p.4, p.5, p.6) c.loop-s.invariant c.loop-s-test.true _ _ refl refl _ c.fill-end.ensures.0 p.2 in
+pub overflow_cast-rows : goal.overflow_cast-rows
+overflow_cast-rows c =
+    let low : c.fill-end.result ≤ 8192 = within c.requires.model.0 c.requires.room c.loop-s.invariant c.loop-s-test.true c.fill-end.result c.fill-end.ensures.end c.requires.model.2 in
     omega arith
 
 pub loop-s-preserved : goal.loop-s-preserved
 loop-s-preserved c =
-    let p = c.requires in
-    turn p.0 (p.3, p.4, p.5, p.6) c.loop-s.invariant c.loop-s-test.true _ _ refl refl _ _ _ _ c.fill-end.ensures
-    c.fill-end.auto.exits c.fill-end.auto.targets c.fill-end.auto.probs
-
-pub returns : goal.returns
-returns c = done c.loop-s.invariant (let h = c.loop-s-test.false in let l = c.loop-s.invariant.low in omega arith)
+    let e = c.fill-end.ensures in
+    turn c.requires.model.0 c.requires.room c.loop-s.invariant c.loop-s-test.true c.fill-end.result c.fill-end.new.rows _ e.end e.lists (refl, refl, refl, refl, refl, length-set {A = ℕ} _ _ _, refl, refl) e.filled e.starts refl refl refl refl

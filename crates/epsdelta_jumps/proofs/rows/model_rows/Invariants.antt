@@ -3,4 +3,4 @@ use Rattle.epsdelta_jumps.proofs.Makes.{Making}
 use Rattle.epsdelta_jumps.proofs.rows.model_rows.Given as goal
 
 abbrev pub invariant-loop-s : goal.invariant-loop-s
-invariant-loop-s l = Making l.states l.offsets l.edge_targets l.edge_weights l.off l.at l.initial.exits l.initial.starts l.initial.targets l.initial.probs l.exits l.starts l.targets l.probs l.end l.s
+invariant-loop-s l = Making l.model l.off l.at l.initial.rows l.rows l.end l.s
