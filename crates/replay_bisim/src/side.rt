@@ -4,8 +4,8 @@ use bisim_core::wlts::Wlts;
 use replay_measures::asked;
 use replay_measures::asked::Rooms;
 use replay_text::columns::Model;
+use replay_text::lists::front;
 use replay_text::text::Reader;
-use replay_text::{lists, text};
 
 // What is read.
 #[derive(Drop)]
@@ -15,7 +15,6 @@ pub struct Side {
     observations: [f64; 200],
     seen: usize,
     pub rooms: Rooms,
-    pub r: Reader,
 }
 
 // What is asked of it.
@@ -26,29 +25,27 @@ pub struct Given<'a> {
     pub observations: &'a [f64],
 }
 
-pub fn read(buf: &[u8], r: Reader) -> Side {
-    let mut model = Model::new();
-    let mut observations = [0.0f64; 200];
-    let end = model.read(buf, r);
-    let state = text::short_field(buf, end);
-    let seen = lists::reals_field(buf, state.r, &mut observations);
-    let rooms = asked::read_rooms(buf, seen.r);
-    Side {
-        model,
-        state: StateId(text::narrow(state.x)),
-        observations,
-        seen: seen.n,
-        rooms,
-        r: rooms.r,
-    }
-}
-
 impl Side {
+    pub fn read(r: &mut Reader) -> Side {
+        let mut model = Model::new();
+        let mut observations = [0.0f64; 200];
+        model.read(r);
+        let state = StateId(r.short_field());
+        let seen = r.list_field(&mut observations).len();
+        Side {
+            model,
+            state,
+            observations,
+            seen,
+            rooms: asked::read_rooms(r),
+        }
+    }
+
     pub fn given<'a>(&'a self) -> Given<'a> {
         Given {
             model: self.model.lent(),
             state: self.state,
-            observations: lists::reals_front(&self.observations, self.seen),
+            observations: front(&self.observations, self.seen),
         }
     }
 }

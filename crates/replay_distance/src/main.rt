@@ -4,42 +4,15 @@
 
 mod chains; // chains.rt: the kind `distance`
 
-use replay_text::text::Reader;
-use replay_text::{tally, text};
+use replay_text::{cases, tally};
 use std::io;
-use std::io::Read;
-
-// The letters of the kind's word, by their bytes.
-const DISTANCE: u64 = 0x64697374616e6365;
-
-fn run_case(buf: &[u8], r: Reader, counts: &mut [u64; 48]) -> Reader {
-    let named = text::name(buf, r);
-    let kind = text::word(buf, named);
-    let s = if kind.x == DISTANCE {
-        chains::run(buf, kind.r, counts)
-    } else {
-        tally::unknown(kind.r, counts)
-    };
-    tally::next_case(buf, s, counts)
-}
-
-fn run_all(buf: &[u8], counts: &mut [u64; 48]) {
-    let mut r = text::start(buf);
-    for _ in 0..1000000 {
-        if text::at_end(r) {
-            return;
-        }
-        r = run_case(buf, r, counts);
-    }
-}
 
 fn main(rt: HostRuntime) -> io::Result<()> {
-    let mut buf = Vec::new(rt.alloc());
-    rt.reader().read_to_end(&mut buf)?;
-    let mut counts = [0u64; 48];
-    run_all(&buf, &mut counts);
+    let counts = cases::run(&rt, |r, kind, counts| match kind {
+        b"distance" => chains::run(r, counts),
+        _ => r.unknown(counts),
+    })?;
     tally::print_entry(&rt, b"distance distance ", &counts, chains::DISTANCE);
-    tally::print_entry(&rt, b"other ", &counts, tally::OTHER);
-    tally::print_total(&rt, &counts);
+    tally::print_end(&rt, &counts);
     Ok(())
 }

@@ -1,54 +1,32 @@
 // The kind `edge`: a link added to a network.
 use crate::kept::From;
-use crate::nets::Listed;
+use crate::nets::{Listed, Rows};
 use crate::{entries, kept, lent, nets};
 use flow::network::{FlowNetwork, Link, Made};
-use replay_text::answers::Answer;
-use replay_text::text::Reader;
-use replay_text::{answers, lists, tally, text};
+use replay_text::lists::front;
+use replay_text::text::{Reader, narrow};
 
 // Two places more than n, where there is room.
 fn two_more(n: usize) -> usize {
     n.min(2174) + 2
 }
 
-fn counted(refused: u32, net: &FlowNetwork) -> Answer {
-    if refused == 0 {
-        return answers::given(net.count as u64, 0);
-    }
-    answers::refused(refused)
+fn expect(r: &mut Reader, refused: u32, net: &FlowNetwork) {
+    let count = if refused == 0 { net.count } else { 0 };
+    r.expect_numbered(refused, count);
 }
 
-fn expect_rows(
-    buf: &[u8],
-    r: Reader,
-    heads: &[u32; 2176],
-    caps: &[f64; 2176],
-    costs: &[f64; 2176],
-    n: usize,
-) -> Reader {
-    let s = lists::expect_list(buf, r, lists::front(heads, n));
-    let t = lists::expect_reals(buf, s, lists::reals_front(caps, n));
-    lists::expect_reals(buf, t, lists::reals_front(costs, n))
-}
-
-fn expect_links(buf: &[u8], r: Reader, net: &FlowNetwork, n: usize) -> Reader {
-    let mut heads = [0u32; 2176];
-    let mut caps = [0.0f64; 2176];
-    let mut costs = [0.0f64; 2176];
-    nets::unpack(&net.links, &mut heads, &mut caps, &mut costs);
-    expect_rows(buf, r, &heads, &caps, &costs, n)
-}
-
-fn expect_lists(buf: &[u8], r: Reader, net: &FlowNetwork, starts: usize, n: usize) -> Reader {
-    let s = lists::expect_list(buf, r, lists::front(&net.starts, starts));
-    lists::expect_list(buf, s, lists::front(&net.list, n))
+fn expect_links(r: &mut Reader, links: &[Link; 2176], n: usize) {
+    let rows = Rows::of(links);
+    r.expect_list(front(&rows.heads, n));
+    r.expect_list(front(&rows.caps, n));
+    r.expect_list(front(&rows.costs, n));
 }
 
 #[derive(Clone, Copy)]
 struct Asked {
-    from: u32,
-    to: u32,
+    from: u64,
+    to: u64,
     capacity: f64,
     cost: f64,
 }
@@ -58,12 +36,12 @@ fn with_link(mut net: FlowNetwork, x: Asked) -> FlowNetwork {
     let count = net.count;
     if count < 2175 {
         net.links[count] = Link {
-            head: x.to,
+            head: narrow(x.to),
             cap: x.capacity,
             cost: x.cost,
         };
         net.links[count + 1] = Link {
-            head: x.from,
+            head: narrow(x.from),
             cap: 0.0,
             cost: -x.cost,
         };
@@ -92,26 +70,23 @@ fn same_else(l: Listed, x: Asked, made: Made) -> bool {
     )
 }
 
-fn compare(buf: &[u8], r: Reader, l: Listed, x: Asked, made: Made) -> Reader {
-    let s = answers::expect_one(buf, r, counted(made.refused, &made.net));
-    let t = expect_links(buf, s, &made.net, two_more(l.links));
-    let u = expect_lists(buf, t, &made.net, l.starts, two_more(l.list));
-    text::compared(u, same_else(l, x, made))
+fn compare(r: &mut Reader, l: Listed, x: Asked, made: Made) {
+    expect(r, made.refused, &made.net);
+    expect_links(r, &made.net.links, two_more(l.links));
+    r.expect_list(front(&made.net.starts, l.starts));
+    r.expect_list(front(&made.net.list, two_more(l.list)));
+    r.compared(same_else(l, x, made));
 }
 
-pub fn run(buf: &[u8], r: Reader, counts: &mut [u64; 48]) -> Reader {
-    let l = nets::read(buf, r);
-    let from = text::number_field(buf, l.r);
-    let to = text::number_field(buf, from.r);
-    let capacity = text::real_field(buf, to.r);
-    let cost = text::real_field(buf, capacity.r);
+pub fn run(r: &mut Reader, counts: &mut [u64; 48]) {
+    let l = nets::read(r);
     let x = Asked {
-        from: text::narrow(from.x),
-        to: text::narrow(to.x),
-        capacity: capacity.x,
-        cost: cost.x,
+        from: r.number_field(),
+        to: r.number_field(),
+        capacity: r.real_field(),
+        cost: r.real_field(),
     };
-    let made = lent::add_edge(l.net, from.x as usize, to.x as usize, capacity.x, cost.x);
-    let s = compare(buf, cost.r, l, x, made);
-    tally::count(counts, entries::ADD_EDGE, s)
+    let made = lent::add_edge(l.net, x.from as usize, x.to as usize, x.capacity, x.cost);
+    compare(r, l, x, made);
+    r.count(counts, entries::ADD_EDGE);
 }

@@ -1,48 +1,21 @@
 // The kind `flow`: the maximum flow on a network.
 use crate::kept::From;
-use crate::lent::Ran;
+use crate::nets::Rows;
 use crate::{entries, kept, lent, nets};
 use flow::network::FlowNetwork;
 use flow_core::rows::Answer;
+use replay_text::lists;
 use replay_text::text::Reader;
-use replay_text::{lists, tally, text};
 
-fn expect_figures(
-    buf: &[u8],
-    r: Reader,
-    refusal: u32,
-    flow: f64,
-    phases: usize,
-    pushes: usize,
-) -> Reader {
-    let named = text::name(buf, r);
-    let s = text::expect(buf, named, refusal as u64);
-    let t = text::expect_real(buf, s, flow);
-    let u = text::expect(buf, t, phases as u64);
-    text::expect(buf, u, pushes as u64)
-}
-
-fn expect_answer(buf: &[u8], r: Reader, a: Answer) -> Reader {
+fn expect(r: &mut Reader, a: Answer) {
     match a {
         Answer::Flow {
             flow,
             phases,
             pushes,
-        } => expect_figures(buf, r, 0, flow, phases, pushes),
-        Answer::Refused(k) => expect_figures(buf, r, k, 0.0, 0, 0),
+        } => r.expect_numbered(0, (flow, phases, pushes)),
+        Answer::Refused(k) => r.expect_numbered(k, (0.0, 0usize, 0usize)),
     }
-}
-
-fn expect_row(buf: &[u8], r: Reader, caps: &[f64; 2176], n: usize) -> Reader {
-    lists::expect_reals(buf, r, lists::reals_front(caps, n))
-}
-
-fn expect_caps(buf: &[u8], r: Reader, net: &FlowNetwork, n: usize) -> Reader {
-    let mut heads = [0u32; 2176];
-    let mut caps = [0.0f64; 2176];
-    let mut costs = [0.0f64; 2176];
-    nets::unpack(&net.links, &mut heads, &mut caps, &mut costs);
-    expect_row(buf, r, &caps, n)
 }
 
 // Only capacities of the n links listed may change.
@@ -60,17 +33,13 @@ fn same_else(before: &FlowNetwork, after: &FlowNetwork, n: usize) -> bool {
         )
 }
 
-fn compare(buf: &[u8], r: Reader, net: &FlowNetwork, ran: Ran, n: usize) -> Reader {
-    let s = expect_answer(buf, r, ran.answer);
-    let t = expect_caps(buf, s, &ran.net, n);
-    text::compared(t, same_else(net, &ran.net, n))
-}
-
-pub fn run(buf: &[u8], r: Reader, counts: &mut [u64; 48]) -> Reader {
-    let l = nets::read(buf, r);
-    let source = text::number_field(buf, l.r);
-    let sink = text::number_field(buf, source.r);
-    let ran = lent::max_flow(l.net, source.x as usize, sink.x as usize);
-    let s = compare(buf, sink.r, &l.net, ran, l.links);
-    tally::count(counts, entries::MAX_FLOW, s)
+pub fn run(r: &mut Reader, counts: &mut [u64; 48]) {
+    let l = nets::read(r);
+    let source = r.number_field() as usize;
+    let sink = r.number_field() as usize;
+    let ran = lent::max_flow(l.net, source, sink);
+    expect(r, ran.answer);
+    r.expect_list(lists::front(&Rows::of(&ran.net.links).caps, l.links));
+    r.compared(same_else(&l.net, &ran.net, l.links));
+    r.count(counts, entries::MAX_FLOW);
 }

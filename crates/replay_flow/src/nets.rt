@@ -3,7 +3,6 @@ ghost use Rattle.std.specs.Prelude.{◌<◌};
 
 use flow::network::{FlowNetwork, Link};
 use replay_text::text::Reader;
-use replay_text::{lists, text};
 use std::array;
 
 // A network, and how many links, starts and places of the node lists the case lists.
@@ -13,7 +12,14 @@ pub struct Listed {
     pub links: usize,
     pub starts: usize,
     pub list: usize,
-    pub r: Reader,
+}
+
+// The links of a network, a row for each of their fields.
+#[derive(Drop)]
+pub struct Rows {
+    pub heads: [u32; 2176],
+    pub caps: [f64; 2176],
+    pub costs: [f64; 2176],
 }
 
 // A network of so many nodes without links, as rows of zeros.
@@ -34,76 +40,68 @@ pub fn blank(nodes: usize) -> FlowNetwork {
     }
 }
 
-fn pack(heads: &[u32; 2176], caps: &[f64; 2176], costs: &[f64; 2176]) -> [Link; 2176] {
-    array::from_fn(
-        |i|
-            requires { i < 2176 }
-        {
-            Link {
-                head: heads[i],
-                cap: caps[i],
-                cost: costs[i],
-            }
-        },
-    )
-}
+impl Rows {
+    pub fn new() -> Rows {
+        Rows {
+            heads: [0; 2176],
+            caps: [0.0; 2176],
+            costs: [0.0; 2176],
+        }
+    }
 
-pub fn unpack(
-    links: &[Link; 2176],
-    heads: &mut [u32; 2176],
-    caps: &mut [f64; 2176],
-    costs: &mut [f64; 2176],
-) {
-    for (i, link) in links.iter().enumerate() {
-        heads[i] = link.head;
-        caps[i] = link.cap;
-        costs[i] = link.cost;
+    // The rows of a case, and how many links they list.
+    fn read(&mut self, r: &mut Reader) -> usize {
+        let links = r.list_field(&mut self.heads).len();
+        r.list_field(&mut self.caps);
+        r.list_field(&mut self.costs);
+        links
+    }
+
+    fn pack(&self) -> [Link; 2176] {
+        array::from_fn(
+            |i|
+                requires { i < 2176 }
+            {
+                Link {
+                    head: self.heads[i],
+                    cap: self.caps[i],
+                    cost: self.costs[i],
+                }
+            },
+        )
+    }
+
+    pub fn of(links: &[Link; 2176]) -> Rows {
+        let mut rows = Rows::new();
+        for (i, link) in links.iter().enumerate() {
+            rows.heads[i] = link.head;
+            rows.caps[i] = link.cap;
+            rows.costs[i] = link.cost;
+        }
+        rows
     }
 }
 
-#[derive(Clone, Copy)]
-struct LinksRead {
-    links: [Link; 2176],
-    n: usize,
-    r: Reader,
-}
-
-fn read_links(buf: &[u8], r: Reader) -> LinksRead {
-    let mut heads = [0u32; 2176];
-    let mut caps = [0.0f64; 2176];
-    let mut costs = [0.0f64; 2176];
-    let h = lists::list_field(buf, r, &mut heads);
-    let c = lists::reals_field(buf, h.r, &mut caps);
-    let p = lists::reals_field(buf, c.r, &mut costs);
-    let links = pack(&heads, &caps, &costs);
-    LinksRead {
-        links,
-        n: h.n,
-        r: p.r,
-    }
-}
-
-pub fn read(buf: &[u8], r: Reader) -> Listed {
-    let nodes = text::number_field(buf, r);
-    let count = text::number_field(buf, nodes.r);
-    let l = read_links(buf, count.r);
+pub fn read(r: &mut Reader) -> Listed {
+    let nodes = r.number_field() as usize;
+    let count = r.number_field() as usize;
+    let mut rows = Rows::new();
+    let n = rows.read(r);
     let mut starts = [0u32; 67];
     let mut list = [0u32; 2176];
-    let s = lists::list_field(buf, l.r, &mut starts);
-    let o = lists::list_field(buf, s.r, &mut list);
-    let links = l.links;
-    let net = FlowNetwork {
-        links,
-        count: count.x as usize,
-        nodes: nodes.x as usize,
-        starts,
-        list,
-    };
+    let s = r.list_field(&mut starts).len();
+    let o = r.list_field(&mut list).len();
+    let links = rows.pack();
     Listed {
-        net,
-        links: l.n,
-        starts: s.n,
-        list: o.n,
-        r: o.r,
+        net: FlowNetwork {
+            links,
+            count,
+            nodes,
+            starts,
+            list,
+        },
+        links: n,
+        starts: s,
+        list: o,
     }
 }

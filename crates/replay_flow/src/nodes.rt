@@ -4,7 +4,6 @@ use crate::{entries, kept, nets};
 use flow::network;
 use flow::network::{FlowNetwork, Made};
 use replay_text::text::Reader;
-use replay_text::{answers, tally, text};
 
 // A new network has no links, and zeros in all rows.
 fn is_blank(net: &FlowNetwork) -> bool {
@@ -21,17 +20,17 @@ fn is_blank(net: &FlowNetwork) -> bool {
         )
 }
 
-fn compare(buf: &[u8], r: Reader, made: Made) -> Reader {
+fn compare(r: &mut Reader, made: Made) {
     if made.refused != 0 {
-        return answers::expect_one(buf, r, answers::refused(made.refused));
+        r.expect_numbered(made.refused, 0usize);
+        return;
     }
-    let s = answers::expect_one(buf, r, answers::given(made.net.nodes as u64, 0));
-    text::compared(s, is_blank(&made.net))
+    r.expect_numbered(0, made.net.nodes);
+    r.compared(is_blank(&made.net));
 }
 
-pub fn run(buf: &[u8], r: Reader, counts: &mut [u64; 48]) -> Reader {
-    let nodes = text::number_field(buf, r);
-    let made = network::new(nodes.x as usize);
-    let s = compare(buf, nodes.r, made);
-    tally::count(counts, entries::NEW, s)
+pub fn run(r: &mut Reader, counts: &mut [u64; 48]) {
+    let nodes = r.number_field() as usize;
+    compare(r, network::new(nodes));
+    r.count(counts, entries::NEW);
 }

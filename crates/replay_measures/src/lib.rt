@@ -1,7 +1,7 @@
-// What the programs that replay stored distances share.
+// What the programs that replay stored distances and chains share.
 #![tactic(auto)]
 
 pub mod answer; // answer.rt: what a run tells, set against the stored answer
 pub mod asked; // asked.rt: the options, and how much is lent
+pub mod chains; // chains.rt: a chain in the text
 pub mod scratch; // scratch.rt: lent scratch, its marks and what it holds
-pub mod stores; // stores.rt: several lists in one store

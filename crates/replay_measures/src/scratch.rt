@@ -1,10 +1,12 @@
 // The scratch that is lent: filled with marks before a call, and looked at after it.
-ghost use Rattle.std.specs.Prelude.{◌≡◌, length, take, replicate, ◌≤◌};
+ghost use Rattle.std.specs.Prelude.{◌≡◌, length, take, replicate};
 ghost use Rattle.replay_text.specs.Reading.{Lasts};
 ghost use Rattle.replay_measures.specs.Marks.{mark};
 
+use crate::asked::Rooms;
+use replay_text::lists::{front, front_mut};
 use replay_text::text::Reader;
-use replay_text::{fronts, text};
+use replay_text::values::Value;
 
 const MARK: u32 = 77;
 
@@ -12,136 +14,125 @@ const CODE_MARK: u64 = 7777;
 
 const REAL_MARK: f64 = 7.5;
 
-// What a list holds: its marks, zeros, or anything else. A list of no entries holds its marks.
-const MARKS: u64 = 0;
+// A number with a mark, which stands for what a list held before it was lent.
+pub trait Mark: Value + Copy + PartialEq {
+    ghost marked: { Self };
 
-const ZEROS: u64 = 1;
-
-const OTHERS: u64 = 2;
-
-// The first n entries; all where there are fewer.
-fn codes_front_mut<'a>(xs: &'a mut [u64], n: usize) -> &'a mut [u64]
-    ensures { result.now ≡ take n xs.old }
-{
-    let front = n.min(xs.len());
-    &mut xs[..front]
+    fn mark() -> Self
+        ensures { result ≡ marked };
 }
 
-pub fn codes_front<'a>(xs: &'a [u64], n: usize) -> &'a [u64]
-    ensures { result.now ≡ take n xs.now }
-{
-    &xs[..n.min(xs.len())]
+impl Mark for u32 {
+    ghost marked = { 77 };
+
+    fn mark() -> u32 {
+        MARK
+    }
 }
 
-fn mark(xs: &mut [u32])
-    ensures { xs.new ≡ replicate (length xs.old) 77 }
-{
-    xs.fill(MARK);
+impl Mark for u64 {
+    ghost marked = { 7777 };
+
+    fn mark() -> u64 {
+        CODE_MARK
+    }
 }
 
-fn mark_codes(xs: &mut [u64])
-    ensures { xs.new ≡ replicate (length xs.old) 7777 }
-{
-    xs.fill(CODE_MARK);
+impl Mark for f64 {
+    ghost marked = { mark };
+
+    fn mark() -> f64 {
+        REAL_MARK
+    }
 }
 
-fn mark_reals(xs: &mut [f64])
-    ensures { xs.new ≡ replicate (length xs.old) mark }
-{
-    xs.fill(REAL_MARK);
+// What a list holds. A list of no entries holds its marks.
+#[derive(Clone, Copy)]
+enum Held {
+    Marks,
+    Zeros,
+    Others,
 }
 
 // The first n entries, marked.
-pub fn marked<'a>(xs: &'a mut [u32], n: usize) -> &'a mut [u32]
-    ensures { result.now ≡ take n (replicate (length xs.old) 77) }
+pub fn marked<'a, T: Mark>(xs: &'a mut [T], n: usize) -> &'a mut [T]
+    ensures { result.now ≡ take n (replicate (length xs.old) T.marked) }
 {
-    mark(xs);
-    fronts::front_mut(xs, n)
-}
-
-pub fn codes_marked<'a>(xs: &'a mut [u64], n: usize) -> &'a mut [u64]
-    ensures { result.now ≡ take n (replicate (length xs.old) 7777) }
-{
-    mark_codes(xs);
-    codes_front_mut(xs, n)
-}
-
-pub fn reals_marked<'a>(xs: &'a mut [f64], n: usize) -> &'a mut [f64]
-    ensures { result.now ≡ take n (replicate (length xs.old) mark) }
-{
-    mark_reals(xs);
-    fronts::reals_front_mut(xs, n)
+    xs.fill(T::mark());
+    front_mut(xs, n)
 }
 
 fn all_are<T: Copy + PartialEq>(xs: &[T], x: T) -> bool {
     xs.iter().all(|y| *y == x)
 }
 
-// What a list that was filled with a mark holds.
-fn state<T: Copy + PartialEq>(xs: &[T], mark: T, zero: T) -> u64 {
-    if all_are(xs, mark) {
-        return MARKS;
+// What a list that was marked holds.
+fn held<T: Mark>(xs: &[T]) -> Held {
+    if all_are(xs, T::mark()) {
+        Held::Marks
+    } else if all_are(xs, T::zero()) {
+        Held::Zeros
+    } else {
+        Held::Others
     }
-    if all_are(xs, zero) {
-        return ZEROS;
-    }
-    OTHERS
 }
 
-// What the lists of pairs hold is as stored.
-fn expect_pairs(buf: &[u8], r: Reader, lefts: &[u32], rights: &[u32], codes: &[u64]) -> Reader
-    ensures { Lasts r result }
+// What the first n entries of a list hold is as stored.
+pub fn expect_held<T: Mark>(r: &mut Reader, xs: &[T], n: usize)
+    ensures { Lasts r.old r.new }
 {
-    let a = text::expect(buf, r, state(lefts, MARK, 0));
-    let b = text::expect(buf, a, state(rights, MARK, 0));
-    text::expect(buf, b, state(codes, CODE_MARK, 0))
-}
-
-// And what the coupling store holds.
-pub fn expect_run(
-    buf: &[u8],
-    r: Reader,
-    lefts: &[u32],
-    rights: &[u32],
-    codes: &[u64],
-    places: &[u32],
-    masses: &[f64],
-) -> Reader
-    ensures { Lasts r result }
-{
-    let a = expect_pairs(buf, r, lefts, rights, codes);
-    let b = text::expect(buf, a, state(places, MARK, 0));
-    text::expect(buf, b, state(masses, REAL_MARK, 0.0))
-}
-
-// What the lists of a chain hold is as stored.
-pub fn expect_chain(
-    buf: &[u8],
-    r: Reader,
-    offsets: &[u32],
-    targets: &[u32],
-    probs: &[f64],
-    seen: &[f64],
-) -> Reader
-    ensures { Lasts r result }
-{
-    let a = text::expect(buf, r, state(offsets, MARK, 0));
-    let b = text::expect(buf, a, state(targets, MARK, 0));
-    let c = text::expect(buf, b, state(probs, REAL_MARK, 0.0));
-    text::expect(buf, c, state(seen, REAL_MARK, 0.0))
+    let number = match held(front(xs, n)) {
+        Held::Marks => 0u64,
+        Held::Zeros => 1,
+        Held::Others => 2,
+    };
+    r.expect(number);
 }
 
 // The line begins: its name, and how many lists there are.
-pub fn expect_lists(buf: &[u8], r: Reader, n: u64) -> Reader
-    ensures { Lasts r result }
+pub fn expect_lists(r: &mut Reader, n: u64)
+    ensures { Lasts r.old r.new }
 {
-    let s = text::name(buf, r);
-    text::expect(buf, s, n)
+    r.name();
+    r.expect(n);
 }
 
 // It ends with the records behind the contributions, which are kept; no row of records is lent here.
-pub fn expect_kept(buf: &[u8], r: Reader) -> Reader
-    ensures { Lasts r result }
+pub fn expect_kept(r: &mut Reader)
+    ensures { Lasts r.old r.new }
 {
-    text::expect(buf, r, MARKS)
+    r.expect(0u64);
+}
+
+// The lists that are lent for a run.
+#[derive(Drop)]
+pub struct Scratch {
+    pub lefts: [u32; 4200],
+    pub rights: [u32; 4200],
+    pub codes: [u64; 4200],
+    pub places: [u32; 4200],
+    pub masses: [f64; 4200],
+}
+
+impl Scratch {
+    pub fn new() -> Scratch {
+        Scratch {
+            lefts: [0; 4200],
+            rights: [0; 4200],
+            codes: [0; 4200],
+            places: [0; 4200],
+            masses: [0.0; 4200],
+        }
+    }
+
+    // What they hold.
+    pub fn expect(&self, r: &mut Reader, rooms: Rooms)
+        ensures { Lasts r.old r.new }
+    {
+        expect_held(r, &self.lefts, rooms[0]);
+        expect_held(r, &self.rights, rooms[1]);
+        expect_held(r, &self.codes, rooms[2]);
+        expect_held(r, &self.places, rooms[3]);
+        expect_held(r, &self.masses, rooms[4]);
+    }
 }

@@ -7,40 +7,8 @@ mod outcomes; // outcomes.rt: the answers of the entries, as numbers
 mod relations; // relations.rt: the kinds `relation` and `related`
 mod store; // store.rt: the bytes lent for a relation
 
-use replay_text::text::Reader;
-use replay_text::{tally, text};
+use replay_text::{cases, tally};
 use std::io;
-use std::io::Read;
-
-// The words of the kinds, by their bytes.
-const RELATION: u64 = 0x72656c6174696f6e;
-
-const RELATED: u64 = 0x72656c61746564;
-
-fn run_kind(buf: &[u8], r: Reader, counts: &mut [u64; 48], store: &mut [u8], kind: u64) -> Reader {
-    match kind {
-        RELATION => relations::run(buf, r, counts, store),
-        RELATED => relations::run_related(buf, r, counts, store),
-        _ => tally::unknown(r, counts),
-    }
-}
-
-fn run_case(buf: &[u8], r: Reader, counts: &mut [u64; 48], store: &mut [u8]) -> Reader {
-    let named = text::name(buf, r);
-    let kind = text::word(buf, named);
-    let s = run_kind(buf, kind.r, counts, store, kind.x);
-    tally::next_case(buf, s, counts)
-}
-
-fn run_all(buf: &[u8], counts: &mut [u64; 48], store: &mut [u8]) {
-    let mut r = text::start(buf);
-    for _ in 0..1000000 {
-        if text::at_end(r) {
-            return;
-        }
-        r = run_case(buf, r, counts, store);
-    }
-}
 
 fn print_all(rt: &impl Print, counts: &[u64; 48]) {
     tally::print_entry(rt, b"relation epsdelta ", counts, entries::EPSDELTA);
@@ -52,16 +20,16 @@ fn print_all(rt: &impl Print, counts: &[u64; 48]) {
     );
     tally::print_entry(rt, b"relation min_epsilon ", counts, entries::MIN_EPSILON);
     tally::print_entry(rt, b"related ", counts, entries::RELATED);
-    tally::print_entry(rt, b"other ", counts, tally::OTHER);
-    tally::print_total(rt, counts);
+    tally::print_end(rt, counts);
 }
 
 fn main(rt: HostRuntime) -> io::Result<()> {
-    let mut buf = Vec::new(rt.alloc());
-    rt.reader().read_to_end(&mut buf)?;
-    let mut counts = [0u64; 48];
-    let mut store = [0u8; 501502];
-    run_all(&buf, &mut counts, &mut store);
+    let mut bytes = [0u8; 501502];
+    let counts = cases::run(&rt, |r, kind, counts| match kind {
+        b"relation" => relations::run(r, counts, &mut bytes),
+        b"related" => relations::run_related(r, counts, &mut bytes),
+        _ => r.unknown(counts),
+    })?;
     print_all(&rt, &counts);
     Ok(())
 }

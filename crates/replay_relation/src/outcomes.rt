@@ -1,7 +1,8 @@
-// The answers of the entries about relations, as numbers.
+// The answers of the entries about relations, set against the stored ones.
 use bisimilar::related::Verdict;
 use epsdelta::relation::Ended;
-use replay_text::answers::{Answer, given, refused};
+use min_epsilon::least::Least;
+use replay_text::text::Reader;
 
 // The refusal, or 0.
 pub fn of_ended(a: Ended) -> u32 {
@@ -11,10 +12,19 @@ pub fn of_ended(a: Ended) -> u32 {
     }
 }
 
-pub fn of_verdict(a: Verdict) -> Answer {
+pub fn expect_verdict(r: &mut Reader, a: Verdict) {
     match a {
-        Verdict::Related => given(1, 0),
-        Verdict::Unrelated => given(0, 0),
-        Verdict::Refused(k) => refused(k),
+        Verdict::Related => r.expect_numbered(0, true),
+        Verdict::Unrelated => r.expect_numbered(0, false),
+        Verdict::Refused(k) => r.expect_numbered(k, false),
+    }
+}
+
+// None is written `-`.
+pub fn expect_least(r: &mut Reader, a: Least) {
+    match a {
+        Least::At(epsilon) => r.expect_numbered(0, epsilon),
+        Least::Absent => r.expect_numbered(0, None::<f64>),
+        Least::Refused(k) => r.expect_numbered(k, 0.0),
     }
 }

@@ -5,10 +5,10 @@ use bisim_core::wlts::Wlts;
 use bisimilar::bisimilar::epsdelta_bisimilar;
 use bisimilar::related::related;
 use epsdelta::relation::epsdelta;
-use min_epsilon::least::{Least, min_epsilon};
+use min_epsilon::least::min_epsilon;
 use replay_text::columns::Model;
+use replay_text::lists;
 use replay_text::text::Reader;
-use replay_text::{answers, fronts, lists, tally, text};
 
 // What is asked: two models with the classes of their states, the tolerances, and the bytes listed.
 #[derive(Clone, Copy)]
@@ -22,15 +22,25 @@ struct Asked<'a> {
     listed: &'a [u8],
 }
 
-fn check_epsdelta(
-    buf: &[u8],
-    r: Reader,
+// What an entry answers, by `answer`, in bytes as they are at first, and the bytes as it leaves them.
+fn check<F: FnOnce(&mut Reader, Asked, &mut [u8])>(
+    r: &mut Reader,
     counts: &mut [u64; 48],
+    entry: usize,
     x: Asked,
     lent: &mut [u8],
-) -> Reader {
+    answer: F,
+)
+    requires { F.IsAlwaysCallable answer }
+{
     store::fill(lent, x.listed);
-    let answer = outcomes::of_ended(epsdelta(
+    answer(r, x, lent);
+    store::expect(r, lent, x.listed.len());
+    r.count(counts, entry);
+}
+
+fn run_epsdelta(r: &mut Reader, x: Asked, lent: &mut [u8]) {
+    let answer = epsdelta(
         &x.left,
         &x.right,
         x.left_classes,
@@ -38,21 +48,12 @@ fn check_epsdelta(
         x.epsilon,
         x.rho,
         lent,
-    ));
-    let s = answers::expect_refusal(buf, r, answer);
-    let t = store::expect(buf, s, lent, x.listed.len());
-    tally::count(counts, entries::EPSDELTA, t)
+    );
+    r.expect_numbered(outcomes::of_ended(answer), ());
 }
 
-fn check_bisimilar(
-    buf: &[u8],
-    r: Reader,
-    counts: &mut [u64; 48],
-    x: Asked,
-    lent: &mut [u8],
-) -> Reader {
-    store::fill(lent, x.listed);
-    let answer = outcomes::of_verdict(epsdelta_bisimilar(
+fn run_bisimilar(r: &mut Reader, x: Asked, lent: &mut [u8]) {
+    let answer = epsdelta_bisimilar(
         &x.left,
         &x.right,
         x.left_classes,
@@ -60,38 +61,11 @@ fn check_bisimilar(
         x.epsilon,
         x.rho,
         lent,
-    ));
-    let s = answers::expect_one(buf, r, answer);
-    let t = store::expect(buf, s, lent, x.listed.len());
-    tally::count(counts, entries::EPSDELTA_BISIMILAR, t)
+    );
+    outcomes::expect_verdict(r, answer);
 }
 
-// None is written `-`.
-fn expect_least(buf: &[u8], r: Reader, least: Least) -> Reader {
-    match least {
-        Least::At(epsilon) => {
-            let s = answers::expect_refusal(buf, r, 0);
-            text::expect_real(buf, s, epsilon)
-        }
-        Least::Absent => {
-            let s = answers::expect_refusal(buf, r, 0);
-            text::expect(buf, s, text::ABSENT)
-        }
-        Least::Refused(k) => {
-            let s = answers::expect_refusal(buf, r, k);
-            text::expect_real(buf, s, 0.0)
-        }
-    }
-}
-
-fn check_min_epsilon(
-    buf: &[u8],
-    r: Reader,
-    counts: &mut [u64; 48],
-    x: Asked,
-    lent: &mut [u8],
-) -> Reader {
-    store::fill(lent, x.listed);
+fn run_least(r: &mut Reader, x: Asked, lent: &mut [u8]) {
     let answer = min_epsilon(
         &x.left,
         &x.right,
@@ -100,68 +74,60 @@ fn check_min_epsilon(
         x.rho,
         lent,
     );
-    let s = expect_least(buf, r, answer);
-    let t = store::expect(buf, s, lent, x.listed.len());
-    tally::count(counts, entries::MIN_EPSILON, t)
+    outcomes::expect_least(r, answer);
 }
 
 // The classes, the tolerances and the bytes; each entry gets the bytes as they are at first.
-fn run_lent(
-    buf: &[u8],
-    r: Reader,
-    counts: &mut [u64; 48],
-    bytes: &mut [u8],
-    left: Wlts,
-    right: Wlts,
-) -> Reader {
+fn run_lent(r: &mut Reader, counts: &mut [u64; 48], bytes: &mut [u8], left: Wlts, right: Wlts) {
     let mut left_classes = [0u32; 2112];
     let mut right_classes = [0u32; 2112];
     let mut listed = [0u8; 512];
-    let m = lists::list_field(buf, r, &mut left_classes);
-    let n = lists::list_field(buf, m.r, &mut right_classes);
-    let epsilon = text::real_field(buf, n.r);
-    let rho = text::real_field(buf, epsilon.r);
-    let l = store::read(buf, rho.r, &mut listed, bytes.len());
+    let left_classes = r.list_field(&mut left_classes);
+    let right_classes = r.list_field(&mut right_classes);
+    let epsilon = r.real_field();
+    let rho = r.real_field();
+    let l = store::read(r, &mut listed, bytes.len());
     let x = Asked {
         left,
         right,
-        left_classes: lists::front(&left_classes, m.n),
-        right_classes: lists::front(&right_classes, n.n),
-        epsilon: epsilon.x,
-        rho: rho.x,
-        listed: lists::bytes_front(&listed, l.n),
+        left_classes,
+        right_classes,
+        epsilon,
+        rho,
+        listed: l.listed,
     };
-    let lent = fronts::bytes_front_mut(bytes, l.room);
-    let s = check_epsdelta(buf, l.r, counts, x, lent);
-    let t = check_bisimilar(buf, s, counts, x, lent);
-    check_min_epsilon(buf, t, counts, x, lent)
+    let lent = lists::front_mut(bytes, l.room);
+    check(r, counts, entries::EPSDELTA, x, lent, run_epsdelta);
+    check(
+        r,
+        counts,
+        entries::EPSDELTA_BISIMILAR,
+        x,
+        lent,
+        run_bisimilar,
+    );
+    check(r, counts, entries::MIN_EPSILON, x, lent, run_least);
 }
 
 // Both models, and what comes after them.
-pub fn run(buf: &[u8], r: Reader, counts: &mut [u64; 48], bytes: &mut [u8]) -> Reader {
+pub fn run(r: &mut Reader, counts: &mut [u64; 48], bytes: &mut [u8]) {
     let mut left = Model::new();
     let mut right = Model::new();
-    let s = left.read(buf, r);
-    let t = right.read(buf, s);
-    run_lent(buf, t, counts, bytes, left.lent(), right.lent())
+    left.read(r);
+    right.read(r);
+    run_lent(r, counts, bytes, left.lent(), right.lent());
 }
 
 // Whether the bytes, as they are handed in, hold s with t.
-pub fn run_related(buf: &[u8], r: Reader, counts: &mut [u64; 48], bytes: &mut [u8]) -> Reader {
+pub fn run_related(r: &mut Reader, counts: &mut [u64; 48], bytes: &mut [u8]) {
     let mut listed = [0u8; 512];
-    let left = text::number_field(buf, r);
-    let right = text::number_field(buf, left.r);
-    let l = store::read(buf, right.r, &mut listed, bytes.len());
-    let s = text::short_field(buf, l.r);
-    let t = text::short_field(buf, s.r);
-    let lent = fronts::bytes_front_mut(bytes, l.room);
-    store::fill(lent, lists::bytes_front(&listed, l.n));
-    let answer = outcomes::of_verdict(related(
-        left.x as usize,
-        right.x as usize,
-        lent,
-        StateId(text::narrow(s.x)),
-        StateId(text::narrow(t.x)),
-    ));
-    answers::check_one(buf, t.r, counts, entries::RELATED, answer)
+    let left = r.number_field() as usize;
+    let right = r.number_field() as usize;
+    let l = store::read(r, &mut listed, bytes.len());
+    let s = StateId(r.short_field());
+    let t = StateId(r.short_field());
+    let lent = lists::front_mut(bytes, l.room);
+    store::fill(lent, l.listed);
+    outcomes::expect_verdict(r, related(left, right, lent, s, t));
+    r.count(counts, entries::RELATED);
 }

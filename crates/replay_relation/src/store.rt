@@ -1,24 +1,19 @@
 // The bytes lent for a relation: the first of them are listed, the others are zero.
+use replay_text::lists;
 use replay_text::text::Reader;
-use replay_text::{lists, text};
 
-// How many bytes are lent, and how many of them are listed.
+// How many bytes are lent, and those of them that are listed.
 #[derive(Clone, Copy)]
-pub struct Lent {
+pub struct Lent<'a> {
     pub room: usize,
-    pub n: usize,
-    pub r: Reader,
+    pub listed: &'a [u8],
 }
 
 // The bytes listed, to the front of `listed`; at most `most` are lent.
-pub fn read(buf: &[u8], r: Reader, listed: &mut [u8], most: usize) -> Lent {
-    let room = text::number_field(buf, r);
-    let l = lists::sized(room, most);
-    let b = lists::bytes_field(buf, l.r, listed);
+pub fn read<'a>(r: &mut Reader, listed: &'a mut [u8], most: usize) -> Lent<'a> {
     Lent {
-        room: l.n,
-        n: b.n,
-        r: b.r,
+        room: r.size_field(most),
+        listed: r.list_field(listed),
     }
 }
 
@@ -34,7 +29,7 @@ fn zero_from(store: &[u8], from: usize) -> bool {
 }
 
 // The first n bytes are as stored, and the others zero.
-pub fn expect(buf: &[u8], r: Reader, store: &[u8], n: usize) -> Reader {
-    let s = lists::expect_bytes(buf, r, lists::bytes_front(store, n));
-    text::compared(s, zero_from(store, n))
+pub fn expect(r: &mut Reader, store: &[u8], n: usize) {
+    r.expect_list(lists::front(store, n));
+    r.compared(zero_from(store, n));
 }

@@ -5,7 +5,7 @@ use Rattle.replay_text.specs.declared.text.Reader.{Reader}
 
 -- the place is kept
 abbrev pub Placed : Reader → Reader → Type 0
-Placed r s = (s.at ≡ r.at) × (s.end ≡ r.end) × (s.byte ≡ r.byte)
+Placed r s = s.rest ≡ r.rest
 
 -- the marks are kept
 abbrev pub Kept : Reader → Reader → Type 0

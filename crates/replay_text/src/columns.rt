@@ -2,16 +2,12 @@
 ghost use Rattle.std.specs.Prelude.{◌≡◌, take};
 ghost use Rattle.replay_text.specs.Reading.{Lasts};
 
+use crate::lists::front;
+use crate::text;
 use crate::text::Reader;
-use crate::{lists, text};
+use crate::values::Entry;
 use bisim_core::ids::StateId;
 use bisim_core::wlts::{Shape, Wlts};
-
-#[derive(Clone, Copy)]
-pub struct ShapeRead {
-    pub shape: Shape,
-    pub r: Reader,
-}
 
 // Room for a column, and how many of its entries are read.
 #[derive(Drop)]
@@ -20,7 +16,7 @@ struct Column<T> {
     count: usize,
 }
 
-impl<T: Copy> Column<T> {
+impl<T: Entry> Column<T> {
     fn new(zero: T) -> Column<T> {
         Column {
             entries: [zero; 2112],
@@ -28,10 +24,16 @@ impl<T: Copy> Column<T> {
         }
     }
 
+    fn fill(&mut self, r: &mut Reader)
+        ensures { Lasts r.old r.new }
+    {
+        self.count = r.list_field(&mut self.entries).len();
+    }
+
     fn read(&self) -> &[T]
         ensures { result.now ≡ take self.now.count self.now.entries }
     {
-        self.entries.get(..self.count).unwrap_or(&self.entries)
+        front(&self.entries, self.count)
     }
 }
 
@@ -56,39 +58,21 @@ pub fn to_initial(x: u64) -> Option<StateId>
     Some(StateId(text::narrow(x)))
 }
 
-pub fn read_shape(buf: &[u8], r: Reader) -> ShapeRead
-    ensures { Lasts r result.r }
-{
-    let states = text::number_field(buf, r);
-    let edges = text::number_field(buf, states.r);
-    let labels = text::number_field(buf, edges.r);
-    let initial = text::number_field(buf, labels.r);
-    let shape = Shape {
-        states: states.x as usize,
-        edges: edges.x as usize,
-        labels: labels.x as usize,
-        initial: to_initial(initial.x),
-    };
-    ShapeRead {
-        shape,
-        r: initial.r,
+impl Reader<'_> {
+    pub fn shape(&mut self) -> Shape
+        ensures { Lasts self.old self.new }
+    {
+        let states = self.number_field();
+        let edges = self.number_field();
+        let labels = self.number_field();
+        let initial = self.number_field();
+        Shape {
+            states: states as usize,
+            edges: edges as usize,
+            labels: labels as usize,
+            initial: to_initial(initial),
+        }
     }
-}
-
-fn list(buf: &[u8], r: Reader, column: &mut Column<u32>) -> Reader
-    ensures { Lasts r result }
-{
-    let l = lists::list_field(buf, r, &mut column.entries);
-    column.count = l.n;
-    l.r
-}
-
-fn reals(buf: &[u8], r: Reader, column: &mut Column<f64>) -> Reader
-    ensures { Lasts r result }
-{
-    let l = lists::reals_field(buf, r, &mut column.entries);
-    column.count = l.n;
-    l.r
 }
 
 impl Model {
@@ -111,16 +95,15 @@ impl Model {
         }
     }
 
-    pub fn read(&mut self, buf: &[u8], r: Reader) -> Reader
-        ensures { Lasts r result }
+    pub fn read(&mut self, r: &mut Reader)
+        ensures { Lasts r.old r.new }
     {
-        let x = read_shape(buf, r);
-        self.shape = x.shape;
-        let values = list(buf, x.r, &mut self.label_values);
-        let offsets = list(buf, values, &mut self.offsets);
-        let labels = list(buf, offsets, &mut self.edge_labels);
-        let targets = list(buf, labels, &mut self.edge_targets);
-        reals(buf, targets, &mut self.edge_weights)
+        self.shape = r.shape();
+        self.label_values.fill(r);
+        self.offsets.fill(r);
+        self.edge_labels.fill(r);
+        self.edge_targets.fill(r);
+        self.edge_weights.fill(r);
     }
 
     pub fn lent<'a>(&'a self) -> Wlts<'a>

@@ -2,7 +2,6 @@
 ghost use Rattle.std.specs.Prelude.{◌≡◌, true, false, get_or};
 ghost use Rattle.replay_text.specs.Tally.{Ready, agrees as agreed, place as place_of, more, tallied};
 
-use crate::text;
 use crate::text::Reader;
 use std::io;
 use std::io::Write;
@@ -31,25 +30,11 @@ fn place(entry: usize, agree: bool) -> usize
     if entry < 1000 { entry + 1 } else { 0 }
 }
 
-fn agrees(r: Reader) -> bool
-    ensures { result ≡ agreed r }
-{
-    r.faults == 0 && r.differences == 0
-}
-
 fn tally(counts: &mut [u64; 48], entry: usize, agree: bool)
     ensures { counts.new ≡ tallied counts.old entry agree }
 {
     one_more(counts, place(entry, agree));
     one_more(counts, place(TOTAL, agree));
-}
-
-// Counts an answer, and makes ready for the next.
-pub fn count(counts: &mut [u64; 48], entry: usize, r: Reader) -> Reader
-    ensures { (counts.new ≡ tallied counts.old entry (agreed r)) × Ready r result }
-{
-    tally(counts, entry, agrees(r));
-    text::marked(r, r.faults, 0)
 }
 
 fn at(counts: &[u64], i: usize) -> u64
@@ -81,6 +66,14 @@ pub fn print_entry(rt: &impl Print, what: &[u8], counts: &[u64; 48], entry: usiz
     }
 }
 
+// The two last lines: cases of no known kind, and all.
+pub fn print_end(rt: &impl Print, counts: &[u64; 48]) -> u64
+    ensures { result ≡ get_or counts.now (place_of 46 false) 0 }
+{
+    print_entry(rt, b"other ", counts, OTHER);
+    print_total(rt, counts)
+}
+
 pub fn print_total(rt: &impl Print, counts: &[u64; 48]) -> u64
     ensures { result ≡ get_or counts.now (place_of 46 false) 0 }
 {
@@ -92,22 +85,38 @@ pub fn print_total(rt: &impl Print, counts: &[u64; 48]) -> u64
     }
 }
 
-// A case that cannot be read: one difference.
-pub fn unknown(r: Reader, counts: &mut [u64; 48]) -> Reader
-    ensures { (counts.new ≡ tallied counts.old 44 false) × Ready r result }
-{
-    tally(counts, OTHER, false);
-    text::marked(r, r.faults, 0)
-}
-
-// What follows a case is an empty line, or the end: more text is one difference.
-pub fn next_case(buf: &[u8], r: Reader, counts: &mut [u64; 48]) -> Reader
-    ensures { (result.faults ≡ 0) × (result.differences ≡ 0) }
-{
-    let mut s = r;
-    if s.faults == 0 && text::within_line(s) {
-        s = unknown(s, counts);
+impl Reader<'_> {
+    fn agrees(&self) -> bool
+        ensures { result ≡ agreed self.now }
+    {
+        self.faults == 0 && self.differences == 0
     }
-    let next = text::past_case(buf, s);
-    text::marked(next, 0, 0)
+
+    // Counts an answer, and makes ready for the next.
+    pub fn count(&mut self, counts: &mut [u64; 48], entry: usize)
+        ensures { (counts.new ≡ tallied counts.old entry (agreed self.old)) × Ready self.old self.new }
+    {
+        tally(counts, entry, self.agrees());
+        self.settle();
+    }
+
+    // A case that cannot be read: one difference.
+    pub fn unknown(&mut self, counts: &mut [u64; 48])
+        ensures { (counts.new ≡ tallied counts.old 44 false) × Ready self.old self.new }
+    {
+        tally(counts, OTHER, false);
+        self.settle();
+    }
+
+    // What follows a case is an empty line, or the end: more text is one difference.
+    pub fn next_case(&mut self, counts: &mut [u64; 48])
+        ensures { (self.new.faults ≡ 0) × (self.new.differences ≡ 0) }
+    {
+        if self.faults == 0 && self.within_line() {
+            self.unknown(counts);
+        }
+        self.past_case();
+        self.faults = 0;
+        self.differences = 0;
+    }
 }

@@ -1,217 +1,44 @@
-// The text of cases: words and numbers between single blanks and line feeds, read byte by byte.
-ghost use Rattle.std.specs.Prelude.{◌≡◌, true, false, ◌<◌, ◌≤◌, eqb};
+// The text of cases: words and numbers between single blanks and line feeds.
+ghost use Rattle.std.specs.Prelude.{◌≡◌, true, false, ◌<◌, ◌≤◌, eqb, length, IfSome};
 ghost use Rattle.replay_text.specs.Reading.{Placed, Kept, Lasts, same};
 
-const LINE_FEED: u32 = 10;
-
-const BLANK: u32 = 32;
-
-const END: u32 = 256;
+use crate::values::Value;
 
 // Stands for an absent value, which is written `-`.
 pub const ABSENT: u64 = 18446744073709551615;
 
-// Where the reader is: buf[at..end] is still to come, `byte` is the byte at hand (256 at the end of the input).
+// What is still to come of the text.
 // `faults` is 0 where the text has been as laid out so far, `differences` where the answers have been the stored ones since the last count.
 #[derive(Clone, Copy)]
-pub struct Reader {
-    pub at: usize,
-    pub end: usize,
-    pub byte: u32,
+pub struct Reader<'a> {
+    pub rest: &'a [u8],
     pub faults: u32,
     pub differences: u32,
 }
 
-#[derive(Clone, Copy)]
-pub struct NumberRead {
-    pub x: u64,
-    pub r: Reader,
+fn within_word(b: u8) -> bool {
+    b != b'\n' && b != b' '
 }
 
-#[derive(Clone, Copy)]
-pub struct RealRead {
-    pub x: f64,
-    pub r: Reader,
-}
-
-// As r, with other marks.
-pub fn marked(r: Reader, faults: u32, differences: u32) -> Reader
-    ensures { Placed r result × (result.faults ≡ faults) × (result.differences ≡ differences) }
+// The digit that a byte is, to that base.
+pub(crate) fn digit(b: u8, base: u64) -> Option<u64>
+    ensures { IfSome result (λ x. x < base) }
 {
-    Reader {
-        faults,
-        differences,
-        ..r
+    let x = match b {
+        b'0'..=b'9' => u64::from(b - b'0'),
+        b'a'..=b'f' => u64::from(b - b'a') + 10,
+        _ => return None,
+    };
+    if x < base { Some(x) } else { None }
+}
+
+// The number that digits make; none where one is no digit, or the number has over 64 bits.
+fn parsed(digits: &[u8], base: u64) -> Option<u64> {
+    let mut x = 0u64;
+    for b in digits {
+        x = x.checked_mul(base)?.checked_add(digit(*b, base)?)?;
     }
-}
-
-// At least 1.
-fn raised(mark: u32) -> u32
-    ensures { (1 ≤ result) × (mark ≤ result) }
-{
-    mark.max(1)
-}
-
-// The text is not as laid out.
-pub fn faulty(r: Reader) -> Reader
-    ensures { (1 ≤ result.faults) × Lasts r result }
-{
-    marked(r, raised(r.faults), r.differences)
-}
-
-// An answer is the stored one, or differs.
-pub fn compared(r: Reader, agrees: bool) -> Reader
-    ensures { (agrees ≡ false → 1 ≤ result.differences) × Lasts r result }
-{
-    if agrees {
-        return r;
-    }
-    marked(r, r.faults, raised(r.differences))
-}
-
-pub(crate) fn advance(buf: &[u8], r: Reader) -> Reader
-    ensures { Kept r result }
-{
-    if r.at < r.end && r.at < buf.len() {
-        return Reader {
-            at: r.at + 1,
-            byte: u32::from(buf[r.at]),
-            ..r
-        };
-    }
-    Reader { byte: END, ..r }
-}
-
-pub fn start(buf: &[u8]) -> Reader
-    ensures { (result.faults ≡ 0) × (result.differences ≡ 0) }
-{
-    advance(
-        buf,
-        Reader {
-            at: 0,
-            end: buf.len(),
-            byte: END,
-            faults: 0,
-            differences: 0,
-        },
-    )
-}
-
-pub fn at_end(r: Reader) -> bool
-    ensures { result ≡ eqb r.byte 256 }
-{
-    r.byte == END
-}
-
-fn within_word(r: Reader) -> bool {
-    r.byte != LINE_FEED && r.byte != BLANK && r.byte != END
-}
-
-// A word of `size` bytes has ended: what follows it is passed.
-pub(crate) fn ended(buf: &[u8], r: Reader, size: u32) -> Reader
-    ensures { Lasts r result }
-{
-    if size == 0 || within_word(r) {
-        return faulty(r);
-    }
-    advance(buf, r)
-}
-
-fn lettered(x: u64, b: u32) -> u64 {
-    if x < 72057594037927936 && b < 256 {
-        return x * 256 + u64::from(b);
-    }
-    x
-}
-
-// At most 32 bytes of a word, each taken by `step`, and how many they are.
-fn spelled<F: Fn(u64, Reader) -> NumberRead>(buf: &[u8], r: Reader, step: F) -> (NumberRead, u32)
-    requires callable { F.IsAlwaysCallable step }
-    requires lasts { (x : _) (s : _) (n : _) → F.post step x s n → Lasts s n.r }
-    ensures { Lasts r result.0.r }
-{
-    let mut s = r;
-    let mut x = 0;
-    for size in 0..32 {
-        if !within_word(s) {
-            return (NumberRead { x, r: s }, size);
-        }
-        let n = step(x, s);
-        x = n.x;
-        s = advance(buf, n.r);
-    }
-    (NumberRead { x, r: s }, 32)
-}
-
-// A word, as a number by its bytes: the first eight count.
-pub fn word(buf: &[u8], r: Reader) -> NumberRead
-    ensures { Lasts r result.r }
-{
-    let (w, size) = spelled(
-        buf,
-        r,
-        |x, s| NumberRead {
-            x: lettered(x, s.byte),
-            r: s,
-        },
-    );
-    NumberRead {
-        x: w.x,
-        r: ended(buf, w.r, size),
-    }
-}
-
-// A word that need not be looked at.
-pub fn name(buf: &[u8], r: Reader) -> Reader
-    ensures { Lasts r result }
-{
-    word(buf, r).r
-}
-
-// 16 if the byte is no digit.
-pub(crate) fn digit(b: u32) -> u64 {
-    match b {
-        48..=57 => u64::from(b) - 48,
-        97..=102 => u64::from(b) - 87,
-        _ => 16,
-    }
-}
-
-// x with one digit more: a fault where that is no digit, or x has over 64 bits then.
-fn longer(x: u64, d: u64, hex: bool, r: Reader) -> NumberRead
-    ensures { Lasts r result.r }
-{
-    let base = if hex { 16 } else { 10 };
-    match x.checked_mul(base).and_then(|y| y.checked_add(d)) {
-        Some(x) if d < base => NumberRead { x, r },
-        _ => NumberRead { x: 0, r: faulty(r) },
-    }
-}
-
-// Decimal digits, or the 16 hexadecimal digits of a bit pattern.
-fn digits(buf: &[u8], r: Reader, hex: bool) -> NumberRead
-    ensures { Lasts r result.r }
-{
-    let (n, size) = spelled(buf, r, |x, s| longer(x, digit(s.byte), hex, s));
-    let size = if hex && size != 16 { 0 } else { size };
-    NumberRead {
-        x: n.x,
-        r: ended(buf, n.r, size),
-    }
-}
-
-// A whole number, or `-`.
-pub(crate) fn number(buf: &[u8], r: Reader) -> NumberRead
-    ensures { Lasts r result.r }
-{
-    if r.byte == 45 {
-        let s = advance(buf, r);
-        return NumberRead {
-            x: ABSENT,
-            r: ended(buf, s, 1),
-        };
-    }
-    digits(buf, r, false)
+    Some(x)
 }
 
 // A number that is no NaN's bits is made of its bits.
@@ -222,62 +49,10 @@ fn of_bits(bits: u64) -> f64 {
     f64::from_bits(bits)
 }
 
-pub(crate) fn real(buf: &[u8], r: Reader) -> RealRead
-    ensures { Lasts r result.r }
-{
-    let bits = digits(buf, r, true);
-    RealRead {
-        x: of_bits(bits.x),
-        r: bits.r,
-    }
-}
-
 pub fn narrow(x: u64) -> u32
     ensures { x < 4294967296 → result ≡ x }
 {
-    if x < 4294967296 { x as u32 } else { 0 }
-}
-
-// A number of 32 bits: anything else is a fault.
-pub(crate) fn short(buf: &[u8], r: Reader) -> NumberRead
-    ensures { Lasts r result.r }
-{
-    let n = number(buf, r);
-    if n.x < 4294967296 {
-        return n;
-    }
-    NumberRead {
-        x: 0,
-        r: faulty(n.r),
-    }
-}
-
-// A field is a name, which need not be looked at, and what follows it.
-pub fn number_field(buf: &[u8], r: Reader) -> NumberRead
-    ensures { Lasts r result.r }
-{
-    number(buf, name(buf, r))
-}
-
-pub fn short_field(buf: &[u8], r: Reader) -> NumberRead
-    ensures { Lasts r result.r }
-{
-    short(buf, name(buf, r))
-}
-
-pub fn real_field(buf: &[u8], r: Reader) -> RealRead
-    ensures { Lasts r result.r }
-{
-    real(buf, name(buf, r))
-}
-
-// ---- what is stored is compared with what came
-
-pub fn expect(buf: &[u8], r: Reader, x: u64) -> Reader
-    ensures { Lasts r result }
-{
-    let n = number(buf, r);
-    compared(n.r, n.x == x)
+    u32::try_from(x).unwrap_or(0)
 }
 
 // Two zeros are the same, and so are two NaNs; otherwise the bits are.
@@ -287,45 +62,198 @@ pub fn alike(x: f64, y: f64) -> bool
     x == y || (x != x && y != y)
 }
 
-pub fn expect_real(buf: &[u8], r: Reader, x: f64) -> Reader
-    ensures { Lasts r result }
-{
-    let n = real(buf, r);
-    compared(n.r, alike(n.x, x))
-}
-
-// ---- from case to case
-
-pub(crate) fn within_line(r: Reader) -> bool {
-    r.byte != LINE_FEED && r.byte != END
-}
-
-// Steps on to the end of a line, and past it; 1,000,000 steps at most.
-fn past<F: Fn(Reader) -> Reader>(buf: &[u8], r: Reader, step: F) -> Reader
-    requires callable { F.IsAlwaysCallable step }
-    requires kept { (s : _) (t : _) → F.post step s t → Kept s t }
-    ensures { Kept r result }
-{
-    let mut s = r;
-    for _ in 0..1000000 {
-        if !within_line(s) {
-            break;
+impl<'a> Reader<'a> {
+    pub fn new(text: &'a [u8]) -> Reader<'a>
+        ensures { (result.faults ≡ 0) × (result.differences ≡ 0) }
+    {
+        Reader {
+            rest: text,
+            faults: 0,
+            differences: 0,
         }
-        s = step(s);
     }
-    advance(buf, s)
-}
 
-// The rest of a line.
-fn past_line(buf: &[u8], r: Reader) -> Reader
-    ensures { Kept r result }
-{
-    past(buf, r, |s| advance(buf, s))
-}
+    // The text is not as laid out.
+    pub fn faulty(&mut self)
+        ensures { (1 ≤ self.new.faults) × Lasts self.old self.new }
+    {
+        self.faults = self.faults.max(1);
+    }
 
-// The rest of a case: up to an empty line, and past it.
-pub(crate) fn past_case(buf: &[u8], r: Reader) -> Reader
-    ensures { Kept r result }
-{
-    past(buf, r, |s| past_line(buf, s))
+    // An answer is the stored one, or differs.
+    pub fn compared(&mut self, agrees: bool)
+        ensures { (agrees ≡ false → 1 ≤ self.new.differences) × Lasts self.old self.new }
+    {
+        if !agrees {
+            self.differences = self.differences.max(1);
+        }
+    }
+
+    // The answer is counted: the next has no differences so far.
+    pub fn settle(&mut self)
+        ensures { Placed self.old self.new × (self.new.faults ≡ self.old.faults) × (self.new.differences ≡ 0) }
+    {
+        self.differences = 0;
+    }
+
+    pub fn at_end(&self) -> bool
+        ensures { result ≡ eqb (length self.now.rest.now) 0 }
+    {
+        self.rest.is_empty()
+    }
+
+    // The next byte, which is passed.
+    pub(crate) fn advance(&mut self) -> Option<u8>
+        ensures { Kept self.old self.new }
+    {
+        let (first, rest) = self.rest.split_first()?;
+        self.rest = rest;
+        Some(*first)
+    }
+
+    // A word of `size` bytes has ended: what follows it is passed.
+    pub(crate) fn ended(&mut self, size: usize)
+        ensures { Lasts self.old self.new }
+    {
+        if size == 0 || self.rest.first().is_some_and(|b| within_word(*b)) {
+            self.faulty();
+            return;
+        }
+        self.advance();
+    }
+
+    // A word of at most 32 bytes.
+    pub fn word(&mut self) -> &'a [u8]
+        ensures { Lasts self.old self.new }
+    {
+        let text = self.rest;
+        let room = text.len().min(32);
+        let size = text[..room]
+            .iter()
+            .position(|b| !within_word(*b))
+            .unwrap_or(room);
+        let (word, rest) = text.split_at(size);
+        self.rest = rest;
+        self.ended(size);
+        word
+    }
+
+    // A word that need not be looked at.
+    pub fn name(&mut self)
+        ensures { Lasts self.old self.new }
+    {
+        self.word();
+    }
+
+    // What is read, 0 and a fault where there is nothing.
+    fn found(&mut self, x: Option<u64>) -> u64
+        ensures { Lasts self.old self.new }
+    {
+        match x {
+            Some(x) => x,
+            None => {
+                self.faulty();
+                0
+            }
+        }
+    }
+
+    // A whole number, or `-`.
+    pub(crate) fn number(&mut self) -> u64
+        ensures { Lasts self.old self.new }
+    {
+        match self.word() {
+            b"-" => ABSENT,
+            word => self.found(parsed(word, 10)),
+        }
+    }
+
+    // The 16 hexadecimal digits of a bit pattern.
+    pub(crate) fn real(&mut self) -> f64
+        ensures { Lasts self.old self.new }
+    {
+        let word = self.word();
+        let bits = if word.len() == 16 {
+            parsed(word, 16)
+        } else {
+            None
+        };
+        of_bits(self.found(bits))
+    }
+
+    // A number of 32 bits: anything else is a fault.
+    pub(crate) fn short(&mut self) -> u32
+        ensures { Lasts self.old self.new }
+    {
+        let x = self.number();
+        match u32::try_from(x) {
+            Ok(x) => x,
+            Err(_) => {
+                self.faulty();
+                0
+            }
+        }
+    }
+
+    // A field is a name, which need not be looked at, and what follows it.
+    pub fn number_field(&mut self) -> u64
+        ensures { Lasts self.old self.new }
+    {
+        self.name();
+        self.number()
+    }
+
+    pub fn short_field(&mut self) -> u32
+        ensures { Lasts self.old self.new }
+    {
+        self.name();
+        self.short()
+    }
+
+    pub fn real_field(&mut self) -> f64
+        ensures { Lasts self.old self.new }
+    {
+        self.name();
+        self.real()
+    }
+
+    // ---- what is stored is compared with what came
+
+    pub fn expect<T: Value>(&mut self, x: T)
+        ensures { Lasts self.old self.new }
+    {
+        x.expect(self);
+    }
+
+    // ---- from case to case
+
+    pub(crate) fn within_line(&self) -> bool {
+        self.rest.first().is_some_and(|b| *b != b'\n')
+    }
+
+    // The rest of a line; 1,000,000 bytes at most.
+    fn past_line(&mut self)
+        ensures { Kept self.old self.new }
+    {
+        for _ in 0..1000000usize {
+            if !self.within_line() {
+                break;
+            }
+            self.advance();
+        }
+        self.advance();
+    }
+
+    // The rest of a case: up to an empty line, and past it; 1,000,000 lines at most.
+    pub(crate) fn past_case(&mut self)
+        ensures { Kept self.old self.new }
+    {
+        for _ in 0..1000000usize {
+            if !self.within_line() {
+                break;
+            }
+            self.past_line();
+        }
+        self.advance();
+    }
 }

@@ -1,5 +1,0 @@
--- `fill` writes the mark into each entry.
-use Rattle.replay_measures.proofs.scratch.mark_reals.Goals as goal
-
-pub returns : goal.returns
-returns c = c.fill.ensures.after (λ y e. e)

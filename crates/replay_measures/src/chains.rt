@@ -1,0 +1,64 @@
+// A chain in the text, with its observations.
+ghost use Rattle.replay_text.specs.Reading.{Lasts};
+
+use crate::asked::Rooms;
+use crate::scratch::expect_held;
+use bisim_core::ids::StateId;
+use chain_theory::ChainShape;
+use replay_text::text::Reader;
+
+// Room for the lists of a chain.
+#[derive(Drop)]
+pub struct Store {
+    pub offsets: [u32; 200],
+    pub targets: [u32; 200],
+    pub probs: [f64; 200],
+    pub seen: [f64; 200],
+}
+
+// A chain that is read, and its observations.
+#[derive(Drop)]
+pub struct Side<'a> {
+    pub shape: ChainShape,
+    pub offsets: &'a [u32],
+    pub targets: &'a [u32],
+    pub probs: &'a [f64],
+    pub seen: &'a mut [f64],
+}
+
+impl Store {
+    pub fn new() -> Store {
+        Store {
+            offsets: [0; 200],
+            targets: [0; 200],
+            probs: [0.0; 200],
+            seen: [0.0; 200],
+        }
+    }
+
+    pub fn read<'a>(&'a mut self, r: &mut Reader) -> Side<'a>
+        ensures { Lasts r.old r.new }
+    {
+        Side {
+            shape: ChainShape {
+                states: r.number_field() as usize,
+                entries: r.number_field() as usize,
+                initial: StateId(r.short_field()),
+            },
+            offsets: r.list_field(&mut self.offsets),
+            targets: r.list_field(&mut self.targets),
+            probs: r.list_field(&mut self.probs),
+            seen: r.list_field(&mut self.seen),
+        }
+    }
+
+    // What the lists hold, where they were lent.
+    pub fn expect(&self, r: &mut Reader, rooms: Rooms)
+        ensures { Lasts r.old r.new }
+    {
+        expect_held(r, &self.offsets, rooms[0]);
+        expect_held(r, &self.targets, rooms[1]);
+        expect_held(r, &self.probs, rooms[2]);
+        expect_held(r, &self.seen, rooms[3]);
+    }
+}

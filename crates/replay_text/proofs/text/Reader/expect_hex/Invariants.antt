@@ -1,0 +1,5 @@
+use Rattle.replay_text.specs.Reading.{Lasts}
+use Rattle.replay_text.proofs.text.Reader.expect_hex.Given as goal
+
+abbrev pub invariant-loop-x : goal.invariant-loop-x
+invariant-loop-x l = Lasts l.initial.self l.self

@@ -1,0 +1,171 @@
+// Values in the text.
+ghost use Rattle.replay_text.specs.Reading.{Lasts};
+
+use crate::text;
+use crate::text::Reader;
+use bisim_core::ids::{LabelId, StateId};
+
+// What an answer is made of.
+pub trait Value: Sized {
+    // What stands for it on a refusal.
+    fn zero() -> Self;
+
+    // The one stored is this one.
+    fn expect(self, r: &mut Reader)
+        ensures { Lasts r.old r.new };
+}
+
+// A value that lists are made of.
+pub trait Entry: Value + Copy {
+    // One from the text.
+    fn read(r: &mut Reader) -> Self
+        ensures { Lasts r.old r.new };
+}
+
+impl Value for () {
+    fn zero() -> () {
+        ()
+    }
+
+    fn expect(self, r: &mut Reader) {
+        r.compared(true);
+    }
+}
+
+impl Value for u64 {
+    fn zero() -> u64 {
+        0
+    }
+
+    fn expect(self, r: &mut Reader) {
+        let stored = r.number();
+        r.compared(stored == self);
+    }
+}
+
+impl Value for u32 {
+    fn zero() -> u32 {
+        0
+    }
+
+    fn expect(self, r: &mut Reader) {
+        u64::from(self).expect(r);
+    }
+}
+
+impl Value for u8 {
+    fn zero() -> u8 {
+        0
+    }
+
+    fn expect(self, r: &mut Reader) {
+        u64::from(self).expect(r);
+    }
+}
+
+impl Value for usize {
+    fn zero() -> usize {
+        0
+    }
+
+    fn expect(self, r: &mut Reader) {
+        (self as u64).expect(r);
+    }
+}
+
+// 1 where it holds.
+impl Value for bool {
+    fn zero() -> bool {
+        false
+    }
+
+    fn expect(self, r: &mut Reader) {
+        u64::from(self).expect(r);
+    }
+}
+
+impl Value for f64 {
+    fn zero() -> f64 {
+        0.0
+    }
+
+    fn expect(self, r: &mut Reader) {
+        let stored = r.real();
+        r.compared(text::alike(stored, self));
+    }
+}
+
+impl Value for StateId {
+    fn zero() -> StateId {
+        StateId(0)
+    }
+
+    fn expect(self, r: &mut Reader) {
+        self.0.expect(r);
+    }
+}
+
+impl Value for LabelId {
+    fn zero() -> LabelId {
+        LabelId(0)
+    }
+
+    fn expect(self, r: &mut Reader) {
+        self.0.expect(r);
+    }
+}
+
+// None is written `-`.
+impl<T: Value> Value for Option<T> {
+    fn zero() -> Option<T> {
+        Some(T::zero())
+    }
+
+    fn expect(self, r: &mut Reader) {
+        match self {
+            Some(x) => x.expect(r),
+            None => text::ABSENT.expect(r),
+        }
+    }
+}
+
+impl<A: Value, B: Value> Value for (A, B) {
+    fn zero() -> (A, B) {
+        (A::zero(), B::zero())
+    }
+
+    fn expect(self, r: &mut Reader) {
+        self.0.expect(r);
+        self.1.expect(r);
+    }
+}
+
+impl<A: Value, B: Value, C: Value> Value for (A, B, C) {
+    fn zero() -> (A, B, C) {
+        (A::zero(), B::zero(), C::zero())
+    }
+
+    fn expect(self, r: &mut Reader) {
+        self.0.expect(r);
+        self.1.expect(r);
+        self.2.expect(r);
+    }
+}
+
+impl Entry for u32 {
+    fn read(r: &mut Reader) -> u32 {
+        r.short()
+    }
+}
+
+impl Entry for u8 {
+    fn read(r: &mut Reader) -> u8 {
+        u8::try_from(r.short()).unwrap_or(0)
+    }
+}
+
+impl Entry for f64 {
+    fn read(r: &mut Reader) -> f64 {
+        r.real()
+    }
+}
