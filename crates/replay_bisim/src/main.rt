@@ -5,14 +5,19 @@
 mod models; // models.rt: the kind `bisim_distance`
 mod side; // side.rt: a model in the text
 
+use replay_text::text::Reader;
 use replay_text::{cases, tally};
 use std::io;
 
-fn main(rt: HostRuntime) -> io::Result<()> {
-    let counts = cases::run(&rt, |r, kind, counts| match kind {
+fn run_kind(r: &mut Reader, kind: &[u8], counts: &mut [u64; 48]) {
+    match kind {
         b"bisim_distance" => models::run(r, counts),
         _ => r.unknown(counts),
-    })?;
+    }
+}
+
+fn main(rt: HostRuntime) -> io::Result<()> {
+    let counts = cases::run(&rt, run_kind)?;
     tally::print_entry(
         &rt,
         b"bisim_distance bisim_distance ",

@@ -4,14 +4,19 @@
 
 mod chains; // chains.rt: the kind `distance`
 
+use replay_text::text::Reader;
 use replay_text::{cases, tally};
 use std::io;
 
-fn main(rt: HostRuntime) -> io::Result<()> {
-    let counts = cases::run(&rt, |r, kind, counts| match kind {
+fn run_kind(r: &mut Reader, kind: &[u8], counts: &mut [u64; 48]) {
+    match kind {
         b"distance" => chains::run(r, counts),
         _ => r.unknown(counts),
-    })?;
+    }
+}
+
+fn main(rt: HostRuntime) -> io::Result<()> {
+    let counts = cases::run(&rt, run_kind)?;
     tally::print_entry(&rt, b"distance distance ", &counts, chains::DISTANCE);
     tally::print_end(&rt, &counts);
     Ok(())

@@ -10,16 +10,21 @@ mod lent; // lent.rt: a network lent to an entry, and taken back
 mod nets; // nets.rt: networks as rows of numbers
 mod nodes; // nodes.rt: the kind `nodes`
 
+use replay_text::text::Reader;
 use replay_text::{cases, tally};
 use std::io;
 
-fn main(rt: HostRuntime) -> io::Result<()> {
-    let counts = cases::run(&rt, |r, kind, counts| match kind {
+fn run_kind(r: &mut Reader, kind: &[u8], counts: &mut [u64; 48]) {
+    match kind {
         b"flow" => flows::run(r, counts),
         b"edge" => edges::run(r, counts),
         b"nodes" => nodes::run(r, counts),
         _ => r.unknown(counts),
-    })?;
+    }
+}
+
+fn main(rt: HostRuntime) -> io::Result<()> {
+    let counts = cases::run(&rt, run_kind)?;
     tally::print_entry(&rt, b"flow max_flow ", &counts, entries::MAX_FLOW);
     tally::print_entry(&rt, b"edge add_edge ", &counts, entries::ADD_EDGE);
     tally::print_entry(&rt, b"nodes new ", &counts, entries::NEW);

@@ -48,7 +48,7 @@ impl Mark for f64 {
 
 // What a list holds. A list of no entries holds its marks.
 #[derive(Clone, Copy)]
-enum Held {
+enum Holding {
     Marks,
     Zeros,
     Others,
@@ -67,13 +67,13 @@ fn all_are<T: Copy + PartialEq>(xs: &[T], x: T) -> bool {
 }
 
 // What a list that was marked holds.
-fn held<T: Mark>(xs: &[T]) -> Held {
+fn held<T: Mark>(xs: &[T]) -> Holding {
     if all_are(xs, T::mark()) {
-        Held::Marks
+        Holding::Marks
     } else if all_are(xs, T::zero()) {
-        Held::Zeros
+        Holding::Zeros
     } else {
-        Held::Others
+        Holding::Others
     }
 }
 
@@ -82,9 +82,9 @@ pub fn expect_held<T: Mark>(r: &mut Reader, xs: &[T], n: usize)
     ensures { Lasts r.old r.new }
 {
     let number = match held(front(xs, n)) {
-        Held::Marks => 0u64,
-        Held::Zeros => 1,
-        Held::Others => 2,
+        Holding::Marks => 0u64,
+        Holding::Zeros => 1,
+        Holding::Others => 2,
     };
     r.expect(number);
 }

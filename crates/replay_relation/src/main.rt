@@ -7,8 +7,17 @@ mod outcomes; // outcomes.rt: the answers of the entries, as numbers
 mod relations; // relations.rt: the kinds `relation` and `related`
 mod store; // store.rt: the bytes lent for a relation
 
+use replay_text::text::Reader;
 use replay_text::{cases, tally};
 use std::io;
+
+fn run_kind(r: &mut Reader, kind: &[u8], counts: &mut [u64; 48], bytes: &mut [u8]) {
+    match kind {
+        b"relation" => relations::run(r, counts, bytes),
+        b"related" => relations::run_related(r, counts, bytes),
+        _ => r.unknown(counts),
+    }
+}
 
 fn print_all(rt: &impl Print, counts: &[u64; 48]) {
     tally::print_entry(rt, b"relation epsdelta ", counts, entries::EPSDELTA);
@@ -25,11 +34,7 @@ fn print_all(rt: &impl Print, counts: &[u64; 48]) {
 
 fn main(rt: HostRuntime) -> io::Result<()> {
     let mut bytes = [0u8; 501502];
-    let counts = cases::run(&rt, |r, kind, counts| match kind {
-        b"relation" => relations::run(r, counts, &mut bytes),
-        b"related" => relations::run_related(r, counts, &mut bytes),
-        _ => r.unknown(counts),
-    })?;
+    let counts = cases::run(&rt, |r, kind, counts| run_kind(r, kind, counts, &mut bytes))?;
     print_all(&rt, &counts);
     Ok(())
 }
