@@ -1,6 +1,7 @@
 -- What is lent to be written.
 use Rattle.std.specs.Prelude.{◌≡◌}
 use Rattle.distance_theory.specs.declared.lent.PairsMut.{PairsMut}
+use Rattle.distance_theory.specs.declared.lent.Scratch.{Scratch}
 use Rattle.distance_theory.specs.declared.lent.StoreMut.{StoreMut}
 
 -- the lists that are lent are the same, whatever they hold
@@ -9,3 +10,6 @@ SamePairs a b = (b.lefts.ghost_name ≡ a.lefts.ghost_name) × (b.rights.ghost_n
 
 abbrev pub SameStore : StoreMut → StoreMut → Type 0
 SameStore a b = (b.starts.ghost_name ≡ a.starts.ghost_name) × (b.lengths.ghost_name ≡ a.lengths.ghost_name) × (b.places.ghost_name ≡ a.places.ghost_name) × (b.masses.ghost_name ≡ a.masses.ghost_name)
+
+abbrev pub SameScratch : Scratch → Scratch → Type 0
+SameScratch a b = (b.lefts.ghost_name ≡ a.lefts.ghost_name) × (b.rights.ghost_name ≡ a.rights.ghost_name) × (b.codes.ghost_name ≡ a.codes.ghost_name) × (b.places.ghost_name ≡ a.places.ghost_name) × (b.masses.ghost_name ≡ a.masses.ghost_name)

@@ -61,3 +61,13 @@ pub struct Task<'a> {
     pub cost: &'a [f64],
     pub gamma: f64,
 }
+
+// The lists that a run takes as scratch: those that its pairs are noted in, and the places and masses of couplings.
+#[derive(Drop)]
+pub struct Scratch<'a> {
+    pub lefts: &'a mut [u32],
+    pub rights: &'a mut [u32],
+    pub codes: &'a mut [u64],
+    pub places: &'a mut [u32],
+    pub masses: &'a mut [f64],
+}

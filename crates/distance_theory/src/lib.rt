@@ -18,6 +18,13 @@ pub struct MetricOptions {
     pub top: usize,
 }
 
+// What is asked of two chains: the discount, and the options.
+#[derive(Clone, Copy, Debug, PartialEq)]
+pub struct Goal {
+    pub gamma: f64,
+    pub options: MetricOptions,
+}
+
 // A pair's share of the distance: how far its observations are apart, the discounted time spent in it, and the product of the two.
 #[repr(C)]
 #[derive(Clone, Copy, Debug, PartialEq)]
