@@ -39,16 +39,22 @@ impl Store {
     pub fn read<'a>(&'a mut self, r: &mut Reader) -> Side<'a>
         ensures { Lasts r.old r.new }
     {
+        let Store {
+            offsets,
+            targets,
+            probs,
+            seen,
+        } = self;
         Side {
             shape: ChainShape {
                 states: r.number_field() as usize,
                 entries: r.number_field() as usize,
                 initial: StateId(r.short_field()),
             },
-            offsets: r.list_field(&mut self.offsets),
-            targets: r.list_field(&mut self.targets),
-            probs: r.list_field(&mut self.probs),
-            seen: r.list_field(&mut self.seen),
+            offsets: r.list_field(offsets),
+            targets: r.list_field(targets),
+            probs: r.list_field(probs),
+            seen: r.list_field(seen),
         }
     }
 

@@ -56,6 +56,8 @@ enum Holding {
 
 // The first n entries, marked.
 pub fn marked<'a, T: Mark>(xs: &'a mut [T], n: usize) -> &'a mut [T]
+    requires infallible { T.Clone.is_infallible T.marked }
+    requires exact { (y : _) → T.Clone.is_clone T.marked y → y ≡ T.marked }
     ensures { result.now ≡ take n (replicate (length xs.old) T.marked) }
 {
     xs.fill(T::mark());
