@@ -1,7 +1,8 @@
 -- What the transport of two rows answers: its sizes fit, so that there is a plan, whose cells are the shares of the coupling.
 use mathlib.Core.Path.{◌≡◌, refl, sym, ap, ap₂, ◌∙◌}
 use Prim.Native.Nat.{ℕ, ◌+◌, ◌*◌, ◌-◌, ◌≤◌, ◌<◌}
-use mathlib.Core.Bool.{Bool, true, false, not, ◌&&◌}
+use mathlib.Core.Bool.{Bool, true, false, not, ◌&&◌, true≢false}
+use Rattle.std.specs.Result.{is_ok}
 use mathlib.Core.List.{List, [], map}
 use native.Mathlib.Omega.{arith}
 use native.Mathlib.Nat.{mul-le-mul}
@@ -16,8 +17,10 @@ use Rattle.numbers.proofs.Refuses.{check_skip}
 use Rattle.transport_theory.specs.Transport.{Cell, Transport, transport}
 use Rattle.transport_theory.specs.Refusal.{short}
 use Rattle.transport.specs.Outcome.{Outcome, ends, settled, size_refusal, transport_sized}
-use Rattle.transport.specs.declared.entry.Transported.{Transported}
-use Rattle.transport.specs.declared.entry.Transported.TheVariants as says
+use Rattle.std.specs.Prelude.{Result, Ok, Err}
+use Rattle.numbers.specs.declared.refusal.Refusal.{Refusal}
+use Rattle.numbers.specs.Refuse.{numbered}
+use Rattle.transport.specs.declared.plan.Plan.{Plan}
 use Rattle.epsdelta_theory.specs.Jumps.{Jump, jumps_of}
 use Rattle.epsdelta_theory.proofs.RowReads.{jumps_length}
 use Rattle.distance_theory.specs.Couplings.{Share, expected, fitted, point_mass}
@@ -28,17 +31,9 @@ use Rattle.distance_theory.proofs.Held.{shares_of}
 use Rattle.distance_theory.proofs.Stored.{shares_front}
 use Rattle.distance_theory.proofs.Bests.{Look, ats, parts, independent_by, best_by, Laid, laid, lay_if, lay_on, Bested, bested, best_if, best_on, Beside, Movable, moved_on, places_by, freely_length, costs_by, costs_length, fitted_is, moved_is, moved_celled, moved_few, cells_read, places_shares}
 
-abbrev total_of : Transported → Float
-total_of (says.Plan t n) = t
-total_of (says.Refused k) = nought
-
-abbrev cells_of : Transported → ℕ
-cells_of (says.Plan t n) = n
-cells_of (says.Refused k) = 0
-
-abbrev plan_told : Transported → ℕ
-plan_told (says.Plan t n) = 0
-plan_told (says.Refused k) = 1
+abbrev plan_of : Result Plan ℕ → Plan
+plan_of (Ok p) = p
+plan_of (Err k) = record { total = nought; cells = 0 }
 
 module _ {a b costs : List Float} {xs ys : List ℕ} {codes places masses : ℕ} (M : Movable a b costs xs ys codes places masses) where
   abbrev result : Transport
@@ -61,20 +56,26 @@ module _ {a b costs : List Float} {xs ys : List ℕ} {codes places masses : ℕ}
   accepted : (rows columns : ℕ) → rows ≡ 1024 → columns ≡ 1024 → size_refusal (length a) (length b) (length costs) rows columns masses ≡ 0
   accepted rows columns er ec = check_skip 7 _ _ 0 (enough rows columns er ec) (check_skip 15 _ 0 0 few refl)
 
-  module _ (i₀ j₀ : List ℕ) (x₀ : List Float) (er : length i₀ ≡ 1024) (ec : length j₀ ≡ 1024) (ex : length x₀ ≡ masses) {r : Transported} {i j : List ℕ} {x : List Float} (E : ends r i j x ≡ transport_sized a b costs i₀ j₀ x₀) where
-    planned : ends r i j x ≡ settled 0 result i₀ j₀ x₀
+  module _ (i₀ j₀ : List ℕ) (x₀ : List Float) (er : length i₀ ≡ 1024) (ec : length j₀ ≡ 1024) (ex : length x₀ ≡ masses) (r : Result Plan Refusal) {i j : List ℕ} {x : List Float} (E : ends (numbered r) i j x ≡ transport_sized a b costs i₀ j₀ x₀) where
+    planned : ends (numbered r) i j x ≡ settled 0 result i₀ j₀ x₀
     planned = E ∙ ap (λ (k : ℕ). settled k result i₀ j₀ x₀) (ap (size_refusal (length a) (length b) (length costs) (length i₀) (length j₀)) ex ∙ accepted (length i₀) (length j₀) er ec)
 
     -- there is a plan
-    pub no_refusal : (k : ℕ) → r ≡ says.Refused k → ⊥
-    no_refusal k e = let z : ◌≡◌ {A = ℕ} 0 1 = sym (ap (λ (o : Outcome). plan_told o.answer) planned) ∙ ap plan_told e in absurd (omega arith)
+    pub no_refusal : (k : Refusal) → r ≡ Err k → ⊥
+    no_refusal k e = true≢false (ap is_ok (sym (ap (λ (o : Outcome). o.answer) planned) ∙ ap numbered e))
 
-    module _ (total : Float) (cells : ℕ) (e : r ≡ says.Plan total cells) where
-      pub total_is : total ≡ result.total
-      total_is = sym (ap total_of e) ∙ ap (λ (o : Outcome). total_of o.answer) planned
+    module _ (p : Plan) (e : r ≡ Ok p) where
+      abbrev cells : ℕ
+      cells = p.cells
+
+      plan_is : p ≡ record { total = result.total; cells = length result.plan }
+      plan_is = sym (ap (λ (s : Result Plan Refusal). plan_of (numbered s)) e) ∙ ap (λ (o : Outcome). plan_of o.answer) planned
+
+      pub total_is : p.total ≡ result.total
+      total_is = ap (λ (q : Plan). q.total) plan_is
 
       pub cells_is : cells ≡ length result.plan
-      cells_is = sym (ap cells_of e) ∙ ap (λ (o : Outcome). cells_of o.answer) planned
+      cells_is = ap (λ (q : Plan). q.cells) plan_is
 
       rows_is : i ≡ over (map (λ (c : Cell). c.row) result.plan) i₀
       rows_is = ap (λ (o : Outcome). o.rows) planned
@@ -97,9 +98,9 @@ module _ {a b costs : List Float} {xs ys : List ℕ} {codes places masses : ℕ}
           (M.few_codes, omega arith, omega arith, omega arith)
 
       -- its shares
-      pub moved_end : (look : Look) (p p₀ : List ℕ) → p ≡ over (places_by look xs ys i j cells) p₀ → bested total cells p x ≡ moved_on look xs ys result p₀ x₀
-      moved_end look p p₀ ep =
-          ap₂ (λ (t : Float) (n : ℕ). bested t n p x) total_is cells_is
+      pub moved_end : (look : Look) (q p₀ : List ℕ) → q ≡ over (places_by look xs ys i j cells) p₀ → bested p.total cells q x ≡ moved_on look xs ys result p₀ x₀
+      moved_end look q p₀ ep =
+          ap₂ (λ (t : Float) (n : ℕ). bested t n q x) total_is cells_is
           ∙ ap₂ (λ (u : List ℕ) (w : List Float). bested result.total (length result.plan) u w)
           (ep ∙ ap (λ (l : List ℕ). over l p₀) (places_shares look xs ys result.plan i j i₀ j₀ rows_is columns_is cells cells_is)) (ap (λ (o : Outcome). o.masses) planned)
 

@@ -14,7 +14,9 @@ use crate::shares::{cells_fit, expected_part, lay_shares, place, rows_fit, value
 use bisim_core::ids::StateId;
 use distance_pairs::index::place_of;
 use numbers::Real;
-use transport::entry::{Transported, transport_sized};
+use transport::entry::transport_sized;
+use transport::plan::PlanRows;
+use transport_theory::Masses;
 
 // The value of each cell's pair.
 fn lay_values(xs: &[u32], ys: &[u32], codes: &[u64], values: &[f64], costs: &mut [f64])
@@ -47,17 +49,20 @@ fn lay_planned(
     xs: &[u32],
     ys: &[u32],
     codes: &[u64],
-    rows: &[u32],
-    columns: &[u32],
+    plan: &PlanRows,
     count: usize,
     places: &mut [u32],
 )
-    requires codes_len_bound { (length codes.now ≤ 4096) × (count ≤ length rows.now) × (count ≤ length columns.now) × (count ≤ length places.old) }
-    requires by_index { (i : ℕ) → i < count → (get_or rows.now i 0 < length xs.now) × (get_or columns.now i 0 < length ys.now) }
-    ensures { places.new ≡ over (places_by (look_up codes.now) xs.now ys.now rows.now columns.now count) places.old }
+    requires codes_len_bound { (length codes.now ≤ 4096) × (count ≤ length plan.now.rows.now) × (count ≤ length plan.now.columns.now) × (count ≤ length places.old) }
+    requires by_index { (i : ℕ) → i < count → (get_or plan.now.rows.now i 0 < length xs.now) × (get_or plan.now.columns.now i 0 < length ys.now) }
+    ensures { places.new ≡ over (places_by (look_up codes.now) xs.now ys.now plan.now.rows.now plan.now.columns.now count) places.old }
 {
     for i in 0..count {
-        places[i] = place(codes, xs[rows[i] as usize], ys[columns[i] as usize]);
+        places[i] = place(
+            codes,
+            xs[plan.rows[i] as usize],
+            ys[plan.columns[i] as usize],
+        );
     }
 }
 
@@ -84,16 +89,25 @@ fn move_masses(
 {
     let mut rows = [0u32; 1024];
     let mut columns = [0u32; 1024];
-    let moved = transport_sized(a, b, costs, &mut rows, &mut columns, masses);
-    match moved {
-        Transported::Plan { total, cells } => {
-            lay_planned(xs, ys, codes, &rows, &columns, cells, places);
+    let of = Masses {
+        left: a,
+        right: b,
+        costs,
+    };
+    let mut plan = PlanRows {
+        rows: &mut rows,
+        columns: &mut columns,
+        masses,
+    };
+    match transport_sized(&of, &mut plan) {
+        Ok(moved) => {
+            lay_planned(xs, ys, codes, &plan, moved.cells, places);
             Best {
-                value: total,
-                cells,
+                value: moved.total,
+                cells: moved.cells,
             }
         }
-        Transported::Refused(_) => Best {
+        Err(_) => Best {
             value: 0.0,
             cells: 0,
         },

@@ -6,6 +6,8 @@ ghost use Rattle.replies.specs.Transports.{told, leaves, planned};
 
 use replies::transports;
 use transport::entry;
+use transport::plan::PlanRows;
+use transport_theory::Masses;
 
 // The plan between masses a and b under the costs, one for each pair in row order: its cells go into the columns, its cost and its number of cells behind the references. A refusal leaves all these as they were.
 #[unsafe(no_mangle)]
@@ -23,6 +25,16 @@ pub extern "C" fn tanqesha_transport(
         ≡ planned (transport_on (costs_fit (length a.now) (length b.now) costs.now) a.now b.now costs.now
         plan_rows.old plan_columns.old plan_masses.old) total.old cells.old }
 {
-    let answer = entry::transport(a, b, costs, plan_rows, plan_columns, plan_masses);
+    let of = Masses {
+        left: a,
+        right: b,
+        costs,
+    };
+    let mut plan = PlanRows {
+        rows: plan_rows,
+        columns: plan_columns,
+        masses: plan_masses,
+    };
+    let answer = entry::transport(&of, &mut plan);
     transports::put_plan(answer, total, cells)
 }

@@ -1,7 +1,6 @@
 -- What the exported `transport` returns, and what the references and columns lent to it then hold.
-use Rattle.std.specs.Prelude.{ℕ, List, Float}
-use Rattle.transport.specs.declared.entry.Transported.{Transported}
-use Rattle.transport.specs.declared.entry.Transported.TheVariants as says
+use Rattle.std.specs.Prelude.{ℕ, List, Float, Result, Ok, Err}
+use Rattle.transport.specs.declared.plan.Plan.{Plan}
 use Rattle.transport.specs.Outcome.{Outcome}
 
 -- the number returned, and what the references then hold: the cost of the plan and its number of cells
@@ -15,9 +14,9 @@ abbrev pub told : ℕ → Float → ℕ → Told
 told k x n = record { number = k; total = x; cells = n }
 
 -- 0 and the plan's figures; or the refusal's number and what the references held before
-abbrev pub of_transport : Transported → Float → ℕ → Told
-of_transport (says.Plan t c) x n = told 0 t c
-of_transport (says.Refused k) x n = told k x n
+abbrev pub of_transport : Result Plan ℕ → Float → ℕ → Told
+of_transport (Ok p) x n = told 0 p.total p.cells
+of_transport (Err k) x n = told k x n
 
 -- what is told, and the rows, columns and masses of the plan
 pub record Left : Type 0 where

@@ -16,8 +16,9 @@ use Rattle.flow_check.proofs.Relists.{listed}
 use Rattle.transport_theory.specs.Links.{links, heads, caps, prices}
 use Rattle.transport_theory.specs.Transport.{Shipment, shipped, plan, bills, transport}
 use Rattle.transport_theory.proofs.Networks.{links_length, heads_length, caps_length, prices_length, heads_inside, links_inside, cells_few, moved_in}
-use Rattle.transport_theory.proofs.PlanRows.{Plannable, Planned}
-use Rattle.transport_theory.proofs.TransportRows.{Carried, Loadable, Transported}
+use Rattle.transport_theory.proofs.PlanRows.{Planned}
+use Rattle.std.specs.Prelude.{Option}
+use Rattle.transport_theory.proofs.TransportRows.{Carried, Loadable, Readied, Spelled, Transported}
 use Rattle.transport_theory.proofs.Writing.{Written, has_room, wrote, write}
 use Rattle.transport_theory.proofs.Sending.{listable, sendable, rows_shipped, Sent, sent, send_if, send}
 
@@ -70,11 +71,11 @@ module _ {a b costs : List Float} {H : List ℕ} {c p : List Float} {list rows c
   unfolding shipped
   run_is = rw (C.heads_is, C.caps_is, C.prices_is, add-one (m + n))
 
-  module _ {d : Bool} {x : Float} {c' : List Float} {l' : List ℕ} (S : sent d x c' l' ≡ send a b H c p list) where
+  module _ {x : Option Float} {c' : List Float} {l' : List ℕ} (S : sent x c' l' ≡ send a b H c p list) where
     cap_is : c' ≡ (shipped a b costs).cap
     cap_is = ap (λ (r : Sent). r.caps) (S ∙ ap (λ (t : Bool). send_if t a b H c p list) can) ∙ ap (λ (r : Shipment). r.cap) run_is
 
-    pub plannable : length c' ≡ length c → Plannable c' (2 * (m + n)) m n costs rows columns masses
+    pub plannable : length c' ≡ length c → Readied a b costs c' rows columns masses
     plannable z =
         let l = caps_size in
         let f = C.base.few_a in let g = C.base.few_b in
@@ -90,7 +91,7 @@ module _ {a b costs : List Float} {H : List ℕ} {c p : List Float} {list rows c
         }
 
     pub planned : {y : Float} {t : ℕ} {rows' columns' : List ℕ} {masses' : List Float}
-        → Planned (plan n (2 * (m + n)) c' (m * n) 0) (sum (bills (2 * (m + n)) c' (take (m * n) costs) 0)) rows columns masses y t rows' columns' masses'
+        → Spelled a b costs c' rows columns masses y t rows' columns' masses'
         → Transported a b costs rows columns masses y t rows' columns' masses'
     unfolding transport
     planned {y} {t} {rows'} {columns'} {masses'} P =

@@ -1,7 +1,6 @@
 -- What the checks of `transport` decide, and what the answer is then.
-use mathlib.Core.Path.{◌≡◌, refl, sym, ap, ◌∙◌}
-use mathlib.Core.Logic.{◌≢◌}
-use Prim.Native.Nat.{ℕ, zero, suc, ◌*◌, ◌≤◌, ◌<◌}
+use mathlib.Core.Path.{◌≡◌, sym, ap, ◌∙◌}
+use Prim.Native.Nat.{ℕ, ◌*◌, ◌≤◌, ◌<◌}
 use mathlib.Core.Bool.{Bool, true, false, not, ◌&&◌, true≢false}
 use mathlib.Core.List.{List}
 use native.Mathlib.Omega.{arith}
@@ -16,10 +15,8 @@ use Rattle.numbers.specs.Refuse.{check}
 use Rattle.numbers.proofs.Bools.{and_t, or_f}
 use Rattle.numbers.proofs.Refuses.{check_hit, check_skip, check_none}
 use Rattle.transport_theory.specs.Refusal.{short, fits, masses_fit, costs_fit, unequal, transport_refusal}
-use Rattle.transport_theory.specs.Transport.{transport}
-use Rattle.transport_theory.proofs.TransportRows.{Roomy, Transported}
-use Rattle.transport.specs.Outcome.{ends, settled, size_refusal}
-use Rattle.transport.specs.declared.entry.Transported.TheVariants as says
+use Rattle.transport_theory.proofs.TransportRows.{Roomy}
+use Rattle.transport.specs.Outcome.{size_refusal}
 
 -- the product itself where it is not too large
 pub product_in : (places m n : ℕ) → ltb places (m * n) ≡ false → m * n ≤ places
@@ -67,16 +64,6 @@ module _ (a b costs : List Float) (rows columns : List ℕ) (masses : List Float
   fits_in h f g =
       let (c, r, k, m) = long_enough (length a) (length b) (length costs) (length rows) (length columns) (length masses) h in
       record { few_a = leb-true (length a) 32 f; few_b = leb-true (length b) 32 g; enough = c; rows_room = r; columns_room = k; masses_room = m }
-
-  -- the number of a refusal, and nothing changed
-  pub refuses : (n k : ℕ) → k ≡ n → k ≢ 0 → ends (says.Refused k) rows columns masses ≡ settled n (transport a b costs) rows columns masses
-  refuses n zero e h = absurd (h refl)
-  refuses n (suc k) e h = ap (λ (j : ℕ). settled j (transport a b costs) rows columns masses) e
-
-  -- no refusal: the plan
-  pub answered : (n : ℕ) → n ≡ 0 → {x : Float} {t : ℕ} {rows' columns' : List ℕ} {masses' : List Float} → Transported a b costs rows columns masses x t rows' columns' masses'
-      → ends (says.Plan x t) rows' columns' masses' ≡ settled n (transport a b costs) rows columns masses
-  answered n z T = rw (z, T.total_is, T.cells_is, T.rows_is, T.columns_is, T.masses_is)
 
   pub roomy : (right : Bool) → transport_refusal right a b (length costs) (length rows) (length columns) (length masses) ≡ 0 → Roomy a b costs rows columns masses
   unfolding masses_fit

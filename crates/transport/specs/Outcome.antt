@@ -1,27 +1,26 @@
 -- What `transport` answers, and what it leaves in the plan's columns.
-use Rattle.std.specs.Prelude.{ℕ, zero, suc, Bool, not, ◌&&◌, List, map, length, leb, Float}
+use Rattle.std.specs.Prelude.{ℕ, zero, suc, Bool, not, ◌&&◌, List, map, length, leb, Float, Result, Ok, Err}
 use Rattle.numbers.specs.Lists.{over}
 use Rattle.numbers.specs.Refuse.{check}
 use Rattle.transport_theory.specs.Transport.{Cell, Transport, transport}
 use Rattle.transport_theory.specs.Refusal.{short, transport_refusal}
-use Rattle.transport.specs.declared.entry.Transported.{Transported}
-use Rattle.transport.specs.declared.entry.Transported.TheVariants as says
+use Rattle.transport.specs.declared.plan.Plan.{Plan}
 
--- the answer, and the rows, columns and masses of the plan
+-- the answer, a refusal by its number, and the rows, columns and masses of the plan
 pub record Outcome : Type 0 where
-  pub answer : Transported
+  pub answer : Result Plan ℕ
   pub rows : List ℕ
   pub columns : List ℕ
   pub masses : List Float
 
-abbrev pub ends : Transported → List ℕ → List ℕ → List Float → Outcome
+abbrev pub ends : Result Plan ℕ → List ℕ → List ℕ → List Float → Outcome
 ends r i j x = record { answer = r; rows = i; columns = j; masses = x }
 
 -- no refusal: the cost of the plan and its number of cells, and the cells over the front of the columns; a refusal leaves these as they were
 abbrev pub settled : ℕ → Transport → List ℕ → List ℕ → List Float → Outcome
 settled zero t i j x =
-    ends (says.Plan t.total (length t.plan)) (over (map (λ (c : Cell). c.row) t.plan) i) (over (map (λ (c : Cell). c.column) t.plan) j) (over (map (λ (c : Cell). c.mass) t.plan) x)
-settled (suc k) t i j x = ends (says.Refused (suc k)) i j x
+    ends (Ok (record { total = t.total; cells = length t.plan })) (over (map (λ (c : Cell). c.row) t.plan) i) (over (map (λ (c : Cell). c.column) t.plan) j) (over (map (λ (c : Cell). c.mass) t.plan) x)
+settled (suc k) t i j x = ends (Err (suc k)) i j x
 
 -- masses a and b, the costs, and the columns that are lent; `right` says whether the costs fit
 abbrev pub transport_on : Bool → List Float → List Float → List Float → List ℕ → List ℕ → List Float → Outcome

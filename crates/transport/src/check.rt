@@ -1,12 +1,15 @@
 // Refusals of `transport`.
 ghost use Rattle.std.specs.Prelude.{◌≡◌, not, ◌*◌, ltb, length};
 ghost use Rattle.numbers.specs.Lists.{all};
+ghost use Rattle.numbers.specs.Refuse.{code};
 ghost use Rattle.numbers.specs.Real.{sum};
-ghost use Rattle.transport_theory.specs.Refusal;
-ghost use Rattle.transport_theory.specs.Refusal.{fits, masses_fit, costs_fit, unequal, transport_refusal};
+ghost use Rattle.transport_theory.specs.Refusal.{short, fits, masses_fit, costs_fit, unequal, transport_refusal};
 ghost use Rattle.transport.specs.Outcome.{size_refusal};
 
+use crate::plan::PlanRows;
+use numbers::refusal::Refusal;
 use numbers::{GREATEST_WEIGHT, ONE, Real, SLACK, apart, larger};
+use transport_theory::Masses;
 
 // Fewer than m times n places.
 fn lacks(places: usize, m: usize, n: usize) -> bool
@@ -16,10 +19,14 @@ fn lacks(places: usize, m: usize, n: usize) -> bool
 }
 
 // A list that is lent is short.
-fn short(m: usize, n: usize, costs: usize, rows: usize, columns: usize, masses: usize) -> bool
-    ensures { result ≡ Refusal.short m n costs rows columns masses }
+fn short(of: &Masses, plan: &PlanRows) -> bool
+    ensures { result ≡ short (length of.now.left.now) (length of.now.right.now) (length of.now.costs.now) (length plan.now.rows.now) (length plan.now.columns.now) (length plan.now.masses.now) }
 {
-    lacks(costs, m, n) || lacks(rows, m, n) || lacks(columns, m, n) || lacks(masses, m, n)
+    let (m, n) = (of.left.len(), of.right.len());
+    lacks(of.costs.len(), m, n)
+        || lacks(plan.rows.len(), m, n)
+        || lacks(plan.columns.len(), m, n)
+        || lacks(plan.masses.len(), m, n)
 }
 
 // A mass or a cost from 0 to 2^40.
@@ -37,69 +44,58 @@ fn values_fit(xs: &[f64]) -> bool
 }
 
 // At most 32 masses on a side, each from 0 to 2^40.
-fn masses_fit(a: &[f64], b: &[f64]) -> bool
-    ensures { result ≡ masses_fit a.now b.now }
+fn masses_fit(of: &Masses) -> bool
+    ensures { result ≡ masses_fit of.now.left.now of.now.right.now }
 {
-    a.len() <= 32 && b.len() <= 32 && values_fit(a) && values_fit(b)
+    of.left.len() <= 32 && of.right.len() <= 32 && values_fit(of.left) && values_fit(of.right)
 }
 
 // Each cell's cost, as far as there are costs, is from 0 to 2^40.
-pub(crate) fn costs_fit(m: usize, n: usize, costs: &[f64]) -> bool
-    ensures { result ≡ costs_fit m n costs.now }
+fn costs_fit(of: &Masses) -> bool
+    ensures { result ≡ costs_fit (length of.now.left.now) (length of.now.right.now) of.now.costs.now }
 {
-    if lacks(costs.len(), m, n) {
-        return values_fit(costs);
+    let m = of.left.len();
+    let n = of.right.len();
+    if lacks(of.costs.len(), m, n) {
+        return values_fit(of.costs);
     }
-    values_fit(&costs[..m * n])
+    values_fit(&of.costs[..m * n])
 }
 
 // The totals differ by too much.
-fn uneven(ta: f64, tb: f64) -> bool
-    ensures { result ≡ unequal ta tb }
+fn uneven(of: &Masses) -> bool
+    ensures { result ≡ unequal (sum of.now.left.now) (sum of.now.right.now) }
 {
+    let ta = Real::sum(of.left).value();
+    let tb = Real::sum(of.right).value();
     SLACK * larger(ta, ONE) < apart(ta, tb)
 }
 
-// The first check that fails, 0 where none does; `right` says whether the costs fit.
-pub(crate) fn refusal(
-    right: bool,
-    a: &[f64],
-    b: &[f64],
-    costs: usize,
-    rows: usize,
-    columns: usize,
-    masses: usize,
-) -> u32
-    ensures { result ≡ transport_refusal right a.now b.now costs rows columns masses }
+// The first check that fails.
+pub(crate) fn refusal(of: &Masses, plan: &PlanRows) -> Result<(), Refusal>
+    ensures { code result ≡ transport_refusal (costs_fit (length of.now.left.now) (length of.now.right.now) of.now.costs.now) of.now.left.now of.now.right.now (length of.now.costs.now) (length plan.now.rows.now) (length plan.now.columns.now) (length plan.now.masses.now) }
 {
-    if short(a.len(), b.len(), costs, rows, columns, masses) {
-        return 7;
+    if short(of, plan) {
+        return Err(Refusal::Store);
     }
-    if !masses_fit(a, b) || !right {
-        return 15;
+    if !masses_fit(of) || !costs_fit(of) {
+        return Err(Refusal::NetworkOrMasses);
     }
-    if uneven(Real::sum(a).value(), Real::sum(b).value()) {
-        return 16;
+    if uneven(of) {
+        return Err(Refusal::Totals);
     }
-    0
+    Ok(())
 }
 
-// The first check of the sizes that fails, 0 where none does.
-pub(crate) fn size_refusal(
-    m: usize,
-    n: usize,
-    costs: usize,
-    rows: usize,
-    columns: usize,
-    masses: usize,
-) -> u32
-    ensures { result ≡ size_refusal m n costs rows columns masses }
+// The first check of the sizes that fails.
+pub(crate) fn size_refusal(of: &Masses, plan: &PlanRows) -> Result<(), Refusal>
+    ensures { code result ≡ size_refusal (length of.now.left.now) (length of.now.right.now) (length of.now.costs.now) (length plan.now.rows.now) (length plan.now.columns.now) (length plan.now.masses.now) }
 {
-    if short(m, n, costs, rows, columns, masses) {
-        return 7;
+    if short(of, plan) {
+        return Err(Refusal::Store);
     }
-    if m > 32 || n > 32 {
-        return 15;
+    if of.left.len() > 32 || of.right.len() > 32 {
+        return Err(Refusal::NetworkOrMasses);
     }
-    0
+    Ok(())
 }

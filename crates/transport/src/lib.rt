@@ -1,7 +1,7 @@
 // `transport` of flow.rs: a plan that takes one list of masses to another, by successive shortest paths.
 #![tactic(auto)]
 
-mod plan; // plan.rt: the plan
+pub mod plan; // plan.rt: the plan
 mod whole; // whole.rt: links, rounds and plan
 mod check; // check.rt: refusals
 pub mod entry; // entry.rt: `transport`

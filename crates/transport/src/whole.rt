@@ -1,93 +1,67 @@
 // The whole of `transport` below the checks: the links in rows, the rounds, the plan.
 ghost use Rattle.std.specs.Prelude.{◌+◌, ◌*◌, ◌≤◌, length};
 ghost use Rattle.transport_theory.proofs.TransportRows.{Roomy, Carried, Loadable, Transported};
+ghost use Rattle.transport.specs.Lent.{same_columns};
 
-use crate::plan;
-use crate::plan::Plan;
-use transport_core::rows::ship_rows;
-use transport_links::links;
+use crate::plan::{Plan, PlanRows, write_plan};
+use transport_core::rows::{Links, ship_rows};
+use transport_links::links::{LinkRows, write_links};
+use transport_theory::Masses;
 
 // The rounds on the links of these masses, and the plan.
 fn plan_links(
-    a: &[f64],
-    b: &[f64],
-    costs: &[f64],
-    heads: &[u32],
+    of: &Masses,
+    links: &Links,
     caps: &mut [f64],
-    prices: &[f64],
     list: &mut [u32],
-    rows: &mut [u32],
-    columns: &mut [u32],
-    masses: &mut [f64],
+    plan: &mut PlanRows,
 ) -> Plan
-    requires { Carried a.now b.now costs.now heads.now caps.old prices.now list.old rows.old columns.old masses.old }
-    ensures { Transported a.now b.now costs.now rows.old columns.old masses.old result.total result.cells rows.new columns.new masses.new }
+    requires { Carried of.now.left.now of.now.right.now of.now.costs.now links.now.heads.now caps.old links.now.prices.now list.old plan.old.rows.now plan.old.columns.now plan.old.masses.now }
+    ensures transported { Transported of.now.left.now of.now.right.now of.now.costs.now plan.old.rows.now plan.old.columns.now plan.old.masses.now result.total result.cells plan.new.rows.now plan.new.columns.now plan.new.masses.now }
+    ensures same { same_columns plan.old plan.new }
 {
-    ship_rows(a, b, heads, caps, prices, list);
-    let m = a.len();
-    let n = b.len();
-    plan::write_plan(caps, 2 * (m + n), m, n, costs, rows, columns, masses)
+    ship_rows(of.left, of.right, links, caps, list);
+    write_plan(of, caps, plan)
 }
 
-// The same over lent rows with room for the links.
-fn transport_in(
-    a: &[f64],
-    b: &[f64],
-    costs: &[f64],
-    heads: &mut [u32],
-    caps: &mut [f64],
-    prices: &mut [f64],
-    list: &mut [u32],
-    rows: &mut [u32],
-    columns: &mut [u32],
-    masses: &mut [f64],
-) -> Plan
-    requires { Loadable a.now b.now costs.now heads.old caps.old prices.old list.old rows.old columns.old masses.old }
-    ensures { Transported a.now b.now costs.now rows.old columns.old masses.old result.total result.cells rows.new columns.new masses.new }
+// The same over rows with room for the links.
+fn transport_in(of: &Masses, rows: LinkRows, list: &mut [u32], plan: &mut PlanRows) -> Plan
+    requires { Loadable of.now.left.now of.now.right.now of.now.costs.now rows.heads.now rows.caps.now rows.prices.now list.old plan.old.rows.now plan.old.columns.now plan.old.masses.now }
+    ensures transported { Transported of.now.left.now of.now.right.now of.now.costs.now plan.old.rows.now plan.old.columns.now plan.old.masses.now result.total result.cells plan.new.rows.now plan.new.columns.now plan.new.masses.now }
+    ensures same { same_columns plan.old plan.new }
 {
-    let places = 2 * (a.len() + b.len() + a.len() * b.len());
-    links::write_links(a, b, costs, heads, caps, prices);
-    plan_links(
-        a,
-        b,
-        costs,
-        &heads[..places],
-        &mut caps[..places],
-        &prices[..places],
-        list,
-        rows,
-        columns,
-        masses,
-    )
+    let m = of.left.len();
+    let n = of.right.len();
+    let places = 2 * (m + n + m * n);
+    let mut written = rows;
+    write_links(of, &mut written);
+    let LinkRows {
+        heads,
+        caps,
+        prices,
+    } = written;
+    let links = Links {
+        heads: &heads[..places],
+        prices: &prices[..places],
+    };
+    plan_links(of, &links, &mut caps[..places], list, plan)
 }
 
 // With N places for the links and their reverses.
-pub(crate) fn transport_with<const N: usize>(
-    a: &[f64],
-    b: &[f64],
-    costs: &[f64],
-    rows: &mut [u32],
-    columns: &mut [u32],
-    masses: &mut [f64],
-) -> Plan
-    requires roomy { Roomy a.now b.now costs.now rows.old columns.old masses.old }
-    requires places { (2 * (length a.now + length b.now + length a.now * length b.now) ≤ N) × (N ≤ 2176) }
-    ensures { Transported a.now b.now costs.now rows.old columns.old masses.old result.total result.cells rows.new columns.new masses.new }
+pub(crate) fn transport_with<const N: usize>(of: &Masses, plan: &mut PlanRows) -> Plan
+    requires roomy { Roomy of.now.left.now of.now.right.now of.now.costs.now plan.old.rows.now plan.old.columns.now plan.old.masses.now }
+    requires places { (2 * (length of.now.left.now + length of.now.right.now + length of.now.left.now * length of.now.right.now) ≤ N) × (N ≤ 2176) }
+    ensures transported { Transported of.now.left.now of.now.right.now of.now.costs.now plan.old.rows.now plan.old.columns.now plan.old.masses.now result.total result.cells plan.new.rows.now plan.new.columns.now plan.new.masses.now }
+    ensures same { same_columns plan.old plan.new }
 {
     let mut heads = [0u32; N];
     let mut caps = [0.0f64; N];
     let mut prices = [0.0f64; N];
     let mut list = [0u32; N];
-    transport_in(
-        a,
-        b,
-        costs,
-        &mut heads,
-        &mut caps,
-        &mut prices,
-        &mut list,
-        rows,
-        columns,
-        masses,
-    )
+    let rows = LinkRows {
+        heads: &mut heads,
+        caps: &mut caps,
+        prices: &mut prices,
+    };
+    transport_in(of, rows, &mut list, plan)
 }

@@ -1,43 +1,29 @@
 // The path to the sink, walked back along the links of the search, and the push along it.
-ghost use Rattle.flow_theory.specs.Rows.{network};
 ghost use Rattle.flow_theory.specs.Augment;
 ghost use Rattle.flow_theory.proofs.PathRows.{Placed};
+ghost use Rattle.flow_check.specs.Lent.{net_of};
 ghost use Rattle.transport_theory.proofs.WalkRows.{Walkable, Walked};
-ghost use Rattle.std.specs.Prelude.{◌≡◌, length, take};
+ghost use Rattle.std.specs.Prelude.{◌≡◌};
 
-// What a walk back comes to: whether it ends at the source, and how many links are on the path.
-#[derive(Clone, Copy)]
-pub struct Trail {
-    pub home: bool,
-    pub length: usize,
-}
+use flow_check::{Ends, Network};
 
-// Walks back from the sink to the source, over at most one link more than there are nodes.
-pub(crate) fn walk(
-    heads: &[u32],
-    via: &[usize],
-    source: usize,
-    sink: usize,
-    path: &mut [usize],
-) -> Trail
-    requires { Walkable (network heads.now (length via.now) source sink) via.now path.old }
-    ensures { Walked (network heads.now (length via.now) source sink) via.now path.new result.home result.length }
+// Walks back from the sink to the source: how many links that takes, at most one more than there are nodes; none if it does not come to the source.
+pub(crate) fn walk(net: &Network, ends: Ends, via: &[usize], path: &mut [usize]) -> Option<usize>
+    requires { Walkable (net_of net.now ends) via.now path.old }
+    ensures { Walked (net_of net.now ends) via.now path.new result }
 {
-    let mut v = sink;
+    let mut v = ends.sink;
     let mut length: usize = 0;
-    while v != source {
-        if via.len() < length {
-            return Trail {
-                home: false,
-                length,
-            };
+    while v != ends.source {
+        if net.nodes < length {
+            return None;
         }
         let e = via[v];
         path[length] = e;
         length += 1;
-        v = heads[e ^ 1] as usize;
+        v = net.heads[e ^ 1] as usize;
     }
-    Trail { home: true, length }
+    Some(length)
 }
 
 // The least of x and the capacities on the path.

@@ -1,41 +1,39 @@
 // The rounds on links in rows: these are checked, listed by node, and sailed.
-ghost use Rattle.std.specs.Prelude.{◌≡◌, ◌&&◌, ◌+◌, ◌≤◌, leb, eqb, length};
-ghost use Rattle.transport_theory.proofs.RoundRows.{row_roads, Sailable, Shipped};
+ghost use Rattle.std.specs.Prelude.{◌≡◌, ◌+◌, ◌≤◌, length};
+ghost use Rattle.transport_theory.proofs.RoundRows.{roads_of, Sailable, Shipped};
 ghost use Rattle.transport_theory.proofs.TransportRows.{shipped_rows};
 ghost use Rattle.transport_theory.proofs.Sending.{sizes_fit, sent, send};
 
 use crate::run;
-use flow_check::check;
+use flow_check::{Ends, Network, check};
 use numbers::{EPS, ONE, Real, larger, smaller};
 
+// What a run only reads of its links: the node where each ends, and its cost.
+#[derive(Clone, Copy, Debug)]
+pub struct Links<'a> {
+    pub heads: &'a [u32],
+    pub prices: &'a [f64],
+}
+
 // The rounds on links that are listed by node; gives what remains.
-fn ship_listed(
-    a: &[f64],
-    b: &[f64],
-    heads: &[u32],
-    caps: &mut [f64],
-    prices: &[f64],
-    starts: &[u32; 67],
-    list: &[u32],
-) -> f64
-    requires a_len_bound { (length a.now ≤ 32) × (length b.now ≤ 32) }
-    requires sailable { Sailable (row_roads heads.now prices.now (length a.now + length b.now + 2) (length a.now + length b.now) (length a.now + length b.now + 1)) starts.now list.now caps.old }
-    ensures { Shipped (shipped_rows a.now b.now heads.now caps.old prices.now) result caps.new }
+fn ship_listed(left: &[f64], right: &[f64], net: &Network, caps: &mut [f64]) -> f64
+    requires few { (length left.now ≤ 32) × (length right.now ≤ 32) }
+    requires nodes { net.now.nodes ≡ length left.now + length right.now + 2 }
+    requires sailable { Sailable (roads_of net.now (record { source = length left.now + length right.now; sink = length left.now + length right.now + 1 })) net.now.starts.now net.now.list.now caps.old }
+    ensures { Shipped (shipped_rows left.now right.now net.now.heads.now caps.old net.now.costs.now) result caps.new }
 {
-    let m = a.len();
-    let n = b.len();
-    let source = m + n;
-    let ta = Real::sum(a).value();
-    let tb = Real::sum(b).value();
+    let m = left.len();
+    let n = right.len();
+    let ends = Ends {
+        source: m + n,
+        sink: m + n + 1,
+    };
+    let ta = Real::sum(left).value();
+    let tb = Real::sum(right).value();
     run::ship(
-        heads,
+        net,
+        ends,
         caps,
-        prices,
-        starts,
-        list,
-        source + 2,
-        source,
-        source + 1,
         smaller(ta, tb),
         EPS * larger(ta, ONE),
         4 * (m * n + m + n) + 16,
@@ -43,42 +41,37 @@ fn ship_listed(
 }
 
 // At most 32 masses on a side, and a capacity and a cost for each link.
-fn sizes_fit(m: usize, n: usize, heads: usize, caps: usize, prices: usize) -> bool
-    ensures { result ≡ sizes_fit m n heads caps prices }
+fn sizes_fit(left: &[f64], right: &[f64], links: &Links, caps: &[f64]) -> bool
+    ensures { result ≡ sizes_fit (length left.now) (length right.now) (length links.now.heads.now) (length caps.now) (length links.now.prices.now) }
 {
-    m <= 32 && n <= 32 && caps == heads && prices == heads
+    let count = links.heads.len();
+    left.len() <= 32 && right.len() <= 32 && caps.len() == count && links.prices.len() == count
 }
 
-// What the rounds come to: whether they were made, and what remains then.
-#[derive(Clone, Copy)]
-pub struct Sent {
-    pub done: bool,
-    pub remaining: f64,
-}
-
-// The rounds of `transport` between masses a and b on links in rows: the capacities are left as the rounds leave them, and the list has the links by node. Where the links do not fit, both stay as they were.
+// The rounds of `transport` between two lists of masses on links in rows; gives what remains. The capacities are left as the rounds leave them, and the list has the links by node. Where the links do not fit, both stay as they were.
 pub fn ship_rows(
-    a: &[f64],
-    b: &[f64],
-    heads: &[u32],
+    left: &[f64],
+    right: &[f64],
+    links: &Links,
     caps: &mut [f64],
-    prices: &[f64],
     list: &mut [u32],
-) -> Sent
-    ensures { sent result.done result.remaining caps.new list.new ≡ send a.now b.now heads.now caps.old prices.now list.old }
+) -> Option<f64>
+    ensures { sent result caps.new list.new ≡ send left.now right.now links.now.heads.now caps.old links.now.prices.now list.old }
 {
-    if sizes_fit(a.len(), b.len(), heads.len(), caps.len(), prices.len()) {
-        let mut starts = [0u32; 67];
-        if check::node_lists(heads, a.len() + b.len() + 2, &mut starts, list) {
-            let remaining = ship_listed(a, b, heads, caps, prices, &starts, list);
-            return Sent {
-                done: true,
-                remaining,
-            };
-        }
+    if !sizes_fit(left, right, links, caps) {
+        return None;
     }
-    Sent {
-        done: false,
-        remaining: 0.0,
+    let nodes = left.len() + right.len() + 2;
+    let mut starts = [0u32; 67];
+    if !check::node_lists(links.heads, nodes, &mut starts, list) {
+        return None;
     }
+    let net = Network {
+        heads: links.heads,
+        costs: links.prices,
+        starts: &starts,
+        list,
+        nodes,
+    };
+    Some(ship_listed(left, right, &net, caps))
 }

@@ -1,34 +1,40 @@
 // Bellman-Ford: how far each node is from the source, over links with capacity left, and the link that leads to it.
+ghost use Rattle.std.specs.Prelude.{◌≡◌, length};
 ghost use Rattle.transport_theory.proofs.SearchRows.{Relaxable, Relaxed, Passable, Passed, Searched};
 
+use flow_check::Network;
 use numbers::{EPS, MARGIN};
 use transport_theory::is_infinite;
 
-// Tries the links `list[from..to]`, which leave u: a head that is nearer over u by more than the margin gets that distance. Gives whether there was any, or had been before.
+// What a search fills: the distance of each node, and the link that leads to it.
+#[derive(Debug, Drop)]
+pub(crate) struct Tree<'a> {
+    pub(crate) dist: &'a mut [f64],
+    pub(crate) via: &'a mut [usize],
+}
+
+// Tries the links that leave u: a head that is nearer over u by more than the margin gets that distance. Gives whether there was any, or had been before.
 fn relax(
-    heads: &[u32],
+    net: &Network,
     caps: &[f64],
-    costs: &[f64],
-    list: &[u32],
-    from: usize,
-    to: usize,
+    links: &[u32],
     u: usize,
-    dist: &mut [f64],
-    via: &mut [usize],
+    tree: &mut Tree,
     before: bool,
 ) -> bool
-    requires { Relaxable heads.now list.now caps.now costs.now from to u dist.old via.old }
-    ensures { Relaxed heads.now list.now caps.now costs.now from to u dist.old via.old before dist.new via.new result }
+    requires { Relaxable net.now.heads.now links.now caps.now net.now.costs.now u tree.old.dist.now tree.old.via.now }
+    ensures relaxed { Relaxed net.now.heads.now links.now caps.now net.now.costs.now u tree.old.dist.now tree.old.via.now before tree.new.dist.now tree.new.via.now result }
+    ensures sizes { (length tree.new.dist.now ≡ length tree.old.dist.now) × (length tree.new.via.now ≡ length tree.old.via.now) }
 {
     let mut changed = before;
-    for j in from..to {
-        let e = list[j] as usize;
-        let v = heads[e] as usize;
+    for link in links {
+        let e = *link as usize;
+        let v = net.heads[e] as usize;
         if caps[e] > EPS {
-            let d = dist[u] + costs[e];
-            if d < dist[v] - MARGIN {
-                dist[v] = d;
-                via[v] = e;
+            let d = tree.dist[u] + net.costs[e];
+            if d < tree.dist[v] - MARGIN {
+                tree.dist[v] = d;
+                tree.via[v] = e;
                 changed = true;
             }
         }
@@ -37,44 +43,29 @@ fn relax(
 }
 
 // All nodes in order, those that are reached; gives whether a distance has changed.
-fn pass(
-    heads: &[u32],
-    caps: &[f64],
-    costs: &[f64],
-    starts: &[u32; 67],
-    list: &[u32],
-    dist: &mut [f64],
-    via: &mut [usize],
-) -> bool
-    requires { Passable heads.now list.now starts.now caps.now costs.now dist.old via.old }
-    ensures { Passed heads.now list.now starts.now caps.now costs.now dist.old via.old dist.new via.new result }
+fn pass(net: &Network, caps: &[f64], tree: &mut Tree) -> bool
+    requires { Passable net.now.heads.now net.now.list.now net.now.starts.now caps.now net.now.costs.now tree.old.dist.now tree.old.via.now }
+    ensures passed { Passed net.now.heads.now net.now.list.now net.now.starts.now caps.now net.now.costs.now tree.old.dist.now tree.old.via.now tree.new.dist.now tree.new.via.now result }
+    ensures sizes { (length tree.new.dist.now ≡ length tree.old.dist.now) × (length tree.new.via.now ≡ length tree.old.via.now) }
 {
     let mut changed = false;
-    for u in 0..dist.len() {
-        if !is_infinite(dist[u]) {
-            let from = starts[u] as usize;
-            let to = starts[u + 1] as usize;
-            changed = relax(heads, caps, costs, list, from, to, u, dist, via, changed);
+    for u in 0..tree.dist.len() {
+        if !is_infinite(tree.dist[u]) {
+            let from = net.starts[u] as usize;
+            let to = net.starts[u + 1] as usize;
+            changed = relax(net, caps, &net.list[from..to], u, tree, changed);
         }
     }
     changed
 }
 
 // At most as many passes as there are nodes, up to one that changes nothing.
-pub(crate) fn search(
-    heads: &[u32],
-    caps: &[f64],
-    costs: &[f64],
-    starts: &[u32; 67],
-    list: &[u32],
-    dist: &mut [f64],
-    via: &mut [usize],
-)
-    requires { Passable heads.now list.now starts.now caps.now costs.now dist.old via.old }
-    ensures { Searched heads.now list.now starts.now caps.now costs.now dist.old via.old dist.new via.new }
+pub(crate) fn search(net: &Network, caps: &[f64], tree: &mut Tree)
+    requires { Passable net.now.heads.now net.now.list.now net.now.starts.now caps.now net.now.costs.now tree.old.dist.now tree.old.via.now }
+    ensures { Searched net.now.heads.now net.now.list.now net.now.starts.now caps.now net.now.costs.now tree.old.dist.now tree.old.via.now tree.new.dist.now tree.new.via.now }
 {
-    for _ in 0..dist.len() {
-        if !pass(heads, caps, costs, starts, list, dist, via) {
+    for _ in 0..tree.dist.len() {
+        if !pass(net, caps, tree) {
             return;
         }
     }

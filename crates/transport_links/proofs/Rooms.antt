@@ -29,6 +29,3 @@ module _ (a b costs : List Float) (h : List ℕ) (c p : List Float) where
       let y₅ : 2 * (m + n + m * n) ≤ length c = leb-true (2 * (m + n + m * n)) (length c) x₅ in
       let y₆ : 2 * (m + n + m * n) ≤ length p = leb-true (2 * (m + n + m * n)) (length p) x₆ in
       record { few_a = leb-true m 32 x₁; few_b = leb-true n 32 x₂; enough = e; heads_room = omega arith; caps_room = omega arith; prices_room = omega arith }
-
-  pub counted : has_room (length a) (length b) (length costs) (length h) (length c) (length p) ≡ true → length a + length b + length a * length b ≡ length (links a b costs)
-  counted t = let l = links_length a b costs (writable t).enough in omega arith

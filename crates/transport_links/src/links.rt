@@ -4,117 +4,116 @@ ghost use Rattle.numbers.specs.Lists.{over};
 ghost use Rattle.transport_theory.specs.Links;
 ghost use Rattle.transport_theory.proofs.LinkRows.{link_at, Space, Put, Writable};
 ghost use Rattle.transport_theory.proofs.Writing.{has_room, wrote, write};
+ghost use Rattle.transport_links.specs.Lent.{same_rows};
 
+use flow_check::Edge;
 use numbers::infinity;
+use transport_theory::Masses;
+
+// What the links are written into: a head, a capacity and a cost for each link, and for its reverse after it.
+#[derive(Debug, Drop)]
+pub struct LinkRows<'a> {
+    pub heads: &'a mut [u32],
+    pub caps: &'a mut [f64],
+    pub prices: &'a mut [f64],
+}
 
 // Writes a link at place e, and its reverse after it.
-fn put(
-    heads: &mut [u32],
-    caps: &mut [f64],
-    prices: &mut [f64],
-    e: usize,
-    from: usize,
-    to: usize,
-    cap: f64,
-    cost: f64,
-)
-    requires space { Space heads.old caps.old prices.old e }
-    requires from_bound { (from ≤ 65) × (to ≤ 65) }
-    ensures { Put (record { from = from; to = to; cap = cap; cost = cost }) heads.old caps.old prices.old e heads.new caps.new prices.new }
+fn put(rows: &mut LinkRows, e: usize, link: Edge)
+    requires space { Space rows.old.heads.now rows.old.caps.now rows.old.prices.now e }
+    requires from_bound { (link.from ≤ 65) × (link.to ≤ 65) }
+    ensures put { Put (record { from = link.from; to = link.to; cap = link.cap; cost = link.cost }) rows.old.heads.now rows.old.caps.now rows.old.prices.now e rows.new.heads.now rows.new.caps.now rows.new.prices.now }
+    ensures same { same_rows rows.old rows.new }
 {
     let b = e + 1;
-    heads[e] = to as u32;
-    heads[b] = from as u32;
-    caps[e] = cap;
-    caps[b] = 0.0;
-    prices[e] = cost;
-    prices[b] = -cost;
+    rows.heads[e] = link.to as u32;
+    rows.heads[b] = link.from as u32;
+    rows.caps[e] = link.cap;
+    rows.caps[b] = 0.0;
+    rows.prices[e] = link.cost;
+    rows.prices[b] = -link.cost;
 }
 
 // Writes the k-th link: one from the source, one to the sink, or one between two masses.
-fn put_link(
-    a: &[f64],
-    b: &[f64],
-    costs: &[f64],
-    k: usize,
-    heads: &mut [u32],
-    caps: &mut [f64],
-    prices: &mut [f64],
-)
-    requires writable { Writable a.now b.now costs.now heads.old caps.old prices.old }
-    requires k_in_bounds { k < length (Links.links a.now b.now costs.now) }
-    ensures { Put (link_at (Links.links a.now b.now costs.now) k) heads.old caps.old prices.old (k + k) heads.new caps.new prices.new }
+fn put_link(of: &Masses, k: usize, rows: &mut LinkRows)
+    requires writable { Writable of.now.left.now of.now.right.now of.now.costs.now rows.old.heads.now rows.old.caps.now rows.old.prices.now }
+    requires k_in_bounds { k < length (Links.links of.now.left.now of.now.right.now of.now.costs.now) }
+    ensures put { Put (link_at (Links.links of.now.left.now of.now.right.now of.now.costs.now) k) rows.old.heads.now rows.old.caps.now rows.old.prices.now (k + k) rows.new.heads.now rows.new.caps.now rows.new.prices.now }
+    ensures same { same_rows rows.old rows.new }
 {
-    let m = a.len();
-    let source = m + b.len();
+    let m = of.left.len();
+    let n = of.right.len();
+    let source = m + n;
     if k < m {
-        put(heads, caps, prices, k + k, source, k, a[k], 0.0);
+        let supply = Edge {
+            from: source,
+            to: k,
+            cap: of.left[k],
+            cost: 0.0,
+        };
+        put(rows, k + k, supply);
         return;
     }
     if k < source {
-        put(heads, caps, prices, k + k, k, source + 1, b[k - m], 0.0);
+        let demand = Edge {
+            from: k,
+            to: source + 1,
+            cap: of.right[k - m],
+            cost: 0.0,
+        };
+        put(rows, k + k, demand);
         return;
     }
     let cell = k - source;
-    let row = cell / b.len();
-    let column = cell % b.len();
-    put(
-        heads,
-        caps,
-        prices,
-        k + k,
-        row,
-        m + column,
-        infinity(),
-        costs[cell],
-    );
+    let row = cell / n;
+    let column = cell % n;
+    let crossing = Edge {
+        from: row,
+        to: m + column,
+        cap: infinity(),
+        cost: of.costs[cell],
+    };
+    put(rows, k + k, crossing);
 }
 
 // Writes all links, in the order in which they are added.
-fn put_links(
-    a: &[f64],
-    b: &[f64],
-    costs: &[f64],
-    count: usize,
-    heads: &mut [u32],
-    caps: &mut [f64],
-    prices: &mut [f64],
-)
-    requires writable { Writable a.now b.now costs.now heads.old caps.old prices.old }
-    requires count_value { count ≡ length (Links.links a.now b.now costs.now) }
-    ensures { (heads.new ≡ over (Links.heads (Links.links a.now b.now costs.now)) heads.old) × (caps.new ≡ over (Links.caps (Links.links a.now b.now costs.now)) caps.old) × (prices.new ≡ over (Links.prices (Links.links a.now b.now costs.now)) prices.old) }
+fn put_links(of: &Masses, rows: &mut LinkRows)
+    requires { Writable of.now.left.now of.now.right.now of.now.costs.now rows.old.heads.now rows.old.caps.now rows.old.prices.now }
+    ensures heads { rows.new.heads.now ≡ over (Links.heads (Links.links of.now.left.now of.now.right.now of.now.costs.now)) rows.old.heads.now }
+    ensures caps { rows.new.caps.now ≡ over (Links.caps (Links.links of.now.left.now of.now.right.now of.now.costs.now)) rows.old.caps.now }
+    ensures prices { rows.new.prices.now ≡ over (Links.prices (Links.links of.now.left.now of.now.right.now of.now.costs.now)) rows.old.prices.now }
+    ensures same { same_rows rows.old rows.new }
 {
-    for k in 0..count {
-        put_link(a, b, costs, k, heads, caps, prices);
+    let m = of.left.len();
+    let n = of.right.len();
+    for k in 0..m + n + m * n {
+        put_link(of, k, rows);
     }
 }
 
-// Room for the links of two lists of masses, and a cost for each cell.
-fn has_room(m: usize, n: usize, costs: usize, heads: usize, caps: usize, prices: usize) -> bool
-    ensures { result ≡ has_room m n costs heads caps prices }
+// Room for the links of these masses, and a cost for each cell.
+fn has_room(of: &Masses, rows: &LinkRows) -> bool
+    ensures { result ≡ has_room (length of.now.left.now) (length of.now.right.now) (length of.now.costs.now) (length rows.now.heads.now) (length rows.now.caps.now) (length rows.now.prices.now) }
 {
+    let m = of.left.len();
+    let n = of.right.len();
     if m > 32 || n > 32 {
         return false;
     }
     let most = 2 * (m + n + m * n);
-    m * n <= costs && most <= heads && most <= caps && most <= prices
+    m * n <= of.costs.len()
+        && most <= rows.heads.len()
+        && most <= rows.caps.len()
+        && most <= rows.prices.len()
 }
 
 // Writes the links of `transport` into lent rows; where these have no room, or costs are missing, nothing is written.
-pub fn write_links(
-    a: &[f64],
-    b: &[f64],
-    costs: &[f64],
-    heads: &mut [u32],
-    caps: &mut [f64],
-    prices: &mut [f64],
-) -> bool
-    ensures { wrote result heads.new caps.new prices.new ≡ write a.now b.now costs.now heads.old caps.old prices.old }
+pub fn write_links(of: &Masses, rows: &mut LinkRows) -> bool
+    ensures written { wrote result rows.new.heads.now rows.new.caps.now rows.new.prices.now ≡ write of.now.left.now of.now.right.now of.now.costs.now rows.old.heads.now rows.old.caps.now rows.old.prices.now }
+    ensures same { same_rows rows.old rows.new }
 {
-    let m = a.len();
-    let n = b.len();
-    if has_room(m, n, costs.len(), heads.len(), caps.len(), prices.len()) {
-        put_links(a, b, costs, m + n + m * n, heads, caps, prices);
+    if has_room(of, rows) {
+        put_links(of, rows);
         return true;
     }
     false

@@ -1,7 +1,10 @@
 -- Words of private contracts: a round, and all rounds, over rows.
 use mathlib.Core.Path.{◌≡◌}
 use Prim.Native.Nat.{ℕ, suc, ◌≤◌, ◌<◌}
-use mathlib.Core.Bool.{Bool, true, false}
+use mathlib.Core.Bool.{false}
+use Rattle.std.specs.Prelude.{Option, Some, None}
+use Rattle.flow_check.specs.declared.Network.{Network}
+use Rattle.flow_check.specs.declared.Ends.{Ends}
 use mathlib.Core.List.{List}
 use lib.ListN.{length, replicate}
 use lib.Ieee.{Float, inf}
@@ -20,6 +23,10 @@ use Rattle.transport_theory.proofs.WalkRows.{Walkable}
 abbrev pub row_roads : List ℕ → List Float → ℕ → ℕ → ℕ → Roads
 row_roads H p n s t = record { net = network H n s t; cost = p }
 
+-- those of a network that is lent
+abbrev pub roads_of : Network → Ends → Roads
+roads_of N E = row_roads N.heads.now N.costs.now N.nodes E.source E.sink
+
 abbrev pub shipment : List Float → Float → ℕ → Shipment
 shipment c x k = record { cap = c; remaining = x; rounds = k }
 
@@ -32,28 +39,28 @@ pub record Sailable (R : Roads) (starts list : List ℕ) (c : List Float) : Type
   pub costs_size : length R.cost ≡ links R.net
   pub small : links R.net ≤ 2176
 
--- a round may begin: no node is reached, no link leads anywhere, and there is room for the path
-pub record RoundReady (R : Roads) (starts list : List ℕ) (c d : List Float) (w p : List ℕ) : Type 0 where
+-- a round may begin: no node is reached, and no link leads anywhere
+pub record RoundReady (R : Roads) (starts list : List ℕ) (c d : List Float) (w : List ℕ) : Type 0 where
   pub base : Sailable R starts list c
   pub dist_is : d ≡ replicate (nodes R.net) (inf false)
   pub via_is : w ≡ replicate (nodes R.net) unset
-  pub room : suc (nodes R.net) ≤ length p
 
 -- the sink is reached, and the links of the path to it, and their reverses, have capacities
-pub record Movable (N : Net) (w : List ℕ) (c : List Float) (p : List ℕ) : Type 0 where
-  pub walkable : Walkable N w p
+pub record Movable (N : Net) (w : List ℕ) (c : List Float) : Type 0 where
+  pub walkable : (p : List ℕ) → suc (nodes N) ≤ length p → Walkable N w p
+  pub few : nodes N ≤ 66
   pub caps_size : length c ≡ links N
   pub route_in : (e : ℕ) → In e (route N w (suc (nodes N)) N.sink) → (e < links N) × (rev e < links N)
 
--- a push along the path from capacities c with x remaining, or none, leaves capacities d and y remaining
-abbrev pub Moved : Net → List ℕ → List Float → Float → Bool → Float → List Float → Type 0
-Moved N w c x true y d = (k : ℕ) → move N false w (shipment c x k) ≡ more (shipment d y (suc k))
-Moved N w c x false y d = (k : ℕ) → move N false w (shipment c x k) ≡ done (shipment d y (suc k))
+-- a push along the path from capacities c with x remaining leaves capacities d, and what remains then; or there is none
+abbrev pub Moved : Net → List ℕ → List Float → Float → Option Float → List Float → Type 0
+Moved N w c x (Some y) d = (k : ℕ) → move N false w (shipment c x k) ≡ more (shipment d y (suc k))
+Moved N w c x None d = (k : ℕ) → move N false w (shipment c x k) ≡ done (shipment d x (suc k))
 
--- a round from capacities c with x remaining goes on, or breaks off, with capacities d and y remaining
-abbrev pub Turned : Roads → List Float → Float → Bool → Float → List Float → Type 0
-Turned R c x true y d = (k : ℕ) → turn R (shipment c x k) ≡ more (shipment d y (suc k))
-Turned R c x false y d = (k : ℕ) → turn R (shipment c x k) ≡ done (shipment d y (suc k))
+-- a round from capacities c with x remaining leaves capacities d, and what remains if it goes on
+abbrev pub Turned : Roads → List Float → Float → Option Float → List Float → Type 0
+Turned R c x (Some y) d = (k : ℕ) → turn R (shipment c x k) ≡ more (shipment d y (suc k))
+Turned R c x None d = (k : ℕ) → turn R (shipment c x k) ≡ done (shipment d x (suc k))
 
 -- the capacities left when the rounds end, and what remains
 pub record Shipped (s : Shipment) (x : Float) (c : List Float) : Type 0 where

@@ -1,10 +1,9 @@
 -- Words of private contracts: what the loops of the search need and leave behind, over rows.
 use mathlib.Core.Path.{◌≡◌}
-use Prim.Native.Nat.{ℕ, ◌≤◌, ◌<◌}
+use Prim.Native.Nat.{ℕ, ◌<◌}
 use mathlib.Core.Bool.{Bool, false}
 use mathlib.Core.List.{List}
 use lib.ListN.{length, get_or}
-use lib.Seq.{slice}
 use lib.Ieee.{Float}
 use Rattle.flow_theory.specs.Network.{nodes}
 use Rattle.flow_theory.proofs.Links.{WellFormed}
@@ -15,11 +14,9 @@ use Rattle.transport_theory.specs.Shortest.{Tree, relax_all, whole_pass, search}
 abbrev pub tree : List Float → List ℕ → Bool → Tree
 tree d w b = record { dist = d; via = w; changed = b }
 
--- the links list[a..b] leave u; each is there, with capacity and cost, and its head has a distance
-pub record Relaxable (H list : List ℕ) (c p : List Float) (a b u : ℕ) (d : List Float) (w : List ℕ) : Type 0 where
-  pub ordered : a ≤ b
-  pub within : b ≤ length list
-  pub links_in : (j : ℕ) → a ≤ j → j < b → get_or list j 0 < length H
+-- these links leave u; each is there, with capacity and cost, and its head has a distance
+pub record Relaxable (H out : List ℕ) (c p : List Float) (u : ℕ) (d : List Float) (w : List ℕ) : Type 0 where
+  pub links_in : (j : ℕ) → j < length out → get_or out j 0 < length H
   pub heads_in : (e : ℕ) → e < length H → get_or H e 0 < length d
   pub caps_size : length c ≡ length H
   pub costs_size : length p ≡ length H
@@ -27,8 +24,8 @@ pub record Relaxable (H list : List ℕ) (c p : List Float) (a b u : ℕ) (d : L
   pub via_size : length w ≡ length d
 
 -- the definition's tree after these links, in any network of these heads and costs
-abbrev pub Relaxed : List ℕ → List ℕ → List Float → List Float → ℕ → ℕ → ℕ → List Float → List ℕ → Bool → List Float → List ℕ → Bool → Type 0
-Relaxed H list c p a b u d w ch d' w' ch' = (R : Roads) → R.net.heads ≡ H → R.cost ≡ p → tree d' w' ch' ≡ relax_all R c u (slice a b list) (tree d w ch)
+abbrev pub Relaxed : List ℕ → List ℕ → List Float → List Float → ℕ → List Float → List ℕ → Bool → List Float → List ℕ → Bool → Type 0
+Relaxed H out c p u d w ch d' w' ch' = (R : Roads) → R.net.heads ≡ H → R.cost ≡ p → tree d' w' ch' ≡ relax_all R c u out (tree d w ch)
 
 -- a network with a cost per link, in rows
 pub record InRoads (R : Roads) (H list starts : List ℕ) (p : List Float) : Type 0 where

@@ -1,17 +1,19 @@
 -- The loops of the search over rows: one link is one `relax` of the definition, one node one `leave`, one pass one `whole_pass`.
-use mathlib.Core.Path.{◌≡◌, refl, sym, ap, ap₂, ◌∙◌}
+use mathlib.Core.Path.{◌≡◌, refl, sym, ap, ap₂, subst, ◌∙◌}
 use mathlib.Core.Bool.{Bool, true, false, ◌&&◌, true≢false}
 use mathlib.Core.Logic.{◌⊎◌, inl, inr}
 use Prim.Native.Nat.{ℕ, suc, ◌+◌, ◌-◌, ◌≤◌, ◌<◌}
 use mathlib.Core.List.{List}
 use native.Mathlib.Omega.{arith}
 use native.Mathlib.Numerals.{add-one}
-use lib.ListN.{length, get_or, set, length-set}
-use lib.Seq.{slice, slice_empty, slice-cons}
+use lib.ListN.{length, get_or, set, take, drop, length-set, drop_of_length-le}
+use lib.Seq.{slice, drop-cons}
 use lib.Ieee.{Float, binary64, nan, lt, add, sub}
 use Rattle.numbers.specs.Real.{margin, eps}
 use Rattle.flow_theory.specs.Network.{nodes, links, head, out, residual, left}
-use Rattle.flow_theory.proofs.Outs.{link_in}
+use Rattle.std.proofs.lemmas.List.{drop-take}
+use Rattle.numbers.specs.Lists.{In}
+use Rattle.numbers.proofs.Members.{in_at}
 use Rattle.transport_theory.specs.Links.{Roads}
 use Rattle.transport_theory.specs.Shortest.{infinite, Tree, far, shorten, along, relax, relax_all, leave, pass, whole_pass, search}
 use Rattle.transport_theory.proofs.SearchRows.{tree, Relaxable, Relaxed, InRoads, Passable, Passed, Searched}
@@ -31,33 +33,32 @@ unfolding relax along head
 relax_is R c u e t H p x y =
     ap₂ (λ (h : List ℕ) (q : List Float). shorten (residual c e && nearer q t.dist u e (get_or h e 0)) (get_or h e 0) e (way q t.dist u e) t) x y
 
-relax_step : (R : Roads) (c : List Float) (u j b : ℕ) (list : List ℕ) (t : Tree) → j < b → b ≤ length list
-    → relax_all R c u (slice j b list) t ≡ relax_all R c u (slice (suc j) b list) (relax R c u (get_or list j 0) t)
+relax_step : (R : Roads) (c : List Float) (u j : ℕ) (out : List ℕ) (t : Tree) → j < length out
+    → relax_all R c u (drop j out) t ≡ relax_all R c u (drop (suc j) out) (relax R c u (get_or out j 0) t)
 unfolding relax_all
-relax_step R c u j b list t lt le = ap (λ (es : List ℕ). relax_all R c u es t) (slice-cons j b list 0 lt le)
+relax_step R c u j out t lt = ap (λ (es : List ℕ). relax_all R c u es t) (drop-cons out j 0 lt)
 
 -- what is still to come of the links leads from this tree to the last one
-pub record Relaxing (H list : List ℕ) (c p : List Float) (a b u : ℕ) (d₀ : List Float) (w₀ : List ℕ) (ch₀ : Bool) (d : List Float) (w : List ℕ) (ch : Bool) (j : ℕ) : Type 0 where
-  pub begun : a ≤ j
-  pub ends : j ≤ b
+pub record Relaxing (H out : List ℕ) (c p : List Float) (u : ℕ) (d₀ : List Float) (w₀ : List ℕ) (ch₀ : Bool) (d : List Float) (w : List ℕ) (ch : Bool) (j : ℕ) : Type 0 where
+  pub ends : j ≤ length out
   pub dist_length : length d ≡ length d₀
   pub via_length : length w ≡ length w₀
-  pub same : (R : Roads) → R.net.heads ≡ H → R.cost ≡ p → relax_all R c u (slice j b list) (tree d w ch) ≡ relax_all R c u (slice a b list) (tree d₀ w₀ ch₀)
+  pub same : (R : Roads) → R.net.heads ≡ H → R.cost ≡ p → relax_all R c u (drop j out) (tree d w ch) ≡ relax_all R c u out (tree d₀ w₀ ch₀)
 
-module _ {H list : List ℕ} {c p : List Float} {a b u : ℕ} {d₀ : List Float} {w₀ : List ℕ} {ch₀ : Bool} (S : Relaxable H list c p a b u d₀ w₀) where
-  pub relax_starts : Relaxing H list c p a b u d₀ w₀ ch₀ d₀ w₀ ch₀ a
-  relax_starts = record { begun = omega arith; ends = S.ordered; dist_length = refl; via_length = refl; same = λ R x y. refl }
+module _ {H out : List ℕ} {c p : List Float} {u : ℕ} {d₀ : List Float} {w₀ : List ℕ} {ch₀ : Bool} (S : Relaxable H out c p u d₀ w₀) where
+  pub relax_starts : Relaxing H out c p u d₀ w₀ ch₀ d₀ w₀ ch₀ 0
+  relax_starts = record { ends = omega arith; dist_length = refl; via_length = refl; same = λ R x y. refl }
 
-  module _ {d : List Float} {w : List ℕ} {ch : Bool} {j : ℕ} (I : Relaxing H list c p a b u d₀ w₀ ch₀ d w ch j) where
-    module _ (more : j < b) where
+  module _ {d : List Float} {w : List ℕ} {ch : Bool} {j : ℕ} (I : Relaxing H out c p u d₀ w₀ ch₀ d w ch j) where
+    module _ (more : j < length out) where
       abbrev e : ℕ
-      e = get_or list j 0
+      e = get_or out j 0
 
       abbrev v : ℕ
       v = get_or H e 0
 
       pub e_in : e < length H
-      e_in = S.links_in j I.begun more
+      e_in = S.links_in j more
 
       pub e_caps : e < length c
       e_caps = rw S.caps_size e_in
@@ -77,25 +78,24 @@ module _ {H list : List ℕ} {c p : List Float} {a b u : ℕ} {d₀ : List Float
       -- the tree after this link
       turned : (s : Bool) → (residual c e && nearer p d u e v) ≡ s → (d' : List Float) (w' : List ℕ) (ch' : Bool)
           → length d' ≡ length d → length w' ≡ length w → tree d' w' ch' ≡ shorten s v e (way p d u e) (tree d w ch)
-          → Relaxing H list c p a b u d₀ w₀ ch₀ d' w' ch' (j + 1)
+          → Relaxing H out c p u d₀ w₀ ch₀ d' w' ch' (j + 1)
       turned t z d' w' ch' l m q = record {
-        begun = let x = I.begun in omega arith;
         ends = omega arith;
         dist_length = l ∙ I.dist_length;
         via_length = m ∙ I.via_length;
         same = λ R x y. rw (add-one j)
-            (ap (relax_all R c u (slice (suc j) b list)) (q ∙ ap (λ (s : Bool). shorten s v e (way p d u e) (tree d w ch)) (sym z) ∙ sym (relax_is R c u e (tree d w ch) H p x y))
-            ∙ sym (relax_step R c u j b list (tree d w ch) more S.within) ∙ I.same R x y);
+            (ap (relax_all R c u (drop (suc j) out)) (q ∙ ap (λ (s : Bool). shorten s v e (way p d u e) (tree d w ch)) (sym z) ∙ sym (relax_is R c u e (tree d w ch) H p x y))
+            ∙ sym (relax_step R c u j out (tree d w ch) more) ∙ I.same R x y);
       }
 
       pub relax_shorter : lt eps (get_or c e nan) ≡ true → nearer p d u e v ≡ true → (d' : List Float) (w' : List ℕ) (ch' : Bool)
-          → d' ≡ set d v (way p d u e) → w' ≡ set w v e → ch' ≡ true → Relaxing H list c p a b u d₀ w₀ ch₀ d' w' ch' (j + 1)
+          → d' ≡ set d v (way p d u e) → w' ≡ set w v e → ch' ≡ true → Relaxing H out c p u d₀ w₀ ch₀ d' w' ch' (j + 1)
       unfolding shorten residual left
       relax_shorter o n d' w' ch' x y z =
           turned true (rw (o, n)) d' w' ch' (ap length x ∙ length-set d v (way p d u e)) (ap length y ∙ length-set w v e) (rw (x, y, z))
 
       pub relax_kept : (lt eps (get_or c e nan) ≡ false) ⊎ (nearer p d u e v ≡ false) → (d' : List Float) (w' : List ℕ) (ch' : Bool)
-          → d' ≡ d → w' ≡ w → ch' ≡ ch → Relaxing H list c p a b u d₀ w₀ ch₀ d' w' ch' (j + 1)
+          → d' ≡ d → w' ≡ w → ch' ≡ ch → Relaxing H out c p u d₀ w₀ ch₀ d' w' ch' (j + 1)
       unfolding shorten residual left
       relax_kept f d' w' ch' x y z = turned false (no (lt eps (get_or c e nan)) (nearer p d u e v) f) d' w' ch' (ap length x) (ap length y) (rw (x, y, z))
         where
@@ -104,12 +104,9 @@ module _ {H list : List ℕ} {c p : List Float} {a b u : ℕ} {d₀ : List Float
           no true t (inr q) = q
           no false t q = refl
 
-    pub relax_ends : b ≤ j → Relaxed H list c p a b u d₀ w₀ ch₀ d w ch
+    pub relax_ends : length out ≤ j → Relaxed H out c p u d₀ w₀ ch₀ d w ch
     unfolding relax_all
-    relax_ends le R x y =
-        let e = I.ends in
-        let z : j ≡ b = omega arith in
-        ap (λ (es : List ℕ). relax_all R c u es (tree d w ch)) (sym (slice_empty b list) ∙ ap (λ (i : ℕ). slice i b list) (sym z)) ∙ I.same R x y
+    relax_ends le R x y = ap (λ (es : List ℕ). relax_all R c u es (tree d w ch)) (sym (drop_of_length-le out le)) ∙ I.same R x y
 
 -- ---- the nodes of a pass
 
@@ -145,18 +142,29 @@ module _ {H list starts : List ℕ} {c p d₀ : List Float} {w₀ : List ℕ} (S
       node_in : u < nodes S.roads.net
       node_in = let a = I.dist_length in let f = S.dist_size in omega arith
 
-      pub relaxable : Relaxable H list c p (get_or starts u 0) (get_or starts (u + 1) 0) u d w
+      pub ordered : (get_or starts u 0 ≤ get_or starts (u + 1) 0) × (get_or starts (u + 1) 0 ≤ length list)
+      ordered = rw (add-one u) (S.laid.laid.ordered u node_in)
+
+      -- the links that leave it
+      abbrev outs : List ℕ
+      outs = take (get_or starts (u + 1) 0 - get_or starts u 0) (drop (get_or starts u 0) list)
+
+      part_is : (a b : ℕ) → a ≤ b → take (b - a) (drop a list) ≡ slice a b list
+      part_is a b h = sym (drop-take a (b - a) list) ∙ ap (λ (n : ℕ). drop a (take n list)) (let q : a + (b - a) ≡ b = omega arith in q)
+
+      outs_are : (R : Roads) → InRoads R H list starts p → u < nodes R.net → outs ≡ out R.net u
+      outs_are R L inn = part_is (get_or starts u 0) (get_or starts (u + 1) 0) ordered.0 ∙ ap (λ (x : ℕ). slice (get_or starts u 0) (get_or starts x 0) list) (add-one u) ∙ sym (L.laid.rows u inn)
+
+      pub relaxable : Relaxable H outs c p u d w
       unfolding head
-      relaxable = rw (add-one u) (record {
-        ordered = (S.laid.laid.ordered u node_in).0;
-        within = (S.laid.laid.ordered u node_in).1;
-        links_in = λ j a b. rw (← links_are) (S.laid.good.listed u (get_or list j 0) (link_in S.laid.laid u j node_in a b)).0;
+      relaxable = record {
+        links_in = λ j a. rw (← links_are) (S.laid.good.listed u (get_or outs j 0) (subst (In (get_or outs j 0)) (outs_are S.roads S.laid node_in) (in_at outs j 0 a))).0;
         heads_in = λ e h. heads e h;
         caps_size = S.caps_size;
         costs_size = S.costs_size;
         here = more;
         via_size = I.via_length ∙ S.via_size ∙ sym I.dist_length;
-      })
+      }
         where
           heads : (e : ℕ) → e < length H → get_or H e 0 < length d
           heads e h =
@@ -180,7 +188,7 @@ module _ {H list starts : List ℕ} {c p d₀ : List Float} {w₀ : List ℕ} (S
 
       -- the links of a node that is reached were tried
       pub pass_through : infinite (get_or d u nan) ≡ false → {d' : List Float} {w' : List ℕ} {ch' : Bool} → length d' ≡ length d → length w' ≡ length w
-          → Relaxed H list c p (get_or starts u 0) (get_or starts (u + 1) 0) u d w ch d' w' ch'
+          → Relaxed H outs c p u d w ch d' w' ch'
           → (d'' : List Float) (w'' : List ℕ) (ch'' : Bool) → d'' ≡ d' → w'' ≡ w' → ch'' ≡ ch' → Passing H list starts c p d₀ w₀ d'' w'' ch'' (u + 1)
       unfolding leave
       pass_through f {d'} {w'} {ch'} l m X d'' w'' ch'' x y z = rw (x, y, z) (record {
@@ -189,7 +197,7 @@ module _ {H list starts : List ℕ} {c p d₀ : List Float} {w₀ : List ℕ} (S
         via_length = m ∙ I.via_length;
         same = λ R L n.
             let inn : u < nodes R.net = let a = I.dist_length in omega arith in
-            let q : slice (get_or starts u 0) (get_or starts (u + 1) 0) list ≡ out R.net u = ap (λ (x : ℕ). slice (get_or starts u 0) (get_or starts x 0) list) (add-one u) ∙ sym (L.laid.rows u inn) in
+            let q : outs ≡ out R.net u = outs_are R L inn in
             ap (pass R c (length d₀ - (u + 1)) (u + 1)) (X R L.laid.heads L.cost ∙ ap (λ (es : List ℕ). relax_all R c u es (tree d w ch)) q)
             ∙ sym (pass_step R c (length d₀) u (tree d w ch) (let a = I.dist_length in omega arith) ∙ ap (λ (s : Bool). pass R c (length d₀ - (u + 1)) (u + 1) (leave R c s u (tree d w ch))) f)
             ∙ I.same R L n;

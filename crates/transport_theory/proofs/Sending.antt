@@ -5,7 +5,8 @@ use mathlib.Core.List.{List}
 use lib.Dec.{leb, eqb, ltb}
 use lib.ListN.{length}
 use lib.Ieee.{Float}
-use Rattle.numbers.specs.Real.{nought, sum}
+use Rattle.std.specs.Prelude.{Option, Some, None}
+use Rattle.numbers.specs.Real.{sum}
 use Rattle.numbers.specs.Choice.{smaller}
 use Rattle.numbers.specs.Lists.{over, all}
 use Rattle.flow_theory.specs.Rows.{network, list_of}
@@ -30,19 +31,18 @@ rows_shipped a b H c p =
     let s = length a + length b in
     rounds (record { net = network H (s + 2) s (s + 1); cost = p }) (crumbs (sum a)) (round_cap (length a) (length b)) (record { cap = c; remaining = smaller (sum a) (sum b); rounds = 0 })
 
--- were the rounds made, what remains, the capacities left and the list
+-- what remains if the rounds were made, the capacities left and the list
 pub record Sent : Type 0 where
-  pub done : Bool
-  pub remaining : Float
+  pub remaining : Option Float
   pub caps : List Float
   pub list : List ℕ
 
-abbrev pub sent : Bool → Float → List Float → List ℕ → Sent
-sent b x c l = record { done = b; remaining = x; caps = c; list = l }
+abbrev pub sent : Option Float → List Float → List ℕ → Sent
+sent x c l = record { remaining = x; caps = c; list = l }
 
 abbrev pub send_if : Bool → List Float → List Float → List ℕ → List Float → List Float → List ℕ → Sent
-send_if true a b H c p l = sent true (rows_shipped a b H c p).remaining (rows_shipped a b H c p).cap (over (list_of H (length a + length b + 2)) l)
-send_if false a b H c p l = sent false nought c l
+send_if true a b H c p l = sent (Some (rows_shipped a b H c p).remaining) (rows_shipped a b H c p).cap (over (list_of H (length a + length b + 2)) l)
+send_if false a b H c p l = sent None c l
 
 -- the rounds on links that fit; else nothing changes
 abbrev pub send : List Float → List Float → List ℕ → List Float → List Float → List ℕ → Sent

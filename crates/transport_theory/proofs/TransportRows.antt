@@ -2,15 +2,15 @@
 use mathlib.Core.Path.{◌≡◌}
 use Prim.Native.Nat.{ℕ, ◌+◌, ◌*◌, ◌≤◌}
 use mathlib.Core.List.{List}
-use lib.ListN.{length}
+use lib.ListN.{length, take}
 use lib.Ieee.{Float}
 use Rattle.numbers.specs.Real.{sum}
 use Rattle.numbers.specs.Choice.{smaller}
 use Rattle.flow_theory.proofs.ListRows.{Indexable}
 use Rattle.transport_theory.specs.Links.{links, heads, caps, prices}
-use Rattle.transport_theory.specs.Transport.{Shipment, rounds, round_cap, crumbs, transport}
+use Rattle.transport_theory.specs.Transport.{Shipment, rounds, round_cap, crumbs, plan, bills, transport}
 use Rattle.transport_theory.proofs.RoundRows.{row_roads, shipment}
-use Rattle.transport_theory.proofs.PlanRows.{Planned}
+use Rattle.transport_theory.proofs.PlanRows.{Plannable, Planned}
 
 -- links between the nodes of masses a and b, with capacities and costs, and room for the node lists
 pub record Linked (a b : List Float) (H : List ℕ) (c p : List Float) (list : List ℕ) : Type 0 where
@@ -51,6 +51,16 @@ pub record Loadable (a b costs : List Float) (h : List ℕ) (c p : List Float) (
   pub caps_room : 2 * (length a + length b + length a * length b) ≤ length c
   pub prices_room : 2 * (length a + length b + length a * length b) ≤ length p
   pub list_room : 2 * (length a + length b + length a * length b) ≤ length list
+
+-- capacities of the links of masses a and b, and room for the plan
+abbrev pub Readied : List Float → List Float → List Float → List Float → List ℕ → List ℕ → List Float → Type 0
+Readied a b costs c rows columns masses = Plannable c (2 * (length a + length b)) (length a) (length b) costs rows columns masses
+
+-- the plan of such capacities over the front of the columns
+abbrev pub Spelled : List Float → List Float → List Float → List Float → List ℕ → List ℕ → List Float → Float → ℕ → List ℕ → List ℕ → List Float → Type 0
+Spelled a b costs c rows columns masses x t rows' columns' masses' =
+    let first = 2 * (length a + length b) in let cells = length a * length b in
+    Planned (plan (length b) first c cells 0) (sum (bills first c (take cells costs) 0)) rows columns masses x t rows' columns' masses'
 
 -- the definition's plan over the front of the columns
 abbrev pub Transported : List Float → List Float → List Float → List ℕ → List ℕ → List Float → Float → ℕ → List ℕ → List ℕ → List Float → Type 0

@@ -1,11 +1,11 @@
 -- A round over rows is a `turn` of the definition, and the loop of rounds is `rounds`.
 use mathlib.Core.Path.{◌≡◌, refl, sym, ap, subst, subst⁻¹, ◌∙◌}
-use mathlib.Core.Bool.{Bool, true, false, not, ◌&&◌}
+use mathlib.Core.Bool.{Bool, true, false, not}
 use Prim.Native.Nat.{ℕ, suc, ◌+◌, ◌-◌, ◌≤◌, ◌<◌}
 use mathlib.Core.List.{List}
 use native.Mathlib.Omega.{arith}
 use native.Mathlib.Numerals.{add-one}
-use lib.Dec.{lit<}
+use lib.Dec.{eqb, lit<}
 use lib.ListN.{length, get_or, set, take, replicate, length-set, length-replicate}
 use lib.Ieee.{Float, nan, inf, binary64, lt, le, sub}
 use Rattle.numbers.specs.Real.{nought, eps}
@@ -18,10 +18,11 @@ use Rattle.flow_theory.proofs.Links.{rev_in}
 use Rattle.flow_theory.proofs.Outs.{network_nodes}
 use Rattle.flow_theory.proofs.PathRows.{Placed}
 use Rattle.transport_theory.specs.Links.{Roads}
-use Rattle.transport_theory.specs.Shortest.{infinite, Tree, far, sprout, shortest, search}
+use Rattle.transport_theory.specs.Shortest.{infinite, Tree, far, sprout, shortest, search, ends}
 use Rattle.transport_theory.specs.Transport.{Shipment, Turn, more, done, give_up, ship, move, turn, rounds}
 use Rattle.transport_theory.proofs.Paths.{Grown, Reached, shortest_grown, walk_step, route_in}
 use Rattle.transport_theory.proofs.SearchRows.{tree, InRoads, Passable, Found, Searched}
+use Rattle.std.specs.Prelude.{Option, Some, None}
 use Rattle.transport_theory.proofs.WalkRows.{Walkable, Walked}
 use Rattle.transport_theory.proofs.Walks.{path_placed}
 use Rattle.transport_theory.proofs.RoundRows.{row_roads, shipment, Sailable, RoundReady, Movable, Moved, Turned, Shipped}
@@ -32,32 +33,33 @@ unset_large = let l : 2176 < 18446744073709551615 = lit< tt in omega arith
 
 -- ---- the push
 
-module _ {N : Net} {w p : List ℕ} {c : List Float} (M : Movable N w c p) {q : List ℕ} {home : Bool} {n : ℕ} (W : Walked N w q home n) where
-  pub move_placed : Placed c (take n q)
-  move_placed = path_placed N w q home n c W M.caps_size M.route_in
-
-  move_ships : (x : Float) (k : ℕ) → move N false w (shipment c x k) ≡ ship (home && not (le (least c x (take n q)) eps)) (least c x (take n q)) (take n q) (shipment c x k)
-  unfolding move
-  move_ships x k = rw (W.path_is, W.home_is)
-
+module _ {N : Net} {w : List ℕ} {c : List Float} (M : Movable N w c) where
   -- the path does not come from the source
-  pub move_cycle : home ≡ false → (x : Float) → Moved N w c x false x c
-  unfolding ship give_up
-  move_cycle z x k = move_ships x k ∙ rw z
+  pub move_cycle : eqb (ends N w (suc (nodes N)) N.sink) N.source ≡ false → (x : Float) → Moved N w c x None c
+  unfolding move ship give_up
+  move_cycle z x k = rw z
 
-  -- there is no more than 1e-12 to push
-  pub move_small : home ≡ true → (x y : Float) → y ≡ least c x (take n q) → le y eps ≡ true → Moved N w c x false x c
-  unfolding ship give_up
-  move_small z x y e l k = move_ships x k ∙ rw (← e, z, l)
+  module _ {q : List ℕ} {n : ℕ} (W : Walked N w q (Some n)) where
+    pub move_placed : Placed c (take n q)
+    move_placed = path_placed N w q n c W M.caps_size M.route_in
 
-  pub move_pushes : home ≡ true → (x y : Float) → y ≡ least c x (take n q) → le y eps ≡ false → {d : List Float} → d ≡ push_path y (take n q) c
-      → Moved N w c x true (sub binary64 x y) d
-  unfolding ship
-  move_pushes z x y e l {d} f k = move_ships x k ∙ rw (← e, z, l, f)
+    move_ships : (x : Float) (k : ℕ) → move N false w (shipment c x k) ≡ ship (not (le (least c x (take n q)) eps)) (least c x (take n q)) (take n q) (shipment c x k)
+    unfolding move
+    move_ships x k = rw (W.path_is, W.home_is)
+
+    -- there is no more than 1e-12 to push
+    pub move_small : (x y : Float) → y ≡ least c x (take n q) → le y eps ≡ true → Moved N w c x None c
+    unfolding ship give_up
+    move_small x y e l k = move_ships x k ∙ rw (← e, l)
+
+    pub move_pushes : (x y : Float) → y ≡ least c x (take n q) → le y eps ≡ false → {d : List Float} → d ≡ push_path y (take n q) c
+        → Moved N w c x (Some (sub binary64 x y)) d
+    unfolding ship
+    move_pushes x y e l {d} f k = move_ships x k ∙ rw (← e, l, f)
 
 -- ---- a round
 
-module _ {R : Roads} {starts list : List ℕ} {c d : List Float} {w p : List ℕ} (P : RoundReady R starts list c d w p) where
+module _ {R : Roads} {starts list : List ℕ} {c d : List Float} {w : List ℕ} (P : RoundReady R starts list c d w) where
   abbrev N : Net
   N = R.net
 
@@ -114,7 +116,7 @@ module _ {R : Roads} {starts list : List ℕ} {c d : List Float} {w p : List ℕ
         ap (λ (s : Bool). move N s (shortest R c).via (shipment c x k)) (sink_far b h) ∙ ap (λ (l : List ℕ). move N b l (shipment c x k)) (sym found.via_is)
 
     -- the sink is not reached
-    pub round_lost : infinite (get_or d' N.sink nan) ≡ true → (x : Float) → Turned R c x false x c
+    pub round_lost : infinite (get_or d' N.sink nan) ≡ true → (x : Float) → Turned R c x None c
     unfolding move give_up
     round_lost h x k = turn_is true h x k
 
@@ -125,37 +127,29 @@ module _ {R : Roads} {starts list : List ℕ} {c d : List Float} {w p : List ℕ
       rev_links : (e : ℕ) → e < links N → rev e < links N
       rev_links e l = let a = P.base.good.pairs in let i = rev_in e P.base.good.added (omega arith) in omega arith
 
-      walkable : Walkable N (shortest R c).via p
-      walkable = record {
+      walkable : (p : List ℕ) → suc (nodes N) ≤ length p → Walkable N (shortest R c).via p
+      walkable p room = record {
         back = λ v i r n.
             let s = walk_step R P.base.good small c (shortest R c) v grown i r n in
             record { link_in = s.0; rev_in = rev_links _ s.0; node_in = s.1; reached = s.2 };
         sink_in = P.base.sink_in;
         reached = reached;
         size = grown.via_size;
-        room = P.room;
+        room = room;
         few = P.base.laid.places;
       }
 
-      pub round_movable : Movable N w' c p
-      round_movable = subst⁻¹ (λ (l : List ℕ). Movable N l c p) found.via_is (record {
+      pub round_movable : Movable N w' c
+      round_movable = subst⁻¹ (λ (l : List ℕ). Movable N l c) found.via_is (record {
         walkable = walkable;
+        few = P.base.laid.places;
         caps_size = P.base.caps_size;
         route_in = λ e i. let l = route_in R P.base.good small c (shortest R c) grown (suc (nodes N)) N.sink P.base.sink_in reached e i in (l, rev_links e l);
       })
 
-      pub round_moved : (b : Bool) (x y : Float) (e : List Float) → Moved N w' c x b y e → Turned R c x b y e
-      round_moved true x y e M = λ k. turn_is false h x k ∙ M k
-      round_moved false x y e M = λ k. turn_is false h x k ∙ M k
-
--- the same with the nodes counted otherwise
-module _ (H : List ℕ) (prices : List Float) (n s t : ℕ) {starts list : List ℕ} {c d : List Float} {w p : List ℕ} (P : RoundReady (row_roads H prices n s t) starts list c d w p)
-    {d' : List Float} {w' : List ℕ} (F : Searched H list starts c prices (set d s nought) w d' w') (h : infinite (get_or d' t nan) ≡ false) {m : ℕ} (z : m ≡ n) where
-  pub movable : Movable (network H m s t) w' c p
-  movable = subst⁻¹ (λ (j : ℕ). Movable (network H j s t) w' c p) z (round_movable P F h)
-
-  pub moved : (b : Bool) (x y : Float) (e : List Float) → Moved (network H m s t) w' c x b y e → Turned (row_roads H prices n s t) c x b y e
-  moved b x y e M = round_moved P F h b x y e (subst (λ (j : ℕ). Moved (network H j s t) w' c x b y e) z M)
+      pub round_moved : (x : Float) (r : Option Float) (e : List Float) → Moved N w' c x r e → Turned R c x r e
+      round_moved x (Some y) e M = λ k. turn_is false h x k ∙ M k
+      round_moved x None e M = λ k. turn_is false h x k ∙ M k
 
 -- ---- the arrays of a round, made afresh, and the part of them that is lent
 
@@ -169,16 +163,13 @@ module _ (H : List ℕ) (prices : List Float) (n s t : ℕ) {starts list : List 
   made : {A : Type 0} (x : A) → take n (replicate 66 x) ≡ replicate (nodes (network H n s t)) x
   made {A} x = take_replicate {A = A} n 66 x few ∙ ap (λ (m : ℕ). replicate m x) (sym (network_nodes H n))
 
-  pub round_ready : (far : Float) → far ≡ inf false
-      → RoundReady (row_roads H prices (length (take n (replicate 66 far))) s t) starts list c (take n (replicate 66 far)) (take n (replicate 66 18446744073709551615)) (replicate 67 0)
+  pub round_ready : (far : Float) → far ≡ inf false → RoundReady (row_roads H prices n s t) starts list c (take n (replicate 66 far)) (take n (replicate 66 18446744073709551615))
   unfolding unset
-  round_ready far z = subst⁻¹ (λ (m : ℕ). RoundReady (row_roads H prices m s t) starts list c (take n (replicate 66 far)) (take n (replicate 66 18446744073709551615)) (replicate 67 0)) (fresh_size far)
-      (record {
-        base = B;
-        dist_is = ap (λ (x : Float). take n (replicate 66 x)) z ∙ made (inf false);
-        via_is = made 18446744073709551615;
-        room = let a = B.laid.places in omega arith;
-      })
+  round_ready far z = record {
+    base = B;
+    dist_is = ap (λ (x : Float). take n (replicate 66 x)) z ∙ made (inf false);
+    via_is = made 18446744073709551615;
+  }
 
 -- ---- the rounds
 
@@ -224,12 +215,12 @@ module _ {R : Roads} {much : Float} {most : ℕ} {c₀ : List Float} {x₀ : Flo
         after z e = ap (λ (y : Turn). elim y as (λ z. Shipment) [ more r ↦ rounds R much (most - (k + 1)) r | done r ↦ r ]) (sym e) ∙ sym (rounds_step R much most k (shipment c x k) true more' h) ∙ I.same
 
         -- the round broke off
-        pub ship_broken : {y : Float} {d : List Float} {b : Bool} → b ≡ false → Turned R c x b y d → Shipped (rounds R much most (shipment c₀ x₀ 0)) y d
-        ship_broken {y} {d} {b} z T = told (shipment d y (suc k)) (after (done (shipment d y (suc k))) (subst (λ (s : Bool). Turned R c x s y d) z T k))
+        pub ship_broken : {d : List Float} → Turned R c x None d → Shipped (rounds R much most (shipment c₀ x₀ 0)) x d
+        ship_broken {d} T = told (shipment d x (suc k)) (after (done (shipment d x (suc k))) (T k))
 
-        pub ship_on : {y : Float} {d : List Float} {b : Bool} → b ≡ true → length d ≡ length c → Turned R c x b y d → Shipping R much most c₀ x₀ d y (k + 1)
-        ship_on {y} {d} {b} z l T = record {
+        pub ship_on : {y : Float} {d : List Float} → length d ≡ length c → Turned R c x (Some y) d → Shipping R much most c₀ x₀ d y (k + 1)
+        ship_on {y} {d} l T = record {
           upto = omega arith;
           size = l ∙ I.size;
-          same = rw (add-one k) (subst (λ (j : ℕ). rounds R much (most - j) (shipment d y (suc k)) ≡ rounds R much most (shipment c₀ x₀ 0)) (add-one k) (after (more (shipment d y (suc k))) (subst (λ (s : Bool). Turned R c x s y d) z T k)));
+          same = rw (add-one k) (subst (λ (j : ℕ). rounds R much (most - j) (shipment d y (suc k)) ≡ rounds R much most (shipment c₀ x₀ 0)) (add-one k) (after (more (shipment d y (suc k))) (T k)));
         }

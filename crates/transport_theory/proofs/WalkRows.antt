@@ -2,10 +2,11 @@
 use mathlib.Core.Path.{◌≡◌}
 use mathlib.Core.Logic.{◌≢◌, ◌⊎◌}
 use Prim.Native.Nat.{ℕ, suc, ◌≤◌, ◌<◌}
-use mathlib.Core.Bool.{Bool}
+use mathlib.Core.Bool.{true, false}
 use mathlib.Core.List.{List}
 use lib.ListN.{length, get_or, take}
 use lib.Dec.{eqb}
+use Rattle.std.specs.Prelude.{Option, Some, None}
 use Rattle.flow_theory.specs.Network.{Net, nodes, links, rev, tail}
 use Rattle.transport_theory.specs.Shortest.{route, ends}
 
@@ -29,8 +30,13 @@ pub record Walkable (N : Net) (w p : List ℕ) : Type 0 where
   pub room : suc (nodes N) ≤ length p
   pub few : nodes N ≤ 66
 
--- n links are on the path, and whether it comes from the source
-pub record Walked (N : Net) (w p : List ℕ) (home : Bool) (n : ℕ) : Type 0 where
+-- n links are on the path, which comes from the source
+pub record Home (N : Net) (w p : List ℕ) (n : ℕ) : Type 0 where
   pub within : n ≤ length p
   pub path_is : take n p ≡ route N w (suc (nodes N)) N.sink
-  pub home_is : home ≡ eqb (ends N w (suc (nodes N)) N.sink) N.source
+  pub home_is : eqb (ends N w (suc (nodes N)) N.sink) N.source ≡ true
+
+-- how many links are on the path, if it comes from the source
+abbrev pub Walked : Net → List ℕ → List ℕ → Option ℕ → Type 0
+Walked N w p (Some n) = Home N w p n
+Walked N w p None = eqb (ends N w (suc (nodes N)) N.sink) N.source ≡ false

@@ -18,10 +18,12 @@ use Rattle.flow_theory.specs.Network.{Net, nodes, links, rev, head, tail, left}
 use Rattle.flow_theory.specs.Rows.{network}
 use Rattle.flow_theory.specs.Augment.{least}
 use Rattle.flow_theory.proofs.Links.{rev_xor}
+use Rattle.flow_theory.proofs.Outs.{network_nodes}
 use Rattle.flow_theory.proofs.PathRows.{Placed}
+use Rattle.std.specs.Prelude.{Some, None}
 use Rattle.transport_theory.specs.Shortest.{route, ends}
 use Rattle.transport_theory.proofs.Paths.{route_step, route_home, ends_step, ends_home}
-use Rattle.transport_theory.proofs.WalkRows.{ReachedBy, Back, Walkable, Walked}
+use Rattle.transport_theory.proofs.WalkRows.{ReachedBy, Back, Walkable, Home, Walked}
 
 -- ---- the walk back
 
@@ -64,14 +66,14 @@ module _ (H : List ℕ) (k s t : ℕ) {w p₀ : List ℕ} (W : Walkable (network
       pub back_in : bit_xor e 1 < length H
       back_in = rw (rev_xor e) step.rev_in
 
-      module _ (more : n ≤ length w) where
+      module _ (more : n ≤ k) where
         pub path_room : n < length p
-        path_room = let a = I.size in let b = W.room in let d = W.size in omega arith
+        path_room = let z = network_nodes H k in let a = I.size in let b = W.room in omega arith
 
         pub walk_on : Walking N w p₀ (set p n e) (get_or H (bit_xor e 1) 0) (n + 1)
         unfolding head
         walk_on =
-            let z = W.size in
+            let z = network_nodes H k in
             let q : suc (nodes N) - n ≡ suc (suc (nodes N) - (n + 1)) = omega arith in
             rw (rev_xor e) (record {
               upto = omega arith;
@@ -91,29 +93,25 @@ module _ (H : List ℕ) (k s t : ℕ) {w p₀ : List ℕ} (W : Walkable (network
             assoc (y ∷ xs) x ys = ap (λ (l : List ℕ). y ∷ l) (assoc xs x ys)
 
       -- over as many links as there are nodes, and not at the source
-      pub walk_lost : length w < n → Walked N w p false n
-      unfolding route ends
+      pub walk_lost : k < n → Walked N w p None
+      unfolding ends
       walk_lost more =
-          let z = W.size in
+          let z = network_nodes H k in
           let a = I.upto in
           let q : suc (nodes N) - n ≡ 0 = omega arith in
-          record {
-            within = let b = I.size in let d = W.room in omega arith;
-            path_is = sym (append-nil (take n p)) ∙ ap (λ (j : ℕ). take n p ++ route N w j v) (sym q) ∙ I.route_is;
-            home_is = sym (ne_eqb (ends N w (suc (nodes N)) t) s (λ x. away (ap (λ (j : ℕ). ends N w j v) (sym q) ∙ I.ends_is ∙ x)));
-          }
+          ne_eqb (ends N w (suc (nodes N)) t) s (λ x. away (ap (λ (j : ℕ). ends N w j v) (sym q) ∙ I.ends_is ∙ x))
 
-    pub walk_home : v ≡ s → Walked N w p true n
+    pub walk_home : v ≡ s → Walked N w p (Some n)
     walk_home x = record {
       within = let a = I.upto in let b = I.size in let d = W.room in omega arith;
       path_is = sym (append-nil (take n p)) ∙ ap (λ (l : List ℕ). take n p ++ l) (sym (route_home N w (suc (nodes N) - n) v x)) ∙ I.route_is;
-      home_is = sym (eq-eqb (ends N w (suc (nodes N)) t) s (sym I.ends_is ∙ ends_home N w (suc (nodes N) - n) v x ∙ x));
+      home_is = eq-eqb (ends N w (suc (nodes N)) t) s (sym I.ends_is ∙ ends_home N w (suc (nodes N) - n) v x ∙ x);
     }
 
 -- the links of the path, and their reverses, are there
-pub path_placed : (N : Net) (w p : List ℕ) (home : Bool) (n : ℕ) (c : List Float) → Walked N w p home n → length c ≡ links N
+pub path_placed : (N : Net) (w p : List ℕ) (n : ℕ) (c : List Float) → Home N w p n → length c ≡ links N
     → ((e : ℕ) → In e (route N w (suc (nodes N)) N.sink) → (e < links N) × (rev e < links N)) → Placed c (take n p)
-path_placed N w p home n c W size inn = record { link_in = λ i h. rw size (each i h).0; rev_in = λ i h. rw size (each i h).1 }
+path_placed N w p n c W size inn = record { link_in = λ i h. rw size (each i h).0; rev_in = λ i h. rw size (each i h).1 }
   where
     each : (i : ℕ) → i < length (take n p) → (get_or (take n p) i 0 < links N) × (rev (get_or (take n p) i 0) < links N)
     each i h = inn (get_or (take n p) i 0) (subst (In (get_or (take n p) i 0)) W.path_is (in_at (take n p) i 0 h))

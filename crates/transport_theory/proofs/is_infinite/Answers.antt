@@ -1,16 +1,17 @@
--- `is_infinite` meets its contract: the second test is asked only where the first fails.
-use mathlib.Core.Path.{sym, ap, ◌∙◌}
+-- `is_infinite` meets its contract: a number is equal to an infinity only if it is that infinity.
+use mathlib.Core.Path.{◌≡◌, refl, ◌∙◌}
 use mathlib.Core.Bool.{true, false}
-use lib.Ieee.{Float, inf, eq, neg}
-use Rattle.numbers.proofs.Refuses.{hit, skip}
+use lib.Ieee.{Float, nan, inf, fin, eq}
+use Rattle.std.specs.Float.{float_is_infinite}
+use Rattle.transport_theory.specs.Shortest.{infinite}
 use Rattle.transport_theory.proofs.is_infinite.Goals as goal
 
-pub returns-then-x-infinity : goal.returns-then-x-infinity
-returns-then-x-infinity c = let x = c.args.x in c.if-x-infinity.true ∙ hit (eq x (inf false)) (eq x (inf true)) (sym (sym (ap (eq x) c.infinity.ensures) ∙ c.if-x-infinity.true))
+same : (x : Float) → float_is_infinite x ≡ infinite x
+unfolding float_is_infinite eq
+same nan = refl
+same (inf true) = refl
+same (inf false) = refl
+same (fin s m e) = refl
 
-pub returns-else-x-infinity : goal.returns-else-x-infinity
-unfolding neg
-returns-else-x-infinity c =
-    let x = c.args.x in
-    skip (eq x (neg c.infinity-else-x-infinity.result)) (eq x (inf false)) (eq x (inf true)) (sym (ap (eq x) c.infinity.ensures) ∙ c.if-x-infinity.false)
-    (ap (λ (y : Float). eq x (neg y)) c.infinity-else-x-infinity.ensures)
+pub returns : goal.returns
+returns c = c.is_infinite.ensures.value ∙ same c.args.x

@@ -1,8 +1,12 @@
 -- `check::refusal` meets its contract, check by check (Refusing).
-use mathlib.Core.Path.{sym, ap₂, ◌∙◌}
-use Rattle.transport_theory.specs.Refusal.{masses_fit, unequal}
+use mathlib.Core.Path.{sym, ◌∙◌}
+use lib.ListN.{length}
+use Rattle.transport_theory.specs.Refusal.{masses_fit, costs_fit}
 use Rattle.transport.proofs.Refusing.{refused_16, both}
 use Rattle.transport.proofs.check.refusal.Goals as goal
 
 pub returns-then-uneven : goal.returns-then-uneven
-returns-then-uneven c = refused_16 c.args.right c.args.a.now c.args.b.now c.args.costs c.args.rows c.args.columns c.args.masses (sym c.short.ensures ∙ c.if-short.false) (both (masses_fit c.args.a.now c.args.b.now) c.args.right (sym c.masses_fit.ensures ∙ c.if-not-masses_fit.false) (c.if-not-right.false)) ((sym (c.uneven.ensures ∙ ap₂ unequal (c.value.ensures ∙ c.sum.ensures) (c.value-2.ensures ∙ c.sum-2.ensures))) ∙ c.if-uneven.true)
+returns-then-uneven c =
+    let a = c.args.of.now.left.now in let b = c.args.of.now.right.now in let p = c.args.of.now.costs.now in
+    refused_16 (costs_fit (length a) (length b) p) a b (length p) (length c.args.plan.now.rows.now) (length c.args.plan.now.columns.now) (length c.args.plan.now.masses.now) (sym c.short.ensures ∙ c.if-short.false)
+    (both (masses_fit a b) (costs_fit (length a) (length b) p) (sym c.masses_fit.ensures ∙ c.if-not-masses_fit.false) (sym c.costs_fit.ensures ∙ c.if-not-costs_fit.false)) (sym c.uneven.ensures ∙ c.if-uneven.true)

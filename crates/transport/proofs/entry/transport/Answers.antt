@@ -1,8 +1,7 @@
--- `entry::transport` meets its contract: the costs are checked (`costs_fit`).
-use mathlib.Core.Path.{ap, ◌∙◌}
-use mathlib.Core.Bool.{Bool}
-use Rattle.transport.specs.Outcome.{transport_on}
+-- `entry::transport` meets its contract: a refusal keeps the columns, and without one the plan is the definition's (Refusing).
+use mathlib.Core.Path.{sym}
+use Rattle.transport.proofs.Refusing.{roomy}
 use Rattle.transport.proofs.entry.transport.Goals as goal
 
-pub returns : goal.returns
-returns c = c.transport_if.ensures ∙ ap (λ (r : Bool). transport_on r c.args.a.now c.args.b.now c.args.costs.now c.args.plan_rows.now c.args.plan_columns.now c.args.plan_masses.now) c.costs_fit.ensures
+pub planned-requires : goal.planned-requires
+planned-requires c = roomy c.args.of.now.left.now c.args.of.now.right.now c.args.of.now.costs.now c.args.plan.now.rows.now c.args.plan.now.columns.now c.args.plan.now.masses.now _ (sym c.in_ok-refusal.ensures)

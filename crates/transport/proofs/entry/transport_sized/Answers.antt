@@ -1,10 +1,7 @@
--- `entry::transport_sized` meets its contract: as `transport_if`, with the sizes as the only checks.
-use mathlib.Core.Path.{sym, ◌∙◌}
-use Rattle.transport.proofs.Refusing.{sized_roomy, refuses}
+-- `entry::transport_sized` meets its contract: as `transport`, with the sizes as the only checks.
+use mathlib.Core.Path.{sym}
+use Rattle.transport.proofs.Refusing.{sized_roomy}
 use Rattle.transport.proofs.entry.transport_sized.Goals as goal
 
-pub returns-then-refused-ne0 : goal.returns-then-refused-ne0
-returns-then-refused-ne0 c = refuses c.args.a.now c.args.b.now c.args.costs.now c.args.plan_rows.now c.args.plan_columns.now c.args.plan_masses.now _ _ c.size_refusal-refused.ensures c.if-refused-ne0.true
-
-pub planned-p-requires : goal.planned-p-requires
-planned-p-requires c = sized_roomy c.args.a.now c.args.b.now c.args.costs.now c.args.plan_rows.now c.args.plan_columns.now c.args.plan_masses.now (sym c.size_refusal-refused.ensures ∙ c.if-refused-ne0.false)
+pub planned-requires : goal.planned-requires
+planned-requires c = sized_roomy c.args.of.now.left.now c.args.of.now.right.now c.args.of.now.costs.now c.args.plan.now.rows.now c.args.plan.now.columns.now c.args.plan.now.masses.now (sym c.in_ok-size_refusal.ensures)

@@ -3,4 +3,4 @@ use Rattle.transport.proofs.Carries.{carried}
 use Rattle.transport.proofs.whole.transport_in.Goals as goal
 
 pub plan_links-requires : goal.plan_links-requires
-plan_links-requires c = carried c.requires _ _ _ _ c.write_links.ensures
+plan_links-requires c = carried c.requires _ _ _ _ c.write_links.ensures.written

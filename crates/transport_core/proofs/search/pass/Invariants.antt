@@ -3,4 +3,4 @@ use Rattle.transport_theory.proofs.Searches.{Passing}
 use Rattle.transport_core.proofs.search.pass.Given as goal
 
 abbrev pub invariant-loop-u : goal.invariant-loop-u
-invariant-loop-u l = Passing l.heads l.list l.starts l.caps l.costs l.initial.dist l.initial.via l.dist l.via l.changed l.u
+invariant-loop-u l = Passing l.net.heads.now l.net.list.now l.net.starts.now l.caps l.net.costs.now l.initial.tree.dist.now l.initial.tree.via.now l.tree.dist.now l.tree.via.now l.changed l.u

@@ -2,5 +2,5 @@
 use Rattle.transport_theory.proofs.Searches.{Relaxing}
 use Rattle.transport_core.proofs.search.relax.Given as goal
 
-abbrev pub invariant-loop-j : goal.invariant-loop-j
-invariant-loop-j l = Relaxing l.heads l.list l.caps l.costs l.from l.to l.u l.initial.dist l.initial.via l.before l.dist l.via l.changed l.j
+abbrev pub invariant-loop-link : goal.invariant-loop-link
+invariant-loop-link l = Relaxing l.net.heads.now l.links l.caps l.net.costs.now l.u l.initial.tree.dist.now l.initial.tree.via.now l.before l.tree.dist.now l.tree.via.now l.changed l.link-index

@@ -3,4 +3,4 @@ use Rattle.transport_theory.proofs.Searches.{Searching}
 use Rattle.transport_core.proofs.search.search.Given as goal
 
 abbrev pub invariant-loop : goal.invariant-loop
-invariant-loop l = Searching l.heads l.list l.starts l.caps l.costs l.initial.dist l.initial.via l.dist l.via l.counter
+invariant-loop l = Searching l.net.heads.now l.net.list.now l.net.starts.now l.caps l.net.costs.now l.initial.tree.dist.now l.initial.tree.via.now l.tree.dist.now l.tree.via.now l.counter
