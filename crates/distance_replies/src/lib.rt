@@ -2,12 +2,14 @@
 #![tactic(auto)]
 
 ghost use Rattle.std.specs.Prelude.{◌≡◌};
+ghost use Rattle.numbers.specs.Refuse.{numbered};
 ghost use Rattle.distance_replies.specs.Distances.{replied, of_measured};
 
-use distance_theory::Measured;
+use distance_theory::Distance;
+use numbers::refusal::Refusal;
 
 pub fn put_distance(
-    answer: Measured,
+    answer: Result<Distance, Refusal>,
     value: &mut f64,
     error_bound: &mut f64,
     discount: &mut f64,
@@ -16,10 +18,10 @@ pub fn put_distance(
     rounds: &mut usize,
 ) -> u32
     ensures { replied result value.new error_bound.new discount.new pairs_explored.new contributions.new rounds.new
-        ≡ of_measured answer value.old error_bound.old discount.old pairs_explored.old contributions.old rounds.old }
+        ≡ of_measured (numbered answer) value.old error_bound.old discount.old pairs_explored.old contributions.old rounds.old }
 {
     match answer {
-        Measured::Distance(d) => {
+        Ok(d) => {
             *value = d.value;
             *error_bound = d.error_bound;
             *discount = d.gamma;
@@ -28,6 +30,6 @@ pub fn put_distance(
             *rounds = d.rounds;
             0
         }
-        Measured::Refused(k) => k,
+        Err(refusal) => refusal.number(),
     }
 }
