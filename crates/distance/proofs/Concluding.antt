@@ -1,5 +1,7 @@
 -- What is told and written is the definition's outcome.
 use mathlib.Core.Path.{◌≡◌, refl, sym, ap, ap₂, ◌∙◌}
+use Rattle.std.specs.Prelude.{Result, Ok, Err}
+use Rattle.std.specs.Result.{IsErrAnd}
 use Prim.Native.Nat.{ℕ, zero, suc, ◌≤◌, min}
 use mathlib.Core.Bool.{Bool, true, false, not, ◌||◌}
 use mathlib.Core.List.{List, [], ◌∷◌}
@@ -9,11 +11,12 @@ use lib.ListN.{length, take, length-take}
 use lib.Ieee.{Float}
 use borrow.Author.Tests.{ltb-false, le-leb, not-false}
 use Rattle.numbers.specs.Real.{nought, one}
-use Rattle.numbers.specs.Refuse.{check}
+use Rattle.numbers.specs.Refuse.{check, number, numbered}
+use Rattle.numbers.specs.declared.refusal.Refusal.{Refusal}
 use Rattle.numbers.specs.Lists.{all}
 use Rattle.numbers.proofs.Bools.{or_f}
 use Rattle.numbers.proofs.Alls.{all_at}
-use Rattle.numbers.proofs.Refuses.{check_none}
+use Rattle.numbers.proofs.Refuses.{check_none, number_positive}
 use Rattle.chain_theory.specs.Chain.{Chain}
 use Rattle.chain_theory.specs.Columns.{ChainColumns, chain_of}
 use Rattle.chain_theory.specs.Check.{misshapen, unobserved, unfitting, improper, discount_outside}
@@ -21,21 +24,19 @@ use Rattle.chain_theory.specs.declared.ChainShape.{ChainShape}
 use Rattle.distance_theory.specs.Pairs.{most}
 use Rattle.distance_theory.specs.Contributions.{listed}
 use Rattle.distance_theory.specs.Refusal.{short, excessive, distance_refusal}
-use Rattle.distance_theory.specs.Outcome.{Run, run, zeros, noughts, Outcome, ends, settled, distance}
+use Rattle.distance_theory.specs.Outcome.{Run, run, zeros, noughts, Outcome, ends, settled, distance, Measured}
 use Rattle.distance_theory.specs.Outcome.{ran as ranFrom}
 use Rattle.distance_theory.specs.declared.MetricOptions.{MetricOptions}
 use Rattle.distance_theory.specs.declared.PairContribution.{PairContribution}
-use Rattle.distance_theory.specs.declared.Measured.{Measured}
-use Rattle.distance_theory.specs.declared.Measured.TheVariants as says
 use Rattle.distance_theory.proofs.Inside.{row_proper, proper_few}
 use Rattle.distance_words.specs.Told.{row, Ran, ran_as}
 use Rattle.distance_contributions.specs.Row.{Stored, stored, stored_if, written}
 use Rattle.distance_contributions.proofs.Records.{listed_written}
-use Rattle.distance_words.specs.declared.told.Told.{Told}
-use Rattle.distance_words.specs.Told.{refused_with, told_if, told_of}
+use Rattle.distance_words.specs.declared.told.Answer.{Answer}
+use Rattle.distance_words.specs.Told.{Told, told_if, told_of}
 use Rattle.distance_words.proofs.Run.{fits, roomy, runnable, ran_if, ran_of}
 use Rattle.distance_run.proofs.Running.{fits_of}
-use Rattle.distance.specs.Measuring.{measured_if, measured_of, answer_if, answer_of, Handed, handed, hand_out, memory}
+use Rattle.distance.specs.Measuring.{measured_if, measured_of, answer_of, row_of, Handed, handed, hand_out, memory}
 
 -- ---- chains that pass the checks can be run
 
@@ -93,35 +94,15 @@ module _ (HL : ChainShape) (CL : ChainColumns) (HR : ChainShape) (CR : ChainColu
 
 -- ---- the ways that `measure` ends
 
-stops : (k : ℕ) (t : Told) (l r c p : List ℕ) (m : List Float) → (k ≡ 0 → ⊥) → ran_as (refused_with k) l r c p m ≡ measured_if k t l r c p m
+stops : (k : ℕ) (t : Told) (l r c p : List ℕ) (m : List Float) → (k ≡ 0 → ⊥) → ran_as (Err k) l r c p m ≡ measured_if k t l r c p m
 stops zero t l r c p m h = absurd (h refl)
 stops (suc k) t l r c p m h = refl
 
--- ---- the answer
-
-pub answers : (t : Told) → t.refusal ≡ 0 → says.Distance t.distance ≡ answer_of t
-answers t h = ap (λ (k : ℕ). answer_if k t) (sym h)
-
-refuses : (k : ℕ) (t : Told) → (k ≡ 0 → ⊥) → says.Refused k ≡ answer_if k t
-refuses zero t h = absurd (h refl)
-refuses (suc k) t h = refl
-
-pub turned_back : (t : Told) → (t.refusal ≡ 0 → ⊥) → says.Refused t.refusal ≡ answer_of t
-turned_back t h = refuses t.refusal t h
-
 -- ---- the row of records
 
-none_in : (b : Bool) (cs rs : List PairContribution) → (stored_if (check 7 b 0) [] rs).records ≡ rs
-none_in true cs rs = refl
-none_in false cs rs = refl
-
--- nothing is written where nothing is told
-pub none_written : (cs rs : List PairContribution) → (written cs 0 rs).records ≡ rs
-none_written cs rs = none_in (ltb (length rs) 64) cs rs
-
 -- what is told goes into the row, the rest is the answer
-pub hands : (t : Told) (rs : List PairContribution) {cs rs' : List PairContribution} {k n : ℕ} {a : Measured} → cs ≡ t.records → n ≡ t.distance.contributions → stored k rs' ≡ written cs n rs → a ≡ answer_of t → handed a rs' ≡ hand_out t rs
-hands t rs e f g h = ap₂ handed h (ap (λ (s : Stored). s.records) g ∙ ap₂ (λ (l : List PairContribution) (i : ℕ). (written l i rs).records) e f)
+pub hands : (a : Answer) (rs : List PairContribution) {rs' : List PairContribution} {k : ℕ} → stored k rs' ≡ written a.records a.distance.contributions rs → handed (Ok a.distance) rs' ≡ hand_out (Ok a) rs
+hands a rs e = ap (λ (s : Stored). handed (Ok a.distance) s.records) e
 
 take_few : {A : Type 0} (n : ℕ) (l : List A) → n ≤ 64 → length (take n l) ≤ 64
 take_few n l h = let z = length-take n l in omega arith
@@ -144,13 +125,15 @@ module _ (HL : ChainShape) (CL : ChainColumns) (HR : ChainShape) (CR : ChainColu
   abbrev told : Ran
   told = measured_of HL CL HR CR γ o l r c p m records
 
-  pub measure_refused : {k : ℕ} → k ≡ refusal → (k ≡ 0 → ⊥) → {t : Told} → t ≡ refused_with k → ran_as t l r c p m ≡ told
-  measure_refused {k} e h f = ap (λ (t : Told). ran_as t l r c p m) f ∙ stops k (told_of R) l r c p m h ∙ ap (λ (j : ℕ). measured_if j (told_of R) l r c p m) e
+  pub measure_refused : (a : Result Answer Refusal) (x : Refusal) → IsErrAnd a (λ e. e ≡ x) → number x ≡ refusal → ran_as (numbered a) l r c p m ≡ told
+  measure_refused (Ok y) x h e = absurd h
+  measure_refused (Err y) x h e =
+      stops (number y) (told_of R) l r c p m (number_positive y) ∙ ap (λ (j : ℕ). measured_if j (told_of R) l r c p m) (ap number h ∙ e)
 
-  pub measure_ran : {k : ℕ} → k ≡ refusal → k ≡ 0 → {w : Ran} → w ≡ ran_of HL CL HR CR γ o l r c p m → w ≡ told
-  measure_ran e h f =
-      f ∙ ap (λ (b : Bool). ran_if b (told_of R) l r c p m) (passed HL CL HR CR γ o (length l) (length r) (length c) records (sym e ∙ h))
-      ∙ ap (λ (j : ℕ). measured_if j (told_of R) l r c p m) (sym h ∙ e)
+  pub measure_ran : 0 ≡ refusal → {w : Ran} → w ≡ ran_of HL CL HR CR γ o l r c p m → w ≡ told
+  measure_ran e f =
+      f ∙ ap (λ (b : Bool). ran_if b (told_of R) l r c p m) (passed HL CL HR CR γ o (length l) (length r) (length c) records (sym e))
+      ∙ ap (λ (j : ℕ). measured_if j (told_of R) l r c p m) e
 
 -- ---- the whole
 
@@ -163,7 +146,7 @@ module _ (HL : ChainShape) (CL : ChainColumns) (HR : ChainShape) (CR : ChainColu
 
   -- what is told, and the row it is written into
   abbrev outcome : Ran → Outcome
-  outcome w = ends (answer_of w.told) (memory w.lefts w.rights w.codes w.places w.masses (written w.told.records w.told.distance.contributions rs).records)
+  outcome w = ends (answer_of w.told) (memory w.lefts w.rights w.codes w.places w.masses (row_of w.told rs))
 
   abbrev swept : Measured → List PairContribution → Outcome
   swept a s = ends a (memory (zeros l) (zeros r) (zeros c) (zeros p) (noughts m) s)
@@ -171,14 +154,14 @@ module _ (HL : ChainShape) (CL : ChainColumns) (HR : ChainShape) (CR : ChainColu
   -- a run that was made
   made : (e : number ≡ 0) (k : ℕ) → ran.refusal ≡ k → outcome (measured_if 0 (told_if k ran) l r c p m) ≡ ranFrom k ran (memory l r c p m rs)
   made e zero f =
-      ap (λ (s : Stored). swept (says.Distance ran.distance) s.records)
+      ap (λ (s : Stored). swept (Ok ran.distance) s.records)
       (ap (λ (n : ℕ). written (row ran.listed) n rs) (run_counts (chain_of HL CL) (chain_of HR CR) γ o (min (length p) (length m)))
       ∙ listed_written ran.listed rs (passed_row HL CL HR CR γ o (length l) (length r) (length c) (length rs) e) (run_few (chain_of HL CL) (chain_of HR CR) γ o (min (length p) (length m)) (passed_top HL CL HR CR γ o (length l) (length r) (length c) (length rs) e)))
-  made e (suc k) f = ap (swept (says.Refused (suc k))) (none_written (row []) rs)
+  made e (suc k) f = refl
 
   settles : (k : ℕ) → number ≡ k → outcome (measured_if k (told_of ran) l r c p m) ≡ settled k ran (memory l r c p m rs)
   settles zero e = made e ran.refusal refl
-  settles (suc k) e = ap (λ (s : List PairContribution). ends (says.Refused (suc k)) (memory l r c p m s)) (none_written (row []) rs)
+  settles (suc k) e = refl
 
   pub concludes : {t : Told} {l' r' c' p' : List ℕ} {m' : List Float} {a : Measured} {rs' : List PairContribution}
       → ran_as t l' r' c' p' m' ≡ measured_of HL CL HR CR γ o l r c p m (length rs) → handed a rs' ≡ hand_out t rs → ends a (memory l' r' c' p' m' rs') ≡ distance HL CL HR CR γ o (memory l r c p m rs)

@@ -1,21 +1,18 @@
 -- What `distance` tells and leaves, but for the row of contribution records.
-use Rattle.std.specs.Prelude.{ℕ, zero, suc, min, List, [], ◌∷◌, length, Float}
+use Rattle.std.specs.Prelude.{ℕ, zero, suc, min, List, [], ◌∷◌, length, Float, Ok, Err}
 use Rattle.chain_theory.specs.Columns.{ChainColumns, chain_of}
 use Rattle.chain_theory.specs.declared.ChainShape.{ChainShape}
 use Rattle.distance_theory.specs.Refusal.{distance_refusal}
-use Rattle.distance_theory.specs.Outcome.{run, zeros, noughts, Lent, lent}
+use Rattle.distance_theory.specs.Outcome.{run, zeros, noughts, Lent, lent, Measured}
 use Rattle.distance_theory.specs.declared.MetricOptions.{MetricOptions}
 use Rattle.distance_theory.specs.declared.PairContribution.{PairContribution}
-use Rattle.distance_theory.specs.declared.Measured.{Measured}
-use Rattle.distance_theory.specs.declared.Measured.TheVariants as says
 use Rattle.distance_contributions.specs.Row.{written}
-use Rattle.distance_words.specs.declared.told.Told.{Told}
-use Rattle.distance_words.specs.Told.{refused_with, told_of, Ran, ran_as}
+use Rattle.distance_words.specs.Told.{Told, told_of, Ran, ran_as}
 
 -- the run, and the lists all zero; a refusal of the arguments leaves them as they were
 abbrev pub measured_if : ℕ → Told → List ℕ → List ℕ → List ℕ → List ℕ → List Float → Ran
 measured_if zero t l r c p m = ran_as t (zeros l) (zeros r) (zeros c) (zeros p) (noughts m)
-measured_if (suc k) t l r c p m = ran_as (refused_with (suc k)) l r c p m
+measured_if (suc k) t l r c p m = ran_as (Err (suc k)) l r c p m
 
 -- two chains, γ, options, the lists that are lent, and the length of the row of records
 abbrev pub measured_of : ChainShape → ChainColumns → ChainShape → ChainColumns → Float → MetricOptions → List ℕ → List ℕ → List ℕ → List ℕ → List Float → ℕ → Ran
@@ -23,12 +20,14 @@ measured_of HL CL HR CR γ o l r c p m records =
     measured_if (distance_refusal HL CL HR CR γ o (length l ∷ length r ∷ length c ∷ []) records) (told_of (run (chain_of HL CL) (chain_of HR CR) γ o (min (length p) (length m)))) l r c p m
 
 -- what is told, as the answer
-abbrev pub answer_if : ℕ → Told → Measured
-answer_if zero t = says.Distance t.distance
-answer_if (suc k) t = says.Refused (suc k)
-
 abbrev pub answer_of : Told → Measured
-answer_of t = answer_if t.refusal t
+answer_of (Ok a) = Ok a.distance
+answer_of (Err k) = Err k
+
+-- the contributions that are told go over the front of the row
+abbrev pub row_of : Told → List PairContribution → List PairContribution
+row_of (Ok a) rs = (written a.records a.distance.contributions rs).records
+row_of (Err k) rs = rs
 
 -- the answer, and the row of contribution records
 pub record Handed : Type 0 where
@@ -38,9 +37,9 @@ pub record Handed : Type 0 where
 abbrev pub handed : Measured → List PairContribution → Handed
 handed a rs = record { answer = a; records = rs }
 
--- the contributions that are told go over the front of the row
+-- of what is told
 abbrev pub hand_out : Told → List PairContribution → Handed
-hand_out t rs = handed (answer_of t) (written t.records t.distance.contributions rs).records
+hand_out t rs = handed (answer_of t) (row_of t rs)
 
 -- what is lent to `distance`: left and right states and codes of the pairs, the coupling store, and the row of records
 abbrev pub memory : List ℕ → List ℕ → List ℕ → List ℕ → List Float → List PairContribution → Lent

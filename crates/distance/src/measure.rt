@@ -1,89 +1,39 @@
 // `distance` but for the row of contribution records.
 ghost use Rattle.std.specs.Prelude.{◌≡◌};
-ghost use Rattle.chain_theory.specs.Columns.{chain_columns};
+ghost use Rattle.numbers.specs.Refuse.{numbered};
+ghost use Rattle.chain_theory.specs.Lent.{of_chain};
+ghost use Rattle.distance_theory.specs.Lent.{SameScratch};
 ghost use Rattle.distance_words.specs.Told.{ran_as};
-ghost use Rattle.distance.specs.Measuring.{measured_of, answer_of};
+ghost use Rattle.distance.specs.Measuring.{measured_of};
 
-use crate::check::{distance_refusal, of_chain, short};
-use chain_theory::ChainShape;
+use crate::check::distance_refusal;
+use bisim_checks::rest::Rest;
+use chain_theory::Chain;
 use distance_run::run::run;
-use distance_theory::{Measured, MetricOptions, PairContribution};
-use distance_words::told::{Told, refused};
+use distance_theory::Goal;
+use distance_theory::lent::Scratch;
+use distance_words::told::Answer;
+use numbers::refusal::Refusal;
 
 // The run of two chains, once the checks of the arguments have passed: scratch is all zero then. A refusal of theirs leaves it as it was.
 pub fn measure(
-    left: ChainShape,
-    left_offsets: &[u32],
-    left_targets: &[u32],
-    left_probs: &[f64],
-    left_seen: &[f64],
-    right: ChainShape,
-    right_offsets: &[u32],
-    right_targets: &[u32],
-    right_probs: &[f64],
-    right_seen: &[f64],
-    gamma: f64,
-    options: MetricOptions,
-    lefts: &mut [u32],
-    rights: &mut [u32],
-    codes: &mut [u64],
-    places: &mut [u32],
-    masses: &mut [f64],
+    left: &Chain,
+    right: &Chain,
+    goal: Goal,
+    scratch: &mut Scratch,
     records: usize,
-) -> Told
-    ensures { ran_as result lefts.new rights.new codes.new places.new masses.new ≡ measured_of left (chain_columns left_offsets.now left_targets.now left_probs.now left_seen.now) right (chain_columns right_offsets.now right_targets.now right_probs.now right_seen.now) gamma options lefts.old rights.old codes.old places.old masses.old records }
+) -> Result<Answer, Refusal>
+    ensures lists { SameScratch scratch.old scratch.new }
+    ensures measured { ran_as (numbered result) scratch.new.lefts.now scratch.new.rights.now scratch.new.codes.now scratch.new.places.now scratch.new.masses.now ≡ measured_of left.now.shape (of_chain left.now) right.now.shape (of_chain right.now) goal.gamma goal.options scratch.old.lefts.now scratch.old.rights.now scratch.old.codes.now scratch.old.places.now scratch.old.masses.now records }
 {
-    let refusal = distance_refusal(
-        of_chain(left, left_offsets, left_targets, left_probs, left_seen),
-        of_chain(right, right_offsets, right_targets, right_probs, right_seen),
-        short(lefts.len(), rights.len(), codes.len(), records),
-        gamma,
-        options,
-    );
-    if refusal != 0 {
-        return refused(refusal);
-    }
-    run(
-        left,
-        left_offsets,
-        left_targets,
-        left_probs,
-        left_seen,
-        right,
-        right_offsets,
-        right_targets,
-        right_probs,
-        right_seen,
-        gamma,
-        options,
-        lefts,
-        rights,
-        codes,
-        places,
-        masses,
-    )
-}
-
-// What a run tells, as the answer.
-pub(crate) fn answer(told: Told) -> Measured
-    ensures { result ≡ answer_of told }
-{
-    let refusal = told.refusal;
-    if refusal == 0 {
-        let distance = told.distance;
-        return Measured::Distance(distance);
-    }
-    Measured::Refused(refusal)
-}
-
-pub(crate) fn records_of(told: Told) -> [PairContribution; 64]
-    ensures { result ≡ told.records }
-{
-    told.records
-}
-
-pub(crate) fn count_of(told: Told) -> usize
-    ensures { result ≡ told.distance.contributions }
-{
-    told.distance.contributions
+    let rest = Rest {
+        gamma: goal.gamma,
+        options: goal.options,
+        lefts: scratch.lefts.len(),
+        rights: scratch.rights.len(),
+        codes: scratch.codes.len(),
+        records,
+    };
+    distance_refusal(left, right, rest)?;
+    run(left, right, goal, scratch)
 }

@@ -1,6 +1,6 @@
 // The kind `edge`: a link added to a network.
 use crate::kept::From;
-use crate::nets::{Listed, Rows};
+use crate::nets::Listed;
 use crate::{entries, kept, lent, nets};
 use flow::network::{FlowNetwork, Link, Made};
 use replay_text::lists::front;
@@ -16,11 +16,10 @@ fn expect(r: &mut Reader, refused: u32, net: &FlowNetwork) {
     r.expect_numbered(refused, count);
 }
 
-fn expect_links(r: &mut Reader, links: &[Link; 2176], n: usize) {
-    let rows = Rows::of(links);
-    r.expect_list(front(&rows.heads, n));
-    r.expect_list(front(&rows.caps, n));
-    r.expect_list(front(&rows.costs, n));
+fn expect_links(r: &mut Reader, links: &[Link]) {
+    r.expect_each(links, |link| link.head);
+    r.expect_each(links, |link| link.cap);
+    r.expect_each(links, |link| link.cost);
 }
 
 #[derive(Clone, Copy)]
@@ -72,7 +71,7 @@ fn same_else(l: Listed, x: Asked, made: Made) -> bool {
 
 fn compare(r: &mut Reader, l: Listed, x: Asked, made: Made) {
     expect(r, made.refused, &made.net);
-    expect_links(r, &made.net.links, two_more(l.links));
+    expect_links(r, front(&made.net.links, two_more(l.links)));
     r.expect_list(front(&made.net.starts, l.starts));
     r.expect_list(front(&made.net.list, two_more(l.list)));
     r.compared(same_else(l, x, made));

@@ -1,10 +1,9 @@
 // The kind `flow`: the maximum flow on a network.
 use crate::kept::From;
-use crate::nets::Rows;
 use crate::{entries, kept, lent, nets};
 use flow::network::FlowNetwork;
 use flow_core::rows::Answer;
-use replay_text::lists;
+use replay_text::lists::front;
 use replay_text::text::Reader;
 
 fn expect(r: &mut Reader, a: Answer) {
@@ -39,7 +38,7 @@ pub fn run(r: &mut Reader, counts: &mut [u64; 48]) {
     let sink = r.number_field() as usize;
     let ran = lent::max_flow(l.net, source, sink);
     expect(r, ran.answer);
-    r.expect_list(lists::front(&Rows::of(&ran.net.links).caps, l.links));
+    r.expect_each(front(&ran.net.links, l.links), |link| link.cap);
     r.compared(same_else(&l.net, &ran.net, l.links));
     r.count(counts, entries::MAX_FLOW);
 }

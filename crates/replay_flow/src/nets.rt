@@ -14,12 +14,12 @@ pub struct Listed {
     pub list: usize,
 }
 
-// The links of a network, a row for each of their fields.
+// The links of a network as a case lists them, a row for each of their fields.
 #[derive(Drop)]
-pub struct Rows {
-    pub heads: [u32; 2176],
-    pub caps: [f64; 2176],
-    pub costs: [f64; 2176],
+struct Rows {
+    heads: [u32; 2176],
+    caps: [f64; 2176],
+    costs: [f64; 2176],
 }
 
 // A network of so many nodes without links, as rows of zeros.
@@ -41,7 +41,7 @@ pub fn blank(nodes: usize) -> FlowNetwork {
 }
 
 impl Rows {
-    pub fn new() -> Rows {
+    fn new() -> Rows {
         Rows {
             heads: [0; 2176],
             caps: [0.0; 2176],
@@ -69,16 +69,6 @@ impl Rows {
                 }
             },
         )
-    }
-
-    pub fn of(links: &[Link; 2176]) -> Rows {
-        let mut rows = Rows::new();
-        for (i, link) in links.iter().enumerate() {
-            rows.heads[i] = link.head;
-            rows.caps[i] = link.cap;
-            rows.costs[i] = link.cost;
-        }
-        rows
     }
 }
 

@@ -2,32 +2,45 @@
 ghost use Rattle.replay_text.specs.Reading.{Lasts};
 
 use distance_theory::{Distance, PairContribution};
+use distance_words::told::Answer;
+use numbers::refusal::Refusal;
 use replay_text::lists::front;
 use replay_text::text::Reader;
+use replay_text::values::Value;
 
-// The refusal, and the values and the counts, which are 0 where there is one.
-fn expect_values(r: &mut Reader, refusal: u32, d: Distance)
-    ensures { Lasts r.old r.new }
-{
-    r.expect_numbered(refusal, (d.value, d.error_bound, d.gamma));
-    r.expect((d.pairs_explored, d.contributions, d.rounds));
+// The values of a distance, and its counts.
+type Figures = ((f64, f64, f64), (usize, usize, usize));
+
+fn figures(d: Distance) -> Figures {
+    (
+        (d.value, d.error_bound, d.gamma),
+        (d.pairs_explored, d.contributions, d.rounds),
+    )
 }
 
-// The fields of the first n records, each in a list of its own.
-fn expect_records(r: &mut Reader, records: &[PairContribution; 64], n: usize)
+// The fields of records, each in a list of its own.
+fn expect_records(r: &mut Reader, records: &[PairContribution])
     ensures { Lasts r.old r.new }
 {
-    r.expect_list(front(&records.map(|c| c.left.0), n));
-    r.expect_list(front(&records.map(|c| c.right.0), n));
-    r.expect_list(front(&records.map(|c| c.gap), n));
-    r.expect_list(front(&records.map(|c| c.occupancy), n));
-    r.expect_list(front(&records.map(|c| c.contribution), n));
+    r.expect_each(records, |c| c.left);
+    r.expect_each(records, |c| c.right);
+    r.expect_each(records, |c| c.gap);
+    r.expect_each(records, |c| c.occupancy);
+    r.expect_each(records, |c| c.contribution);
 }
 
-// The answer and its contributions.
-pub fn expect(r: &mut Reader, refusal: u32, d: Distance, records: &[PairContribution; 64])
+// The distance and its contributions, or the refusal, with zeros and none.
+pub fn expect(r: &mut Reader, told: &Result<Answer, Refusal>)
     ensures { Lasts r.old r.new }
 {
-    expect_values(r, refusal, d);
-    expect_records(r, records, d.contributions);
+    match told {
+        Ok(answer) => {
+            r.expect_numbered(0, figures(answer.distance));
+            expect_records(r, front(&answer.records, answer.distance.contributions));
+        }
+        Err(refusal) => {
+            r.expect_numbered(refusal.number(), Figures::zero());
+            expect_records(r, &[]);
+        }
+    }
 }

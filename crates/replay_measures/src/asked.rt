@@ -1,20 +1,13 @@
-// What is asked beside two chains or two models: options, and how much is lent.
+// What is asked beside two chains or two models: the goal, and how much is lent.
 ghost use Rattle.replay_text.specs.Reading.{Lasts};
 
-use distance_theory::MetricOptions;
+use distance_theory::{Goal, MetricOptions};
 use replay_text::text::Reader;
 
-// The discount and the options.
-#[derive(Clone, Copy)]
-pub struct Asked {
-    pub gamma: f64,
-    pub options: MetricOptions,
-}
-
-pub fn read(r: &mut Reader) -> Asked
+pub fn read(r: &mut Reader) -> Goal
     ensures { Lasts r.old r.new }
 {
-    Asked {
+    Goal {
         gamma: r.real_field(),
         options: MetricOptions {
             tolerance: r.real_field(),

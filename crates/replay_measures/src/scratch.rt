@@ -4,6 +4,7 @@ ghost use Rattle.replay_text.specs.Reading.{Lasts};
 ghost use Rattle.replay_measures.specs.Marks.{mark};
 
 use crate::asked::Rooms;
+use distance_theory::lent::Scratch;
 use replay_text::lists::{front, front_mut};
 use replay_text::text::Reader;
 use replay_text::values::Value;
@@ -106,24 +107,42 @@ pub fn expect_kept(r: &mut Reader)
     r.expect(0u64);
 }
 
-// The lists that are lent for a run.
+// Room for the lists that are lent for a run.
 #[derive(Drop)]
-pub struct Scratch {
-    pub lefts: [u32; 4200],
-    pub rights: [u32; 4200],
-    pub codes: [u64; 4200],
-    pub places: [u32; 4200],
-    pub masses: [f64; 4200],
+pub struct Lists {
+    lefts: [u32; 4200],
+    rights: [u32; 4200],
+    codes: [u64; 4200],
+    places: [u32; 4200],
+    masses: [f64; 4200],
 }
 
-impl Scratch {
-    pub fn new() -> Scratch {
-        Scratch {
+impl Lists {
+    pub fn new() -> Lists {
+        Lists {
             lefts: [0; 4200],
             rights: [0; 4200],
             codes: [0; 4200],
             places: [0; 4200],
             masses: [0.0; 4200],
+        }
+    }
+
+    // All marked, so many entries of each.
+    pub fn lend<'a>(&'a mut self, rooms: Rooms) -> Scratch<'a> {
+        let Lists {
+            lefts,
+            rights,
+            codes,
+            places,
+            masses,
+        } = self;
+        Scratch {
+            lefts: marked(lefts, rooms[0]),
+            rights: marked(rights, rooms[1]),
+            codes: marked(codes, rooms[2]),
+            places: marked(places, rooms[3]),
+            masses: marked(masses, rooms[4]),
         }
     }
 

@@ -3,7 +3,7 @@ ghost use Rattle.std.specs.Prelude.{◌≡◌, ◌≤◌, length, take};
 ghost use Rattle.replay_text.specs.Reading.{Lasts};
 
 use crate::text::Reader;
-use crate::values::Entry;
+use crate::values::{Entry, Value};
 
 // The first n entries; all where there are fewer.
 pub fn front<'a, T>(xs: &'a [T], n: usize) -> &'a [T]
@@ -45,14 +45,22 @@ impl Reader<'_> {
         list
     }
 
-    // The list stored is the list given.
-    pub fn expect_list<T: Entry>(&mut self, xs: &[T])
+    // The list stored is what `of` makes of these.
+    pub fn expect_each<T, V: Value, F: Fn(&T) -> V>(&mut self, xs: &[T], of: F)
+        requires { F.IsAlwaysCallable of }
         ensures { Lasts self.old self.new }
     {
         self.name();
         self.expect(xs.len());
         for x in xs {
-            self.expect(*x);
+            self.expect(of(x));
         }
+    }
+
+    // The list stored is the list given.
+    pub fn expect_list<T: Entry>(&mut self, xs: &[T])
+        ensures { Lasts self.old self.new }
+    {
+        self.expect_each(xs, |x| *x);
     }
 }

@@ -1,8 +1,11 @@
--- Both tests are those of the definition.
-use Rattle.distance.proofs.Checking.{rest_comes}
+-- Of the checks of either chain and of the rest the first that fails.
+use mathlib.Core.List.{[], ◌∷◌}
+use Rattle.chain_theory.specs.Lent.{of_chain}
+use Rattle.distance.proofs.Checking.{total}
 use Rattle.distance.proofs.check.distance_refusal.Goals as goal
 
 pub returns : goal.returns
 returns c =
     let a = c.args in
-    rest_comes a.left a.right a.lacking a.gamma a.options c.discount_outside.ensures c.excessive.ensures c.combine.ensures
+    total a.left.now.shape (of_chain a.left.now) a.right.now.shape (of_chain a.right.now) a.rest.gamma a.rest.options (a.rest.lefts ∷ a.rest.rights ∷ a.rest.codes ∷ []) a.rest.records
+    c.chain_refusal-of_left.ensures c.chain_refusal-of_right.ensures c.rest_refusal.ensures c.earlier.ensures c.earlier-2.ensures
