@@ -1,5 +1,5 @@
 -- What `build` makes passes the checks of a built model (`built_accepted`), and its rows are the edges of the transitions given (`read_back`).
-use Rattle.std.specs.Prelude.{Option}
+use Rattle.std.specs.Prelude.{Option, Result, Ok}
 use Rattle.bisim_core.specs.declared.ids.StateId.{StateId}
 use mathlib.Core.Path.{◌≡◌, refl, sym, ap, ◌∙◌}
 use mathlib.Core.Bool.{Bool, true, false, not}
@@ -28,7 +28,6 @@ use Rattle.build_theory.specs.Checks.{labels_of, refusal}
 use Rattle.build_theory.proofs.Ranks.{AllE, all_map, all_both, Small, Of}
 use Rattle.build_theory.proofs.Weights.{Fair, joined_weighs_lem}
 use Rattle.bisim_build.specs.Build.{short, Outcome, made, settled, build}
-use Rattle.bisim_build.specs.declared.builder.Built.TheVariants.{Model}
 use Rattle.bisim_build.proofs.Backs.{below_all, below_le, below_mono, Ordered, strict_ordered, split_at, Holds, row_is, rows_all, all_part, strict_part, all_of, rises_of}
 use Rattle.bisim_build.proofs.Made.{Passed, passes, InRange, sizes, start, strict, in_range, small, fair, not_zero, edges_few, uncrowded}
 use Rattle.bisim_build.proofs.Stored.{column, over_at}
@@ -182,14 +181,14 @@ module _ (states : ℕ) (initial : Option StateId) (C : Transitions) (given : �
 -- ---- the theorems: of a model that `build` answers with, and of the columns that it leaves
 
 -- an answer that is a model was refused by no check
-none_refused : (r : ℕ) (M : Columns) (done : Outcome) (S : Shape) → (settled r M done).answer ≡ Model S → r ≡ 0
+none_refused : (r : ℕ) (M : Columns) (done : Outcome) (S : Shape) → (settled r M done).answer ≡ Ok S → r ≡ 0
 none_refused zero M done S h = refl
 none_refused (suc n) M done S h = let z : ◌≡◌ {A = ℕ} 0 1 = cc in absurd (omega arith)
 
-inner : {x y : Shape} → Model x ≡ Model y → x ≡ y
+inner : {x y : Shape} → ◌≡◌ {A = Result Shape ℕ} (Ok x) (Ok y) → x ≡ y
 inner {x} {y} p = cc
 
-module _ (states : ℕ) (initial : Option StateId) (C : Transitions) (given : ℕ) (M : Columns) (S : Shape) (h : (build states initial C given M).answer ≡ Model S) where
+module _ (states : ℕ) (initial : Option StateId) (C : Transitions) (given : ℕ) (M : Columns) (S : Shape) (h : (build states initial C given M).answer ≡ Ok S) where
   unrefused : refusal states initial C given (short states given M) ≡ 0
   unfolding build
   unrefused = none_refused (refusal states initial C given (short states given M)) M (made states initial C given M) S h

@@ -1,15 +1,20 @@
 -- How `build` ends, by the plan: a refusal of the plan is its own, and else the columns are written from what the plan left.
-use Rattle.std.specs.Prelude.{Option}
+use Rattle.std.specs.Prelude.{Option, Result, Ok, Err}
+use Rattle.std.specs.Result.{is_ok}
+use Rattle.build_theory.specs.declared.lent.Draft.{Draft}
+use Rattle.build_theory.specs.declared.lent.Store.{Store}
+use Rattle.build_theory.specs.Lent.{transitions_of, columns_in}
 use Rattle.bisim_core.specs.declared.ids.StateId.{StateId}
 use mathlib.Core.Path.{◌≡◌, refl, sym, subst, ap, ◌∙◌}
-use mathlib.Core.Bool.{Bool, true, false, ◌||◌}
+use mathlib.Core.Bool.{Bool, true, false, ◌||◌, true≢false, false≢true}
 use mathlib.Core.Logic.{◌⊎◌, inl, inr, ◌≢◌}
 use Prim.Native.Nat.{ℕ, zero, suc, min, ◌+◌, ◌≤◌, ◌<◌}
-use mathlib.Core.List.{List, map}
+use mathlib.Core.List.{List, [], ◌∷◌, ◌++◌, map}
 use native.Mathlib.Omega.{arith}
 use lib.Dec.{ltb}
-use lib.Ieee.{Float}
-use lib.ListN.{length, drop, length-append, length-map}
+use lib.Ieee.{Float, nan}
+use lib.ListN.{length, get_or, take, drop, length-append, length-map}
+use lib.Seq.{length-take-le, get_or-take}
 use borrow.Author.Tests.{lt-ltb, le-ltb, ltb-false}
 use Rattle.numbers.specs.Lists.{over}
 use Rattle.numbers.specs.Refuse.{check}
@@ -19,11 +24,8 @@ use Rattle.bisim_core.specs.Data.{Edge, Transitions, Columns, columns}
 use Rattle.build_theory.specs.Edges.{edges, offsets}
 use Rattle.build_theory.specs.Checks.{labels_of, oversized, outside, unweighed, crowded, missing, refusal}
 use Rattle.build_theory.proofs.Plan.{Lists, lists, weight_of, laid, shortest, Ending, ending, outcome, planned}
-use Rattle.build_theory.proofs.Steps.{rank, Rising, edges_in, Writable, Written}
-use Rattle.bisim_edges.specs.declared.planner.Planned as answers
-use Rattle.bisim_edges.specs.declared.planner.Planned.TheVariants as answer
+use Rattle.build_theory.proofs.Steps.{rank, Rising, edge_in, edges_in, Writable, Written}
 use Rattle.bisim_build.specs.Build.{short, Outcome, ends, made, settled, build}
-use Rattle.bisim_build.specs.declared.builder.Built.TheVariants.{Model, Refused}
 use Rattle.bisim_build.proofs.Made.{Passed, passes, sizes, small, strict, edges_few}
 use Rattle.bisim_build.proofs.Stored.{stored_edges, stored_rising}
 
@@ -49,26 +51,54 @@ reorder false false false false w = refl
 
 -- ---- the outcome of a plan
 
-abbrev answered : Ending answers.Planned → answers.Planned
-answered o = o.answer
+abbrev answer : Ending → Result (ℕ × ℕ) ℕ
+answer o = o.answer
 
-abbrev left : Ending answers.Planned → Lists
+abbrev left : Ending → Lists
 left o = o.memory
 
-refused_ends : (x a b r : ℕ) (old new last : Lists) → ending (answer.Refused r) last ≡ outcome x answer.Refused (answer.Edges a b) old new → (x ≡ r) × (r ≢ 0) × (last ≡ old)
-refused_ends zero a b r old new last e = let y = ap answered e in let z : ◌≡◌ {A = ℕ} 0 1 = cc in absurd (omega arith)
-refused_ends (suc x) a b r old new last e = let y = ap answered e in let z : suc x ≡ r = cc in (z, λ y. omega arith, ap left e)
+abbrev counts : Result (ℕ × ℕ) ℕ → ℕ × ℕ
+counts (Ok p) = p
+counts (Err k) = (0, k)
 
-edges_end : (x a b m d : ℕ) (old new last : Lists) → ending (answer.Edges m d) last ≡ outcome x answer.Refused (answer.Edges a b) old new → (x ≡ 0) × (m ≡ a) × (d ≡ b) × (last ≡ new)
-edges_end zero a b m d old new last e = let y = ap answered e in (refl, (cc), (cc), ap left e)
-edges_end (suc x) a b m d old new last e = let y = ap answered e in let z : ◌≡◌ {A = ℕ} 0 1 = cc in absurd (omega arith)
+abbrev refusal_of : Result (ℕ × ℕ) ℕ → ℕ
+refusal_of (Ok p) = 0
+refusal_of (Err k) = k
 
-refused_is : (k r : ℕ) (M : Columns) (done : Outcome) → r ≡ k → k ≢ 0 → ends (Refused k) M ≡ settled r M done
+refused_ends : (x : ℕ) (p : ℕ × ℕ) (r : ℕ) (old new last : Lists) → ending (Err r) last ≡ outcome x p old new → (x ≡ r) × (r ≢ 0) × (last ≡ old)
+refused_ends zero p r old new last e = absurd (false≢true (ap (λ o. is_ok o.answer) e))
+refused_ends (suc x) p r old new last e = let z = ap (λ o. refusal_of o.answer) e in (sym z, (λ y. omega arith), ap left e)
+
+edges_end : (x : ℕ) (p : ℕ × ℕ) (m d : ℕ) (old new last : Lists) → ending (Ok (m, d)) last ≡ outcome x p old new → (x ≡ 0) × (m ≡ p.0) × (d ≡ p.1) × (last ≡ new)
+edges_end zero p m d old new last e = (refl, ap (λ o. (counts o.answer).0) e, ap (λ o. (counts o.answer).1) e, ap left e)
+edges_end (suc x) p m d old new last e = absurd (true≢false (ap (λ o. is_ok o.answer) e))
+
+refused_is : (k r : ℕ) (M : Columns) (done : Outcome) → r ≡ k → k ≢ 0 → ends (Err k) M ≡ settled r M done
 refused_is zero r M done e h = absurd (h refl)
-refused_is (suc k) r M done e h = subst (λ (x : ℕ). ends (Refused (suc k)) M ≡ settled x M done) (sym e) refl
+refused_is (suc k) r M done e h = subst (λ (x : ℕ). ends (Err (suc k)) M ≡ settled x M done) (sym e) refl
 
 done_is : (r : ℕ) (M : Columns) (done : Outcome) → r ≡ 0 → done ≡ settled r M done
 done_is r M done e = subst (λ (x : ℕ). done ≡ settled x M done) (sym e) refl
+
+-- ---- the first m triples, cut off
+
+module _ (T : List ℕ) (m : ℕ) (w : m ≤ length T) where
+  cut_edges : (U : List Float) → edges_in (take m T) U (length (take m T)) ≡ edges_in T U m
+  unfolding edges_in
+  cut_edges U = ap (edges_in (take m T) U) (length-take-le m T w) ∙ below m (omega arith)
+    where
+      below : (k : ℕ) → k ≤ m → edges_in (take m T) U k ≡ edges_in T U k
+      below zero h = refl
+      below (suc k) h = ap (λ (E : List Edge). E ++ (edge_in (get_or (take m T) k 0) (get_or U k nan) ∷ [])) (below k (omega arith))
+          ∙ ap (λ (x : ℕ). edges_in T U k ++ (edge_in x (get_or U k nan) ∷ [])) (get_or-take m T k 0 (omega arith))
+
+  cut_rising : Rising T m → Rising (take m T) (length (take m T))
+  cut_rising R i j h k =
+      let l = length-take-le m T w in
+      let a = R i j h (omega arith) in
+      let b = get_or-take m T i 0 (omega arith) in
+      let c = get_or-take m T j 0 (omega arith) in
+      omega arith
 
 -- a call of `build`
 pub record Call : Type 0 where
@@ -78,6 +108,9 @@ pub record Call : Type 0 where
   pub given : ℕ
   pub M : Columns
   pub T : List ℕ
+
+abbrev pub call_of : Draft → Store → List ℕ → Call
+call_of D S T = record { states = D.states; initial = D.initial; C = transitions_of D; given = D.given; M = columns_in S; T = T }
 
 module _ (Z : Call) (few : Z.given ≤ 4096 → Z.given ≤ length Z.T) {s : Bool}
     (e : s ≡ (ltb (length Z.M.offsets) (Z.states + 1) || (ltb (length Z.M.edge_labels) Z.given || ltb (length Z.M.edge_targets) Z.given))) where
@@ -114,30 +147,28 @@ module _ (Z : Call) (few : Z.given ≤ 4096 → Z.given ≤ length Z.T) {s : Boo
       let (p, q) = or_f (ltb 4096 given) (ltb 256 (length (labels_of C given))) b in
       ap (λ (b : Bool). check 4 (outside states initial C given) (check 5 (unweighed C given) (check 6 (crowded states C given) (check 7 (missing C given || b) 0)))) (shorts (ltb-false _ _ p)))
 
-  module _ {p : answers.Planned} {L T : List ℕ} {W : List Float} (f : ending p (lists L T W) ≡ planned rank answer.Refused answer.Edges states initial C given s S) where
-    plan_is : (q : answers.Planned) → p ≡ q
-        → ending q (lists L T W) ≡ outcome number answer.Refused (answer.Edges (length (edges C given)) (length (labels_of C given))) S (laid rank (labels_of C given) (edges C given) S)
+  module _ {L T : List ℕ} {W : List Float} where
+    plan_is : (q : Result (ℕ × ℕ) ℕ) → ending q (lists L T W) ≡ planned rank states initial C given s S
+        → ending q (lists L T W) ≡ outcome number (length (edges C given), length (labels_of C given)) S (laid rank (labels_of C given) (edges C given) S)
     unfolding planned
-    plan_is q g =
-        ap (λ (x : answers.Planned). ending x (lists L T W)) (sym g) ∙ f
-        ∙ ap (λ (x : ℕ). outcome x answer.Refused (answer.Edges (length (edges C given)) (length (labels_of C given))) S (laid rank (labels_of C given) (edges C given) S)) number_is
+    plan_is q f = f ∙ ap (λ (x : ℕ). outcome x (length (edges C given), length (labels_of C given)) S (laid rank (labels_of C given) (edges C given) S)) number_is
 
-    pub plan_refused : (r : ℕ) → p ≡ answer.Refused r → ends (Refused r) (columns L M.offsets M.edge_labels M.edge_targets W) ≡ build states initial C given M
+    pub plan_refused : (r : ℕ) → ending (Err r) (lists L T W) ≡ planned rank states initial C given s S → ends (Err r) (columns L M.offsets M.edge_labels M.edge_targets W) ≡ build states initial C given M
     unfolding build
-    plan_refused r g =
-        let (x, y, z) = refused_ends number _ _ r S _ (lists L T W) (plan_is (answer.Refused r) g) in
+    plan_refused r f =
+        let (x, y, z) = refused_ends number _ r S _ (lists L T W) (plan_is (Err r) f) in
         same L W M.labels M.edge_weights (ap (λ (m : Lists). m.labels) z) (ap (λ (m : Lists). m.weights) z) ∙ refused_is r number M (made states initial C given M) x y
       where
         same : (l : List ℕ) (w : List Float) (l' : List ℕ) (w' : List Float) → l ≡ l' → w ≡ w'
-            → ends (Refused r) (columns l M.offsets M.edge_labels M.edge_targets w) ≡ ends (Refused r) (columns l' M.offsets M.edge_labels M.edge_targets w')
+            → ends (Err r) (columns l M.offsets M.edge_labels M.edge_targets w) ≡ ends (Err r) (columns l' M.offsets M.edge_labels M.edge_targets w')
         same l w l' w' a b = cc
 
-    module _ (m d : ℕ) (g : p ≡ answer.Edges m d) where
+    module _ (m d : ℕ) (f : ending (Ok (m, d)) (lists L T W) ≡ planned rank states initial C given s S) where
       abbrev E : List Edge
       E = edges C given
 
       ended : (number ≡ 0) × (m ≡ length E) × (d ≡ length (labels_of C given)) × (lists L T W ≡ laid rank (labels_of C given) E S)
-      ended = edges_end number _ _ m d S _ (lists L T W) (plan_is (answer.Edges m d) g)
+      ended = edges_end number _ m d S _ (lists L T W) (plan_is (Ok (m, d)) f)
 
       passed : Passed states initial C given × (short states given M ≡ false)
       passed = passes states initial C given (short states given M) ended.0
@@ -159,33 +190,43 @@ module _ (Z : Call) (few : Z.given ≤ 4096 → Z.given ≤ length Z.T) {s : Boo
           let z : states + 1 ≤ length M.offsets = ltb-false _ _ a in
           (omega arith, ltb-false _ _ k, ltb-false _ _ n)
 
+      pub within : m ≤ length T
+      within =
+          let t = ap length triples_are ∙ length-append (map rank E) (drop (length (map rank E)) Z.T) in
+          let u = length-map E rank in
+          let q = ended.1 in
+          omega arith
+
       -- what the columns are then written from
-      pub fillable : Writable T m M.edge_labels M.edge_targets × (m ≤ 4096) × (states ≤ 2000) × (states < length M.offsets) × Rising T m
+      pub fillable : Writable (take m T) (length (take m T)) M.edge_labels M.edge_targets × (length (take m T) ≤ 4096) × (states ≤ 2000) × (states < length M.offsets) × Rising (take m T) (length (take m T))
       fillable =
           let (a, b, c) = sizes passed.0 in
           let h = edges_few passed.0 in
           let q = ended.1 in
           let (x, y, z) = rooms in
-          let t = ap length triples_are ∙ length-append (map rank E) (drop (length (map rank E)) Z.T) in
-          let u = length-map E rank in (
+          let l = length-take-le m T within in (
             record { t_in = omega arith; l_room = omega arith; g_room = omega arith },
             omega arith,
             a,
             x,
-            subst (λ (l : List ℕ). Rising l m) (sym triples_are) (subst (Rising (over (map rank E) Z.T)) (sym q) (stored_rising E Z.T M.edge_weights (strict passed.0))),
+            cut_rising T m within (subst (λ (l : List ℕ). Rising l m) (sym triples_are) (subst (Rising (over (map rank E) Z.T)) (sym q) (stored_rising E Z.T M.edge_weights (strict passed.0)))),
           )
 
-      pub plan_passed : {O EL ET : List ℕ} → Written T m M.edge_labels M.edge_targets EL ET → ((U : List Float) → O ≡ over (offsets states (edges_in T U m)) M.offsets)
-          → ends (Model (record { states = states; edges = m; labels = d; initial = initial })) (columns L O EL ET W) ≡ build states initial C given M
+      cut_stored : edges_in (take m T) W (length (take m T)) ≡ E
+      cut_stored = cut_edges T m within W ∙ stored
+
+      pub plan_passed : {L' O EL ET : List ℕ} {W' : List Float} → Written (take m T) (length (take m T)) M.edge_labels M.edge_targets EL ET
+          → ((U : List Float) → O ≡ over (offsets states (edges_in (take m T) U (length (take m T)))) M.offsets) → L' ≡ L → W' ≡ W
+          → ends (Ok (record { states = states; edges = m; labels = d; initial = initial })) (columns L' O EL ET W') ≡ build states initial C given M
       unfolding build
-      plan_passed {O} {EL} {ET} w o =
-          put m d L O EL ET W _ _ _ _ _ _ _ ended.1 ended.2 (ap (λ (x : Lists). x.labels) ended.3) (o W ∙ ap (λ (x : List Edge). over (offsets states x) M.offsets) stored)
-          (w.labels W ∙ ap (λ (x : List Edge). over (map (λ (a : Edge). a.label) x) M.edge_labels) stored)
-          (w.targets W ∙ ap (λ (x : List Edge). over (map (λ (a : Edge). a.target) x) M.edge_targets) stored) (ap (λ (x : Lists). x.weights) ended.3)
+      plan_passed {L'} {O} {EL} {ET} {W'} w o l v =
+          put m d L' O EL ET W' _ _ _ _ _ _ _ ended.1 ended.2 (l ∙ ap (λ (x : Lists). x.labels) ended.3) (o W ∙ ap (λ (x : List Edge). over (offsets states x) M.offsets) cut_stored)
+          (w.labels W ∙ ap (λ (x : List Edge). over (map (λ (a : Edge). a.label) x) M.edge_labels) cut_stored)
+          (w.targets W ∙ ap (λ (x : List Edge). over (map (λ (a : Edge). a.target) x) M.edge_targets) cut_stored) (v ∙ ap (λ (x : Lists). x.weights) ended.3)
           ∙ done_is number M (made states initial C given M) ended.0
         where
           put : (m c : ℕ) (l o el et : List ℕ) (ew : List Float) (m' c' : ℕ) (l' o' el' et' : List ℕ) (ew' : List Float)
               → m ≡ m' → c ≡ c' → l ≡ l' → o ≡ o' → el ≡ el' → et ≡ et' → ew ≡ ew'
-              → ends (Model (record { states = states; edges = m; labels = c; initial = initial })) (columns l o el et ew)
-              ≡ ends (Model (record { states = states; edges = m'; labels = c'; initial = initial })) (columns l' o' el' et' ew')
+              → ends (Ok (record { states = states; edges = m; labels = c; initial = initial })) (columns l o el et ew)
+              ≡ ends (Ok (record { states = states; edges = m'; labels = c'; initial = initial })) (columns l' o' el' et' ew')
           put m c l o el et ew m' c' l' o' el' et' ew' p q r s t u v = cc

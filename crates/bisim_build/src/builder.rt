@@ -1,126 +1,50 @@
 // `build`: a model from transitions in columns.
 ghost use Rattle.std.specs.Prelude.{◌≡◌, ◌≤◌, length};
-ghost use Rattle.bisim_core.specs.Data.{transitions, columns};
+ghost use Rattle.numbers.specs.Refuse.{numbered};
+ghost use Rattle.build_theory.specs.Lent.{transitions_of, columns_in, kept};
 ghost use Rattle.bisim_build.specs.Build;
 ghost use Rattle.bisim_build.specs.Build.{ends};
 
 use crate::write;
-use bisim_core::ids::StateId;
 use bisim_core::wlts::Shape;
-use bisim_edges::planner::{Planned, plan};
-
-#[derive(Clone, Copy)]
-pub enum Built {
-    Model(Shape),
-    Refused(u32),
-}
+use bisim_edges::planner::plan;
+use build_theory::lent::{Draft, Store};
+use numbers::refusal::Refusal;
 
 // `build`, with work space for the transitions given, if they are not too many.
-fn build_in(
-    states: usize,
-    initial: Option<StateId>,
-    sources: &[u32],
-    labels: &[u32],
-    targets: &[u32],
-    weights: &[f64],
-    given: usize,
-    label_values: &mut [u32],
-    offsets: &mut [u32],
-    edge_labels: &mut [u32],
-    edge_targets: &mut [u32],
-    edge_weights: &mut [f64],
-    triples: &mut [u64],
-) -> Built
-    requires { given ≤ 4096 → given ≤ length triples.old }
-    ensures { ends result (columns label_values.new offsets.new edge_labels.new edge_targets.new edge_weights.new)
-        ≡ Build.build states initial (transitions sources.now labels.now targets.now weights.now) given
-        (columns label_values.old offsets.old edge_labels.old edge_targets.old edge_weights.old) }
+fn build_in(draft: &Draft, store: &mut Store, triples: &mut [u64]) -> Result<Shape, Refusal>
+    requires { draft.now.given ≤ 4096 → draft.now.given ≤ length triples.old }
+    ensures outcome { ends (numbered result) (columns_in store.new)
+        ≡ Build.build draft.now.states draft.now.initial (transitions_of draft.now) draft.now.given (columns_in store.old) }
+    ensures same_lists { kept store.old store.new }
 {
-    let short = write::short(
-        states,
-        given,
-        offsets.len(),
-        edge_labels.len(),
-        edge_targets.len(),
-    );
-    let planned = plan(
-        states,
-        initial,
-        sources,
-        labels,
-        targets,
-        weights,
-        given,
+    let short = write::short(draft, store);
+    let (edges, labels) = plan(
+        draft,
         short,
-        label_values,
+        store.label_values,
         triples,
-        edge_weights,
-    );
-    match planned {
-        Planned::Refused(r) => Built::Refused(r),
-        Planned::Edges(edges, labels) => {
-            write::fill(triples, edges, states, offsets, edge_labels, edge_targets);
-            Built::Model(Shape {
-                states,
-                edges,
-                labels,
-                initial,
-            })
-        }
-    }
+        store.edge_weights,
+    )?;
+    write::fill(&triples[..edges], draft.states, store);
+    Ok(Shape {
+        states: draft.states,
+        edges,
+        labels,
+        initial: draft.initial,
+    })
 }
 
-// The model of the transitions given, or the number of the first check that fails. Its columns go into the last five lists.
-pub fn build(
-    states: usize,
-    initial: Option<StateId>,
-    sources: &[u32],
-    labels: &[u32],
-    targets: &[u32],
-    weights: &[f64],
-    given: usize,
-    label_values: &mut [u32],
-    offsets: &mut [u32],
-    edge_labels: &mut [u32],
-    edge_targets: &mut [u32],
-    edge_weights: &mut [f64],
-) -> Built
-    ensures { ends result (columns label_values.new offsets.new edge_labels.new edge_targets.new edge_weights.new)
-        ≡ Build.build states initial (transitions sources.now labels.now targets.now weights.now) given
-        (columns label_values.old offsets.old edge_labels.old edge_targets.old edge_weights.old) }
+// The model of a draft, its columns in the store. Turned back with the first check that fails: then the store is left as it was.
+pub fn build(draft: &Draft, store: &mut Store) -> Result<Shape, Refusal>
+    ensures outcome { ends (numbered result) (columns_in store.new)
+        ≡ Build.build draft.now.states draft.now.initial (transitions_of draft.now) draft.now.given (columns_in store.old) }
+    ensures same_lists { kept store.old store.new }
 {
-    if given <= 256 {
+    if draft.given <= 256 {
         let mut triples = [0u64; 256];
-        return build_in(
-            states,
-            initial,
-            sources,
-            labels,
-            targets,
-            weights,
-            given,
-            label_values,
-            offsets,
-            edge_labels,
-            edge_targets,
-            edge_weights,
-            &mut triples,
-        );
+        return build_in(draft, store, &mut triples);
     }
     let mut triples = [0u64; 4096];
-    build_in(
-        states,
-        initial,
-        sources,
-        labels,
-        targets,
-        weights,
-        given,
-        label_values,
-        offsets,
-        edge_labels,
-        edge_targets,
-        edge_weights,
-        &mut triples,
-    )
+    build_in(draft, store, &mut triples)
 }

@@ -2,67 +2,63 @@
 ghost use Rattle.std.specs.Prelude.{◌≡◌, List, ◌||◌, ◌+◌, ◌≤◌, ◌<◌, ltb, Float, length};
 ghost use Rattle.numbers.specs.Lists.{over};
 ghost use Rattle.build_theory.specs.Edges;
+ghost use Rattle.build_theory.specs.Lent.{kept};
 ghost use Rattle.build_theory.proofs.Steps.{Rising, edges_in, FirstFrom, Writable, Written};
 
-// The first number of triples[p..m] that is not below the bound.
-fn first_from(triples: &[u64], m: usize, p: usize, bound: u64) -> usize
-    requires { (p ≤ m) × (m ≤ length triples.now) }
-    ensures { FirstFrom triples.now m p bound result }
+use build_theory::lent::{Draft, Store};
+
+// The first number of triples[p..] that is not below the bound.
+fn first_from(triples: &[u64], p: usize, bound: u64) -> usize
+    requires { p ≤ length triples.now }
+    ensures { FirstFrom triples.now (length triples.now) p bound result }
 {
-    match triples[p..m].iter().position(|x| *x >= bound) {
+    match triples[p..].iter().position(|x| *x >= bound) {
         Some(k) => p + k,
-        None => m,
+        None => triples.len(),
     }
 }
 
-fn write_offsets(triples: &[u64], m: usize, states: usize, offsets: &mut [u32])
-    requires { (m ≤ length triples.now) × (m ≤ 4096) × (states ≤ 2000) × (states < length offsets.old) × Rising triples.now m }
-    ensures { (U : List Float) → offsets.new ≡ over (Edges.offsets states (edges_in triples.now U m)) offsets.old }
+fn write_offsets(triples: &[u64], states: usize, offsets: &mut [u32])
+    requires { (length triples.now ≤ 4096) × (states ≤ 2000) × (states < length offsets.old) × Rising triples.now (length triples.now) }
+    ensures { (U : List Float) → offsets.new ≡ over (Edges.offsets states (edges_in triples.now U (length triples.now))) offsets.old }
 {
     let mut p = 0;
     for s in 0..=states {
-        p = first_from(triples, m, p, s as u64 * 524288);
+        p = first_from(triples, p, s as u64 * 524288);
         offsets[s] = p as u32;
     }
 }
 
-fn write_edges(triples: &[u64], m: usize, labels: &mut [u32], targets: &mut [u32])
-    requires { Writable triples.now m labels.old targets.old }
-    ensures { Written triples.now m labels.old targets.old labels.new targets.new }
+fn write_edges(triples: &[u64], labels: &mut [u32], targets: &mut [u32])
+    requires { Writable triples.now (length triples.now) labels.old targets.old }
+    ensures { Written triples.now (length triples.now) labels.old targets.old labels.new targets.new }
 {
-    for i in 0..m {
-        let q = triples[i];
+    for (i, triple) in triples.iter().enumerate() {
+        let q = *triple;
         labels[i] = (q / 2048 % 256) as u32;
         targets[i] = (q % 2048) as u32;
     }
 }
 
-// Offsets, label ids and targets of the first m triples.
-pub(crate) fn fill(
-    triples: &[u64],
-    m: usize,
-    states: usize,
-    offsets: &mut [u32],
-    labels: &mut [u32],
-    targets: &mut [u32],
-)
-    requires { Writable triples.now m labels.old targets.old × (m ≤ 4096) × (states ≤ 2000) × (states < length offsets.old) × Rising triples.now m }
-    ensures { Written triples.now m labels.old targets.old labels.new targets.new
-        × ((U : List Float) → offsets.new ≡ over (Edges.offsets states (edges_in triples.now U m)) offsets.old) }
+// Offsets, label ids and targets of triples.
+pub(crate) fn fill(triples: &[u64], states: usize, store: &mut Store)
+    requires { Writable triples.now (length triples.now) store.old.edge_labels.now store.old.edge_targets.now × (length triples.now ≤ 4096) × (states ≤ 2000) × (states < length store.old.offsets.now) × Rising triples.now (length triples.now) }
+    ensures edges { Written triples.now (length triples.now) store.old.edge_labels.now store.old.edge_targets.now store.new.edge_labels.now store.new.edge_targets.now }
+    ensures offsets { (U : List Float) → store.new.offsets.now ≡ over (Edges.offsets states (edges_in triples.now U (length triples.now))) store.old.offsets.now }
+    ensures labels { store.new.label_values.now ≡ store.old.label_values.now }
+    ensures weights { store.new.edge_weights.now ≡ store.old.edge_weights.now }
+    ensures same_lists { kept store.old store.new }
 {
-    write_offsets(triples, m, states, offsets);
-    write_edges(triples, m, labels, targets);
+    write_offsets(triples, states, store.offsets);
+    write_edges(triples, store.edge_labels, store.edge_targets);
 }
 
-// 7, by the lengths of the stores that a plan does not fill.
-pub(crate) fn short(
-    states: usize,
-    given: usize,
-    offsets: usize,
-    labels: usize,
-    targets: usize,
-) -> bool
-    ensures { result ≡ (ltb offsets (states + 1) || (ltb labels given || ltb targets given)) }
+// 7, by the lengths of the lists that a plan does not fill.
+pub(crate) fn short(draft: &Draft, store: &Store) -> bool
+    ensures { result ≡ (ltb (length store.now.offsets.now) (draft.now.states + 1) || (ltb (length store.now.edge_labels.now) draft.now.given || ltb (length store.now.edge_targets.now) draft.now.given)) }
 {
-    offsets <= states || labels < given || targets < given
+    let given = draft.given;
+    store.offsets.len() <= draft.states
+        || store.edge_labels.len() < given
+        || store.edge_targets.len() < given
 }

@@ -4,25 +4,27 @@ use Rattle.bisim_core.specs.declared.ids.StateId.{StateId}
 use mathlib.Core.Path.{◌≡◌, refl, sym, subst, ap, ◌∙◌}
 use mathlib.Core.Bool.{Bool, true, false, ◌||◌, not}
 use mathlib.Core.Logic.{◌≢◌}
-use Prim.Native.Nat.{ℕ, ◌≤◌, ◌<◌}
-use mathlib.Core.List.{List, [], map}
+use Prim.Native.Nat.{ℕ, ◌/◌, ◌%◌, ◌≤◌, ◌<◌}
+use mathlib.Core.List.{List, ◌++◌, map}
 use native.Mathlib.Omega.{arith}
 use lib.Dec.{ltb}
 use lib.Ieee.{Float, nan}
-use lib.ListN.{length, get_or, take, length-take}
-use lib.Seq.{get_or-take}
+use lib.ListN.{length, get_or, take, drop, length-take, length-append, get_or-append}
+use lib.Seq.{get_or-take, take_at, take_all, length-take-le}
 use borrow.Author.Tests.{lt-ltb, le-ltb, ltb-true, not-false}
 use Rattle.numbers.specs.Lists.{span, all}
 use Rattle.numbers.specs.Refuse.{check}
 use Rattle.numbers.proofs.Alls.{all_at}
 use Rattle.numbers.proofs.Bools.{or_f}
 use Rattle.numbers.proofs.Refuses.{check_hit, check_skip, check_none, first, first_hit, first_skip, hit, skip, none}
-use Rattle.bisim_core.specs.Data.{Edge, Transitions, transitions}
+use Rattle.bisim_core.specs.Data.{Edge, Transitions}
+use Rattle.build_theory.specs.declared.lent.Draft.{Draft}
+use Rattle.build_theory.specs.Lent.{transitions_of}
 use Rattle.bisim_core.specs.Edges.{crowded_in}
 use Rattle.build_theory.specs.Edges.{nonzero}
 use Rattle.bisim_core.specs.Model.{starts_outside}
 use Rattle.build_theory.specs.Checks.{outside, unweighed, crowded, jump_at, reach}
-use Rattle.build_theory.proofs.Steps.{Sortable, Sorted, Crowded, Arrangeable, Arranged}
+use Rattle.build_theory.proofs.Steps.{Sortable, Sorted, Keys, edge_of, Crowded, Arrangeable, Arranged}
 use Rattle.build_theory.proofs.Targets.{sorted_crowd, crowd_alike}
 
 -- two checks, then those that come later
@@ -36,6 +38,63 @@ all_given : (t : ℕ → Bool) (l : List ℕ) (given : ℕ) → all t (take give
 all_given t l given h j k m =
     ap t (sym (get_or-take given l j 0 k)) ∙ all_at t (take given l) 0 h j (let e = length-take given l in omega arith)
 
+-- ---- the first m keys, cut off
+
+module _ (S T I : List ℕ) (m : ℕ) (w : m ≤ length I) where
+  front_length : length (take m I) ≡ m
+  front_length = length-take-le m I w
+
+  pub cut_sortable : Sortable S T m I → Sortable S T (length (take m I)) (take m I)
+  cut_sortable M = subst (λ k. Sortable S T k (take m I)) (sym front_length) (record {
+    keyable = record {
+      few = M.keyable.few;
+      s_in = M.keyable.s_in;
+      t_in = M.keyable.t_in;
+      room = let e = front_length in omega arith;
+      low = λ j h. subst (λ x. x < 256) (sym (get_or-take m I j 0 h)) (M.keyable.low j h);
+    };
+    t_low = M.t_low;
+  })
+
+  module _ (Q : List ℕ) (l : length Q ≡ length (take m I)) (S₀ : Sorted S T (length (take m I)) (take m I) Q) where
+    S₁ : Sorted S T m (take m I) Q
+    S₁ = subst (λ k. Sorted S T k (take m I) Q) front_length S₀
+
+    q_length : length Q ≡ m
+    q_length = l ∙ front_length
+
+    at : (j : ℕ) → j < m → get_or (Q ++ drop m I) j 0 ≡ get_or Q j 0
+    at j h = get_or-append Q (drop m I) 0 j (let e = q_length in omega arith)
+
+    pub put_back : Sorted S T m I (Q ++ drop m I)
+    put_back = record {
+      keys = record {
+        within = let a = length-append Q (drop m I) in let e = q_length in omega arith;
+        few = S₁.keys.few;
+        placed = λ j h. subst (λ x. x % 4096 < m) (sym (at j h)) (S₁.keys.placed j h);
+        rising = λ i j h k. let a = S₁.keys.rising i j h k in let b = at i (omega arith) in let c = at j k in omega arith;
+      };
+      under = λ b h j k. subst (λ x. x / 4096 / 524288 < b) (sym (at j k)) (S₁.under b h j k);
+      edges = λ W f h. ap (map (edge_of W)) (take_at Q (drop m I) m q_length ∙ sym (take_all m Q (let e = q_length in omega arith)))
+          ∙ S₁.edges W f (λ j k. h j k ∙ ap (λ (x : ℕ). record { source = get_or S j 0; label = x; target = get_or T j 0; weight = get_or W j nan }) (sym (get_or-take m I j 0 k)));
+    }
+
+module _ {K : List ℕ} {m : ℕ} where
+  pub cut_keys : Keys K m → Keys (take m K) (length (take m K))
+  cut_keys R = subst (Keys (take m K)) (sym (length-take-le m K R.within)) (record {
+    within = let e = length-take-le m K R.within in omega arith;
+    few = R.few;
+    placed = λ j h. subst (λ x. x % 4096 < m) (sym (get_or-take m K j 0 h)) (R.placed j h);
+    rising = λ i j h k. let a = R.rising i j h k in let b = get_or-take m K i 0 (omega arith) in let c = get_or-take m K j 0 k in omega arith;
+  })
+
+  pub uncut_crowd : {W : List Float} {b : Bool} → m ≤ length K → Crowded (take m K) (length (take m K)) W b → Crowded K m W b
+  uncut_crowd {W} w X = record {
+    same = λ states h.
+        X.same states (λ j k. let g : j < m = (let e = length-take-le m K w in omega arith) in subst (λ x. x / 4096 / 524288 < states) (sym (get_or-take m K j 0 g)) (h j g))
+        ∙ ap (λ (l : List ℕ). crowded_in (nonzero (map (edge_of W) l)) (span 0 states)) (take_all (length (take m K)) (take m K) (omega arith));
+  }
+
 -- ---- the checks of `arranged`
 
 pub record Call : Type 0 where
@@ -46,8 +105,8 @@ pub record Call : Type 0 where
   pub count : ℕ
   pub full : Bool
 
-abbrev pub call_of : ℕ → Option StateId → List ℕ → List ℕ → List Float → ℕ → ℕ → Bool → Call
-call_of states initial S T W given count full = record { states = states; initial = initial; C = transitions S [] T W; given = given; count = count; full = full }
+abbrev pub call_of : Draft → ℕ → Bool → Call
+call_of D count full = record { states = D.states; initial = D.initial; C = transitions_of D; given = D.given; count = count; full = full }
 
 module _ (Z : Call) where
   abbrev states : ℕ

@@ -1,18 +1,17 @@
 -- The turns of `intern_all`: a value that is known, or a new one, which goes to the end of the store; and what holds at the end.
 use mathlib.Core.Path.{◌≡◌, refl, sym, subst, ap, ◌∙◌}
 use mathlib.Core.Logic.{◌⊎◌, inl, inr, ◌≢◌}
-use Prim.Native.Nat.{ℕ, suc, min, ◌+◌, ◌≤◌, ◌<◌}
+use Prim.Native.Nat.{ℕ, suc, ◌+◌, ◌≤◌, ◌<◌}
 use mathlib.Core.List.{List, [], ◌∷◌, ◌++◌}
 use native.Mathlib.Omega.{arith}
 use native.Mathlib.Numerals.{add-one}
 use lib.ListN.{length, get_or, take, set, length-set, length-append}
-use lib.Seq.{slice, slice-cons, slice_empty, take-suc-set, length-take-le, get_or-set_same, get_or-set_other}
+use lib.Seq.{slice, slice-cons, slice_empty, take_all, take-suc-set, length-take-le, get_or-set_same, get_or-set_other}
 use Rattle.std.specs.Prelude.{Option, unwrap_or}
 use Rattle.numbers.specs.Search.{seek, place}
 use Rattle.numbers.proofs.Loops.{place_or_length}
 use Rattle.bisim_core.specs.Ids.{intern, distinct}
 use Rattle.build_theory.proofs.Steps.{Interned}
-use Rattle.build_theory.proofs.Fronts.{take_least}
 use Rattle.numbers.proofs.Bools.{eq_or_ne}
 use Rattle.numbers.proofs.Seeks.{seek_le, seek_new}
 use Rattle.bisim_core.proofs.Distinct.{intern_old, intern_new, intern_seek, intern_longer, Single, single_intern}
@@ -112,29 +111,29 @@ module _ {values : List ℕ} {n : ℕ} {store₀ ids₀ store ids : List ℕ} {i
           rest = next_rest k;
         })
 
--- ---- the values given, as far as they go
+-- ---- the end
 
-module _ (values : List ℕ) (given : ℕ) {n : ℕ} (e : n ≡ min given (length values)) where
-  given_is : distinct (take n values) ≡ distinct (take given values)
-  given_is = ap (λ (k : ℕ). distinct (take k values)) e ∙ ap distinct (sym (take_least given values))
+module _ (values : List ℕ) where
+  all_is : distinct (take (length values) values) ≡ distinct values
+  all_is = ap distinct (take_all (length values) values (omega arith))
 
-  module _ {store₀ ids₀ store ids : List ℕ} {i count : ℕ} (I : Interning values n store₀ ids₀ store ids i count) where
-    pub interned : n ≤ i → Interned values given store₀ store ids₀ ids count
+  module _ {store₀ ids₀ store ids : List ℕ} {i count : ℕ} (I : Interning values (length values) store₀ ids₀ store ids i count) where
+    pub interned : length values ≤ i → Interned values store₀ store ids₀ ids count
     unfolding intern
     interned h =
         let a = I.i_in in
-        let f : i ≡ n = omega arith in
+        let f : i ≡ length values = omega arith in
         record {
-          count = λ l. ap (intern (take count store)) (sym (ap (λ (j : ℕ). slice j n values) f ∙ slice_empty n values)) ∙ I.same ∙ given_is;
+          count = λ l. ap (intern (take count store)) (sym (ap (λ (j : ℕ). slice j (length values) values) f ∙ slice_empty (length values) values)) ∙ I.same ∙ all_is;
           more = λ l. let b = I.room in absurd (omega arith);
-          ids = λ l j k m. I.found j (omega arith) ∙ ap (seek (get_or values j 0)) given_is;
-          rest = λ j l. I.rest j (omega arith);
+          ids = λ l j k. I.found j (omega arith) ∙ ap (seek (get_or values j 0)) all_is;
+          rest = λ j l. I.rest j l;
         }
 
-    pub overfull : count ≡ length store₀ → length store₀ < length (distinct (take n values)) → Interned values given store₀ store ids₀ ids (count + 1)
+    pub overfull : count ≡ length store₀ → length store₀ < length (distinct (take (length values) values)) → Interned values store₀ store ids₀ ids (count + 1)
     overfull f h = record {
       count = λ l. absurd (omega arith);
-      more = λ l. subst (λ (d : List ℕ). length store₀ < length d) given_is h;
+      more = λ l. subst (λ (d : List ℕ). length store₀ < length d) all_is h;
       ids = λ l. absurd (omega arith);
-      rest = λ j l. I.rest j (omega arith);
+      rest = λ j l. I.rest j l;
     }

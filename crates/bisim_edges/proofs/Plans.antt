@@ -1,5 +1,5 @@
 -- How a plan ends: the labels interned, the checks of `arranged`, and the edges joined make its outcome.
-use Rattle.std.specs.Prelude.{Option}
+use Rattle.std.specs.Prelude.{Option, Ok, Err}
 use Rattle.bisim_core.specs.declared.ids.StateId.{StateId}
 use mathlib.Core.Path.{◌≡◌, refl, sym, subst, ap, ◌∙◌}
 use mathlib.Core.Bool.{Bool, true, false, ◌||◌}
@@ -9,7 +9,7 @@ use mathlib.Core.List.{List, [], map}
 use native.Mathlib.Omega.{arith}
 use lib.Dec.{ltb}
 use lib.Ieee.{Float, nan}
-use lib.ListN.{length, get_or, take, length-take}
+use lib.ListN.{length, get_or, take, replicate, length-take, length-replicate, get_or-replicate}
 use lib.Seq.{length-take-le, get_or-take}
 use borrow.Author.Tests.{lt-ltb, le-ltb, ltb-false}
 use Rattle.numbers.specs.Lists.{over}
@@ -17,21 +17,30 @@ use Rattle.numbers.specs.Refuse.{check}
 use Rattle.numbers.specs.Search.{seek}
 use Rattle.numbers.proofs.Bools.{lt_or_ge, or_f}
 use Rattle.numbers.proofs.Refuses.{check_hit, check_none, hit, skip}
-use Rattle.bisim_core.specs.Data.{Edge, Transitions, transitions}
+use Rattle.bisim_core.specs.Data.{Edge, Transitions}
+use Rattle.build_theory.specs.declared.lent.Draft.{Draft}
+use Rattle.build_theory.specs.Lent.{transitions_of}
+use Rattle.build_theory.proofs.Fronts.{take_least}
 use Rattle.build_theory.specs.Edges.{join, nonzero, edges, numbered_at}
 use Rattle.bisim_core.proofs.Distinct.{intern_has, distinct_length}
 use Rattle.build_theory.specs.Checks.{labels_of, oversized, outside, unweighed, crowded, reach, missing, refusal}
 use Rattle.build_theory.proofs.Plan.{Lists, lists, weight_of, laid, shortest, ending, outcome, planned}
 use Rattle.build_theory.proofs.Steps.{Interned, Keys, Sorted, Arrangeable, Arranged, rank, joined, Joined}
-use Rattle.bisim_edges.specs.declared.planner.Planned.{Planned}
-use Rattle.bisim_edges.specs.declared.planner.Planned.TheVariants.{Edges, Refused}
 
-refused_is : (k r : ℕ) (done : Planned) (old new : Lists) → r ≡ k → k ≢ 0 → ending (Refused k) old ≡ outcome r Refused done old new
+refused_is : (k r : ℕ) (done : ℕ × ℕ) (old new : Lists) → r ≡ k → k ≢ 0 → ending (Err k) old ≡ outcome r done old new
 refused_is zero r done old new e h = absurd (h refl)
-refused_is (suc k) r done old new e h = subst (λ (x : ℕ). ending (Refused (suc k)) old ≡ outcome x Refused done old new) (sym e) refl
+refused_is (suc k) r done old new e h = subst (λ (x : ℕ). ending (Err (suc k)) old ≡ outcome x done old new) (sym e) refl
 
-done_is : (r : ℕ) (done : Planned) (old new : Lists) → r ≡ 0 → ending done new ≡ outcome r Refused done old new
-done_is r done old new e = subst (λ (x : ℕ). ending done new ≡ outcome x Refused done old new) (sym e) refl
+done_is : (r : ℕ) (done : ℕ × ℕ) (old new : Lists) → r ≡ 0 → ending (Ok done) new ≡ outcome r done old new
+done_is r done old new e = subst (λ (x : ℕ). ending (Ok done) new ≡ outcome x done old new) (sym e) refl
+
+-- the keys to begin with: a zero for each transition
+pub zeros : (given N : ℕ) → given ≤ 4096 → given ≤ N → (given ≤ 4096) × (length {A = ℕ} (take given (replicate N 0)) ≡ given) × ((j : ℕ) → j < given → get_or {A = ℕ} (take given (replicate N 0)) j 0 ≡ 0)
+zeros given N m h = (
+  m,
+  length-take-le given (replicate N 0) (let e = length-replicate {A = ℕ} N 0 in omega arith),
+  λ j k. get_or-take given (replicate N 0) j 0 k ∙ get_or-replicate N j 0 0 (omega arith),
+)
 
 -- a plan that is asked for
 pub record Asked : Type 0 where
@@ -42,8 +51,8 @@ pub record Asked : Type 0 where
   pub short : Bool
   pub M : Lists
 
-abbrev pub asked_of : ℕ → Option StateId → List ℕ → List ℕ → List ℕ → List Float → ℕ → Bool → Lists → Asked
-asked_of states initial S L T W given short M = record { states = states; initial = initial; C = transitions S L T W; given = given; short = short; M = M }
+abbrev pub asked_of : Draft → Bool → Lists → Asked
+asked_of D short M = record { states = D.states; initial = D.initial; C = transitions_of D; given = D.given; short = short; M = M }
 
 module _ (Z : Asked) where
   abbrev states : ℕ
@@ -73,7 +82,7 @@ module _ (Z : Asked) where
   abbrev number : ℕ
   number = refusal states initial C given cramped
 
-  pub too_many : 4096 < given → ending (Refused 3) M ≡ planned rank Refused Edges states initial C given short M
+  pub too_many : 4096 < given → ending (Err 3) M ≡ planned rank states initial C given short M
   unfolding planned
   too_many h = refused_is 3 number _ M _ (check_hit 3 (oversized states C given) _ (large (ltb 2000 states) (ltb 4096 given) (ltb 256 (length D)) (lt-ltb 4096 given h))) (λ z. omega arith)
     where
@@ -83,7 +92,10 @@ module _ (Z : Asked) where
 
   -- ---- the labels
 
-  module _ (most : given ≤ 4096) {known known' I I' : List ℕ} {count : ℕ} (size : length known ≡ 256) (N : Interned C.labels given known known' I I' count) (same : length known' ≡ length known) where
+  module _ (most : given ≤ 4096) {known known' I I' V : List ℕ} {count : ℕ} (size : length known ≡ 256) (v : V ≡ take (min given (length C.labels)) C.labels) (N₀ : Interned V known known' I I' count) (same : length known' ≡ length known) where
+    N : Interned (take given C.labels) known known' I I' count
+    N = subst (λ (l : List ℕ). Interned l known known' I I' count) (v ∙ sym (take_least given C.labels)) N₀
+
     labels_are : count ≤ 256 → take count known' ≡ D
     labels_are h = N.count (omega arith)
 
@@ -98,21 +110,19 @@ module _ (Z : Asked) where
         pick (inr h) = ap (ltb 256) (count_is h)
 
     -- label ids are below 256, and so are the zeros behind them
-    pub arrangeable : length I' ≡ length I → given ≤ length I → ((j : ℕ) → j < given → get_or I j 0 ≡ 0) → Arrangeable given count I'
-    arrangeable e room zeros = record { few = most; room = omega arith; low = λ h j k. pick h j k (lt_or_ge j (length C.labels)) }
+    pub arrangeable : length I' ≡ length I → length I ≡ given → ((j : ℕ) → j < given → get_or I j 0 ≡ 0) → Arrangeable given count I'
+    arrangeable e room zeros = record { few = most; room = omega arith; low = λ h j k. pick h j k (lt_or_ge j (length (take given C.labels))) }
       where
-        pick : count ≤ 256 → (j : ℕ) → j < given → (j < length C.labels) ⊎ (length C.labels ≤ j) → get_or I' j 0 < 256
+        pick : count ≤ 256 → (j : ℕ) → j < given → (j < length (take given C.labels)) ⊎ (length (take given C.labels) ≤ j) → get_or I' j 0 < 256
         pick h j k (inl l) =
             let c = count_is h in
-            let i = N.ids (omega arith) j k l in
-            let t = length-take given C.labels in
-            let a = intern_has _ (take given C.labels) j (omega arith) in
-            let b : seek (get_or C.labels j 0) D < length D = subst (λ (x : ℕ). seek x D < length D) (get_or-take given C.labels j 0 k) a in
+            let i = N.ids (omega arith) j l in
+            let a = intern_has [] (take given C.labels) j l in
             omega arith
         pick h j k (inr l) = let a = N.rest j l in let z = zeros j k in omega arith
 
     module _ {full : Bool} {least_column least_list p : ℕ} (t : least_column ≡ min (length C.sources) (min (length C.labels) (min (length C.targets) (length C.weights)))) (o : least_list ≡ min (length M.labels) p) (q : p ≡ min (length M.numbers) (length M.weights))
-        (w : full ≡ (ltb least_column given || (short || ltb least_list given))) {K : List ℕ} {r : ℕ} (A : Arranged states initial (transitions C.sources [] C.targets C.weights) given count full I' K r) where
+        (w : full ≡ (ltb least_column given || (short || ltb least_list given))) {K : List ℕ} (kl : length K ≡ given) {r : ℕ} (A : Arranged states initial C given count full I' K r) where
       f : full ≡ (missing C given || cramped)
       f = w ∙ rw (t, o, q) refl
 
@@ -123,7 +133,7 @@ module _ (Z : Asked) where
           (skip _ _ _ (le-ltb 4096 given most) counted)
           ∙ ap (λ (b : Bool). check 3 (oversized states C given) (check 4 (outside states initial C given) (check 5 (unweighed C given) (check 6 (crowded states C given) (check 7 b 0))))) f
 
-      pub refused : r ≢ 0 → ending (Refused r) M ≡ planned rank Refused Edges states initial C given short M
+      pub refused : r ≢ 0 → ending (Err r) M ≡ planned rank states initial C given short M
       unfolding planned
       refused h = refused_is r number _ M _ (sym number_is) h
 
@@ -166,23 +176,31 @@ module _ (Z : Asked) where
         sorted : Sorted C.sources C.targets given I' K
         sorted = subst (λ (x : ℕ). Sorted C.sources C.targets x I' K) whole (A.sorted z)
 
-        pub joinable : Keys K given × (given ≤ length C.weights) × (given ≤ length M.numbers) × (given ≤ length M.weights)
-        joinable = let h = there in let m = room in (sorted.keys, omega arith, omega arith, omega arith)
+        pub joinable : Keys K (length K) × (length K ≤ length C.weights) × (length K ≤ length M.numbers) × (length K ≤ length M.weights)
+        joinable = let h = there in let m = room in (subst (Keys K) (sym kl) sorted.keys, omega arith, omega arith, omega arith)
+
+        ids_are : (j : ℕ) → j < given → get_or I' j 0 ≡ seek (get_or C.labels j 0) D
+        ids_are j h =
+            let f = few in
+            let g = there in
+            let t = length-take given C.labels in
+            N.ids (omega arith) j (omega arith) ∙ ap (λ (x : ℕ). seek x D) (get_or-take given C.labels j 0 h)
 
         edges_are : joined K given C.weights ≡ edges C given
         unfolding edges
         edges_are = ap (λ (l : List Edge). nonzero (join l)) (sorted.edges C.weights (numbered_at D C) (λ j h.
-            ap (λ (x : ℕ). record { source = get_or C.sources j 0; label = x; target = get_or C.targets j 0; weight = get_or C.weights j nan }) (sym (N.ids (let f = few in omega arith) j h (let g = there in omega arith)))))
+            ap (λ (x : ℕ). record { source = get_or C.sources j 0; label = x; target = get_or C.targets j 0; weight = get_or C.weights j nan }) (sym (ids_are j h))))
 
-        pub done : {L T : List ℕ} {U : List Float} {m : ℕ} → L ≡ over (take count known') M.labels → Joined K given C.weights M.numbers M.weights T U m
-            → ending (Edges m count) (lists L T U) ≡ planned rank Refused Edges states initial C given short M
+        pub done : {L T : List ℕ} {U : List Float} {m : ℕ} → L ≡ over (take count known') M.labels → Joined K (length K) C.weights M.numbers M.weights T U m
+            → ending (Ok (m, count)) (lists L T U) ≡ planned rank states initial C given short M
         unfolding planned
-        done {L} {T} {U} {m} l J =
+        done {L} {T} {U} {m} l J₀ =
+            let J = subst (λ (n : ℕ). Joined K n C.weights M.numbers M.weights T U m) kl J₀ in
             put m count L T U (length (edges C given)) (length D) (over D M.labels) (over (map rank (edges C given)) M.numbers) (over (map weight_of (edges C given)) M.weights)
             (J.count ∙ ap length edges_are) (count_is few) (l ∙ ap (λ (x : List ℕ). over x M.labels) (labels_are few))
             (J.triples ∙ ap (λ (x : List Edge). over (map rank x) M.numbers) edges_are) (J.sums ∙ ap (λ (x : List Edge). over (map weight_of x) M.weights) edges_are)
-            ∙ done_is number (Edges (length (edges C given)) (length D)) M (laid rank D (edges C given) M) unrefused
+            ∙ done_is number (length (edges C given), length D) M (laid rank D (edges C given) M) unrefused
           where
             put : (m c : ℕ) (L T : List ℕ) (U : List Float) (m' c' : ℕ) (L' T' : List ℕ) (U' : List Float) → m ≡ m' → c ≡ c' → L ≡ L' → T ≡ T' → U ≡ U'
-                → ending (Edges m c) (lists L T U) ≡ ending (Edges m' c') (lists L' T' U')
+                → ending (Ok (m, c)) (lists L T U) ≡ ending (Ok (m', c')) (lists L' T' U')
             put m c L T U m' c' L' T' U' a b d e f = cc

@@ -6,6 +6,7 @@ ghost use Rattle.build_theory.proofs.Steps.{Keys, Noted, Crowded};
 use numbers::seek;
 
 // t joins the values seen[..count], if it is new: how many there are then, one more than the list holds where it is full.
+// Stays: with no heap, a list that grows is an array and a count.
 fn note(seen: &mut [u32], count: usize, t: u32) -> usize
     requires { (count ≤ length seen.old) × (length seen.old ≤ 4096) }
     ensures { Noted seen.old count t seen.new result }
@@ -27,15 +28,15 @@ fn leads(s: u64, t: u64, w: f64) -> bool
 }
 
 // 6: whether some state has over 31 distinct targets other than itself, zero weights dropped. `seen` holds those of the state at hand.
-pub(crate) fn crowded(keys: &[u64], n: usize, weights: &[f64]) -> bool
-    requires { Keys keys.now n × (n ≤ length weights.now) }
-    ensures { Crowded keys.now n weights.now result }
+pub(crate) fn crowded(keys: &[u64], weights: &[f64]) -> bool
+    requires { Keys keys.now (length keys.now) × (length keys.now ≤ length weights.now) }
+    ensures { Crowded keys.now (length keys.now) weights.now result }
 {
     let mut seen = [0u32; 31];
     let mut count = 0;
     let mut state = 0;
-    for j in 0..n {
-        let k = keys[j];
+    for key in keys {
+        let k = *key;
         let q = k / 4096;
         let s = q / 524288;
         let t = q % 2048;

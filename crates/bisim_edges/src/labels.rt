@@ -1,5 +1,5 @@
 // Labels interned: ids by first appearance.
-ghost use Rattle.std.specs.Prelude.{◌≡◌, ◌≤◌, length, take};
+ghost use Rattle.std.specs.Prelude.{◌≡◌, ◌≤◌, length};
 ghost use Rattle.numbers.specs.Lists.{over};
 ghost use Rattle.numbers.specs.Search;
 ghost use Rattle.bisim_core.proofs.Distinct.{Single};
@@ -18,17 +18,16 @@ fn place(known: &[u32], guess: usize, x: u32) -> Option<usize>
     seek(known, x)
 }
 
-// The distinct values of those given go into the store, and the id of each into ids. One more than the store holds is the answer where there are more.
+// The distinct values go into the store, and the id of each into ids. One more than the store holds is the answer where there are more.
 // An entry of `guesses` is the id of the last value with that remainder.
-pub(crate) fn intern_all(values: &[u32], given: usize, store: &mut [u32], ids: &mut [u64]) -> usize
-    requires { (given ≤ length ids.old) × (length store.old ≤ 4096) }
-    ensures { Interned values.now given store.old store.new ids.old ids.new result }
+pub(crate) fn intern_all(values: &[u32], store: &mut [u32], ids: &mut [u64]) -> usize
+    requires { (length values.now ≤ length ids.old) × (length store.old ≤ 4096) }
+    ensures { Interned values.now store.old store.new ids.old ids.new result }
 {
-    let n = given.min(values.len());
     let mut guesses = [0u8; 1024];
     let mut count = 0;
-    for i in 0..n {
-        let x = values[i];
+    for (i, value) in values.iter().enumerate() {
+        let x = *value;
         let g = (x % 1024) as usize;
         let k = place(&store[..count], guesses[g] as usize, x).unwrap_or(count);
         if k == count {
@@ -44,10 +43,10 @@ pub(crate) fn intern_all(values: &[u32], given: usize, store: &mut [u32], ids: &
     count
 }
 
-// The first n values of the store, over the front of a list.
-pub(crate) fn write_labels(store: &[u32], n: usize, to: &mut [u32])
-    requires { (n ≤ length store.now) × (n ≤ length to.old) }
-    ensures { to.new ≡ over (take n store.now) to.old }
+// The values known, over the front of a list.
+pub(crate) fn write_labels(known: &[u32], to: &mut [u32])
+    requires { length known.now ≤ length to.old }
+    ensures { to.new ≡ over known.now to.old }
 {
-    to[..n].copy_from_slice(&store[..n]);
+    to[..known.len()].copy_from_slice(known);
 }

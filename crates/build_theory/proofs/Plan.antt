@@ -1,5 +1,9 @@
 -- The words of `plan`: the edges of transitions as it hands them on, in three lists, and how it ends. An edge's source, label id and target stand in one number, whichever way they are numbered.
-use Rattle.std.specs.Prelude.{Option}
+use Rattle.std.specs.Prelude.{◌≡◌, Option, Result, Ok, Err}
+use Rattle.std.specs.Result.{IsErrAnd}
+use Rattle.std.proofs.Common.{ap}
+use Rattle.numbers.specs.declared.refusal.Refusal.{Refusal}
+use Rattle.numbers.specs.Refuse.{number, numbered}
 use Rattle.bisim_core.specs.declared.ids.StateId.{StateId}
 use Prim.Native.Nat.{ℕ, zero, suc, min}
 use mathlib.Core.Bool.{Bool, ◌||◌}
@@ -29,25 +33,30 @@ weight_of a = a.weight
 abbrev pub laid : (Edge → ℕ) → List ℕ → List Edge → Lists → Lists
 laid number D E M = lists (over D M.labels) (over (map number E) M.numbers) (over (map weight_of E) M.weights)
 
--- the answer, and what is then in the lists
-pub record Ending (A : Type 0) : Type 0 where
-  pub answer : A
+-- the answer, the counts of edges and labels, and what is then in the lists
+pub record Ending : Type 0 where
+  pub answer : Result (ℕ × ℕ) ℕ
   pub memory : Lists
 
-abbrev pub ending : {A : Type 0} → A → Lists → Ending A
+abbrev pub ending : Result (ℕ × ℕ) ℕ → Lists → Ending
 ending r M = record { answer = r; memory = M }
 
 -- a refusal leaves the lists as they were
-abbrev pub outcome : {A : Type 0} → ℕ → (ℕ → A) → A → Lists → Lists → Ending A
-outcome zero refuse done old new = ending done new
-outcome (suc r) refuse done old new = ending (refuse (suc r)) old
+abbrev pub outcome : ℕ → ℕ × ℕ → Lists → Lists → Ending
+outcome zero done old new = ending (Ok done) new
+outcome (suc r) done old new = ending (Err (suc r)) old
+
+-- what is answered where another call is turned back
+pub err_is : {A : Type 0} (a : Result A Refusal) (r : Refusal) → IsErrAnd a (λ e. e ≡ r) → numbered a ≡ Err (number r)
+err_is (Ok x) r h = absurd h
+err_is (Err s) r h = ap (λ e. Err (number e)) h
 
 -- how many entries each list has at least
 abbrev pub shortest : Lists → ℕ
 shortest M = min (length M.labels) (min (length M.numbers) (length M.weights))
 
 -- the plan of the transitions given: a refusal by its number, or the counts of edges and labels
-unfoldable pub planned : {A : Type 0} → (Edge → ℕ) → (ℕ → A) → (ℕ → ℕ → A) → ℕ → Option StateId → Transitions → ℕ → Bool → Lists → Ending A
+unfoldable pub planned : (Edge → ℕ) → ℕ → Option StateId → Transitions → ℕ → Bool → Lists → Ending
 unfolding all nonzero crowded_in edges span
-planned number refuse done states initial C given short M =
-    outcome (refusal states initial C given (short || ltb (shortest M) given)) refuse (done (length (edges C given)) (length (labels_of C given))) M (laid number (labels_of C given) (edges C given) M)
+planned number states initial C given short M =
+    outcome (refusal states initial C given (short || ltb (shortest M) given)) (length (edges C given), length (labels_of C given)) M (laid number (labels_of C given) (edges C given) M)

@@ -19,12 +19,12 @@ use Rattle.build_theory.specs.Edges.{join, nonzero, sort_edges}
 use Rattle.build_theory.specs.Checks.{outside, unweighed, crowded, reach}
 use Rattle.build_theory.proofs.Plan.{weight_of}
 
--- ---- the labels given, interned into a store: r of them, or more than it holds; their ids go into a list
+-- ---- values, interned into a store: r of them, or more than it holds; their ids go into a list
 
-pub record Interned (values : List ℕ) (given : ℕ) (store store' I I' : List ℕ) (r : ℕ) : Type 0 where
-  pub count : r ≤ length store → take r store' ≡ distinct (take given values)
-  pub more : length store < r → length store < length (distinct (take given values))
-  pub ids : r ≤ length store → (j : ℕ) → j < given → j < length values → get_or I' j 0 ≡ seek (get_or values j 0) (distinct (take given values))
+pub record Interned (values store store' I I' : List ℕ) (r : ℕ) : Type 0 where
+  pub count : r ≤ length store → take r store' ≡ distinct values
+  pub more : length store < r → length store < length (distinct values)
+  pub ids : r ≤ length store → (j : ℕ) → j < length values → get_or I' j 0 ≡ seek (get_or values j 0) (distinct values)
   pub rest : (j : ℕ) → length values ≤ j → get_or I' j 0 ≡ get_or I j 0
 
 -- ---- keys: source (11 bits), label id (8), target (11), position (12)

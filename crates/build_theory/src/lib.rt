@@ -1,37 +1,38 @@
-// The checks of transitions in columns that need no work space.
+// What `build` is handed, and the checks of transitions that need no work space.
 #![tactic(auto)]
 
-ghost use Rattle.std.specs.Prelude.{◌≡◌, ◌||◌, [], ltb, take};
+pub mod lent; // lent.rt: a model asked for, and the lists that it goes into
+
+ghost use Rattle.std.specs.Prelude.{◌≡◌, ltb, take};
 ghost use Rattle.numbers.specs.Lists.{all};
-ghost use Rattle.numbers.specs.Refuse.{check};
-ghost use Rattle.bisim_core.specs.Data.{transitions};
+ghost use Rattle.numbers.specs.Refuse.{check, code};
 ghost use Rattle.bisim_core.specs.Model;
 ghost use Rattle.build_theory.specs.Checks;
+ghost use Rattle.build_theory.specs.Lent.{transitions_of};
 
-use bisim_core::ids::StateId;
+use crate::lent::Draft;
 use bisim_core::wlts::starts_outside;
+use numbers::refusal::Refusal;
 use numbers::{GREATEST_WEIGHT, LEAST_WEIGHT};
 
-// Whether the first entries of a column, up to the count given, are below a bound.
-fn all_below(column: &[u32], given: usize, bound: usize) -> bool
-    ensures { result ≡ all (λ x. ltb x bound) (take given column.now) }
+// Whether the entries of a column that count are below the state count.
+fn all_below(draft: &Draft, column: &[u32]) -> bool
+    ensures { result ≡ all (λ x. ltb x draft.now.states) (take draft.now.given column.now) }
 {
-    column.iter().take(given).all(|x| (*x as usize) < bound)
+    let bound = draft.states;
+    column
+        .iter()
+        .take(draft.given)
+        .all(|x| (*x as usize) < bound)
 }
 
 // 4: a state number that is not below the state count.
-fn outside(
-    states: usize,
-    initial: Option<StateId>,
-    sources: &[u32],
-    targets: &[u32],
-    given: usize,
-) -> bool
-    ensures { result ≡ Checks.outside states initial (transitions sources.now [] targets.now []) given }
+fn outside(draft: &Draft) -> bool
+    ensures { result ≡ Checks.outside draft.now.states draft.now.initial (transitions_of draft.now) draft.now.given }
 {
-    starts_outside(initial, states)
-        || !all_below(sources, given, states)
-        || !all_below(targets, given, states)
+    starts_outside(draft.initial, draft.states)
+        || !all_below(draft, draft.sources)
+        || !all_below(draft, draft.targets)
 }
 
 fn weighs(w: f64) -> bool
@@ -41,29 +42,22 @@ fn weighs(w: f64) -> bool
 }
 
 // 5 fails where this is false.
-fn all_weigh(weights: &[f64], given: usize) -> bool
-    ensures { result ≡ all Model.weighs (take given weights.now) }
+fn all_weigh(draft: &Draft) -> bool
+    ensures { result ≡ all Model.weighs (take draft.now.given draft.now.weights.now) }
 {
-    weights.iter().take(given).all(|w| weighs(*w))
+    draft.weights.iter().take(draft.given).all(|w| weighs(*w))
 }
 
-// 4 or 5, the first of the two that fails; 0 if none does.
-pub fn fault(
-    states: usize,
-    initial: Option<StateId>,
-    sources: &[u32],
-    targets: &[u32],
-    weights: &[f64],
-    given: usize,
-) -> u32
-    ensures { result ≡ check 4 (Checks.outside states initial (transitions sources.now [] targets.now weights.now) given)
-        (check 5 (Checks.unweighed (transitions sources.now [] targets.now weights.now) given) 0) }
+// Turned back with 4 or 5, the first of the two that fails.
+pub fn fault(draft: &Draft) -> Result<(), Refusal>
+    ensures { code result ≡ check 4 (Checks.outside draft.now.states draft.now.initial (transitions_of draft.now) draft.now.given)
+        (check 5 (Checks.unweighed (transitions_of draft.now) draft.now.given) 0) }
 {
-    if outside(states, initial, sources, targets, given) {
-        return 4;
+    if outside(draft) {
+        return Err(Refusal::OutOfRange);
     }
-    if !all_weigh(weights, given) {
-        return 5;
+    if !all_weigh(draft) {
+        return Err(Refusal::Weight);
     }
-    0
+    Ok(())
 }

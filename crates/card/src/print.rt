@@ -1,17 +1,18 @@
 // The relation of a card's models, and the report.
 ghost use Rattle.std.specs.Prelude.{◌+◌, ◌≤◌, length};
+ghost use Rattle.numbers.specs.Refuse.{numbered};
 ghost use Rattle.bisim_core.specs.Data;
 ghost use Rattle.card_layout.specs.Lists;
 ghost use Rattle.card_report.specs.Report.{Printed, store_fault, most_report};
 ghost use Rattle.card.specs.Printing.{printed};
 ghost use Rattle.card_models.proofs.Handing.{Room, Few, FewBoth, lists_text, right_text, heads_text};
 
-use bisim_build::builder::Built;
-use bisim_core::wlts::Wlts;
+use bisim_core::wlts::{Shape, Wlts};
 use card_models::{Both, both_models, build_side};
 use card_reader::{Heads, Read, read_card};
 use card_relation::relation_text;
 use card_report::{MOST_REPORT, Text, refusal_text};
+use numbers::refusal::Refusal;
 
 // The report of both models, or the refusal of one.
 fn print_both(
@@ -69,7 +70,7 @@ fn print_both(
 
 // Builds the right model of the card that the lists hold; the left one is built.
 fn print_right(
-    left: Built,
+    left: Result<Shape, Refusal>,
     left_values: &[u32],
     left_offsets: &[u32],
     left_labels: &[u32],
@@ -83,8 +84,8 @@ fn print_right(
     weights: &[f64],
     out: &mut [u8],
 ) -> Text
-    requires { Few left × Room heads (Lists.columns classes.now sources.now labels.now targets.now weights.now) × (most_report ≤ length out.old) }
-    ensures { Printed 0 (right_text left (Data.columns left_values.now left_offsets.now left_labels.now left_targets.now left_weights.now) heads (Lists.columns classes.now sources.now labels.now targets.now weights.now)) out.old result out.new }
+    requires { Few (numbered left) × Room heads (Lists.columns classes.now sources.now labels.now targets.now weights.now) × (most_report ≤ length out.old) }
+    ensures { Printed 0 (right_text (numbered left) (Data.columns left_values.now left_offsets.now left_labels.now left_targets.now left_weights.now) heads (Lists.columns classes.now sources.now labels.now targets.now weights.now)) out.old result out.new }
 {
     let mut right_values = [0u32; 200];
     let mut right_offsets = [0u32; 33];

@@ -26,8 +26,7 @@ use Rattle.build_theory.specs.Edges.{nonzero}
 use Rattle.build_theory.specs.Checks.{labels_of, oversized, outside, unweighed, jump_at, reach, jumps, crowded, missing, refusal}
 use Rattle.build_theory.proofs.Ranks.{AllE, all_span, all_nonzero}
 use Rattle.bisim_build.specs.Build.{short, Outcome, ends, made, settled, build}
-use Rattle.bisim_build.specs.declared.builder.Built.{Built}
-use Rattle.bisim_build.specs.declared.builder.Built.TheVariants as built
+use Rattle.std.specs.Prelude.{Result, Ok, Err}
 use Rattle.bisim_build.proofs.Accepts.{built_accepted, read_back}
 use Rattle.epsdelta_theory.specs.Jumps.{union}
 use Rattle.epsdelta_theory.specs.Relation.{relation_bytes}
@@ -150,7 +149,7 @@ module _ (s : Side) (w : SideWithin s) where
       ∙ check_same 4 (stray s) _ 0 (λ h. check_skip 5 (unweighed C n) _ 0 all_weighed (check_skip 6 (crowded states C n) _ 0 (not_crowded h)
       (check_skip 7 (missing C n || short states n blank) 0 0 (none _ _ none_missing not_short) refl))))
 
-  pub built_stray : stray s ≡ true → built_of s ≡ ends (built.Refused 4) blank
+  pub built_stray : stray s ≡ true → built_of s ≡ ends (Err 4) blank
   unfolding build
   built_stray h = ap (λ (r : ℕ). settled r blank (made states initial C n blank)) (refusal_is ∙ ap (λ (b : Bool). check 4 b 0) h)
 
@@ -158,7 +157,7 @@ module _ (s : Side) (w : SideWithin s) where
   shape = record { states = states; edges = length (edges_of s); labels = length (labels_of C n); initial = initial }
 
   module _ (h : stray s ≡ false) where
-    pub built_model : (built_of s).answer ≡ built.Model shape
+    pub built_model : (built_of s).answer ≡ Ok shape
     unfolding build
     built_model = ap (λ (r : ℕ). (settled r blank (made states initial C n blank)).answer) (refusal_is ∙ ap (λ (b : Bool). check 4 b 0) h)
 
@@ -237,7 +236,7 @@ module _ (c : Card) (w : Within c) where
     run_sound e = subst Sound given_is
         (epsdelta_sound SL ML SR MR c.left.classes c.right.classes (parts c.epsilon) (parts c.rho) (relation_bytes (SL.states + SR.states)) (nine ∙ ap (λ (b : Bool). check 9 b 0) e))
 
-  abbrev printing : Built → Built → List ℕ
+  abbrev printing : Result Shape ℕ → Result Shape ℕ → List ℕ
   printing x y = models_text (both x y) ML MR c.left.classes c.right.classes c.epsilon c.rho
 
   abbrev wanted : Bool → List ℕ
@@ -251,19 +250,19 @@ module _ (c : Card) (w : Within c) where
       pick : (p : Bool) → stray c.left ≡ p → (q : Bool) → stray c.right ≡ q → printing (built_of c.left).answer (built_of c.right).answer ≡ wanted (stray c.left || stray c.right)
       pick true e true f =
           ap (λ (o : Outcome). printing o.answer (built_of c.right).answer) (built_stray c.left w.left_within e)
-          ∙ ap (λ (o : Outcome). printing (built.Refused 4) o.answer) (built_stray c.right w.right_within f)
+          ∙ ap (λ (o : Outcome). printing (Err 4) o.answer) (built_stray c.right w.right_within f)
           ∙ ap (λ (b : Bool). wanted (b || stray c.right)) (sym e)
       pick true e false f =
           ap (λ (o : Outcome). printing o.answer (built_of c.right).answer) (built_stray c.left w.left_within e)
-          ∙ ap (λ (y : Built). printing (built.Refused 4) y) (built_model c.right w.right_within f)
+          ∙ ap (λ (y : Result Shape ℕ). printing (Err 4) y) (built_model c.right w.right_within f)
           ∙ ap (λ (b : Bool). wanted (b || stray c.right)) (sym e)
       pick false e true f =
-          ap (λ (x : Built). printing x (built_of c.right).answer) (built_model c.left w.left_within e)
-          ∙ ap (λ (o : Outcome). printing (built.Model SL) o.answer) (built_stray c.right w.right_within f)
+          ap (λ (x : Result Shape ℕ). printing x (built_of c.right).answer) (built_model c.left w.left_within e)
+          ∙ ap (λ (o : Outcome). printing (Ok SL) o.answer) (built_stray c.right w.right_within f)
           ∙ ap (λ (b : Bool). wanted (b || true)) (sym e) ∙ ap (λ (b : Bool). wanted (stray c.left || b)) (sym f)
       pick false e false f =
-          ap (λ (x : Built). printing x (built_of c.right).answer) (built_model c.left w.left_within e)
-          ∙ ap (λ (y : Built). printing (built.Model SL) y) (built_model c.right w.right_within f)
+          ap (λ (x : Result Shape ℕ). printing x (built_of c.right).answer) (built_model c.left w.left_within e)
+          ∙ ap (λ (y : Result Shape ℕ). printing (Ok SL) y) (built_model c.right w.right_within f)
           ∙ related e f
           ∙ ap (λ (b : Bool). wanted (b || false)) (sym e) ∙ ap (λ (b : Bool). wanted (stray c.left || b)) (sym f)
 

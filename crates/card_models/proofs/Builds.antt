@@ -13,8 +13,7 @@ use Rattle.bisim_core.specs.Data.{Transitions, Columns, transitions}
 use Rattle.bisim_core.specs.declared.wlts.Shape.{Shape}
 use Rattle.bisim_build.specs.Build as builds
 use Rattle.bisim_build.specs.Build.{build}
-use Rattle.bisim_build.specs.declared.builder.Built.{Built}
-use Rattle.bisim_build.specs.declared.builder.Built.TheVariants as built
+use Rattle.std.specs.Prelude.{Result, Ok, Err}
 use Rattle.build_theory.specs.Checks.{refusal}
 use Rattle.card_layout.specs.Card.{Side, Card, Within}
 use Rattle.card_layout.specs.Lists as answers
@@ -50,9 +49,9 @@ module _ (ML MR : Columns) (h : Heads) (classes : List ℕ) (b : Both) where
 -- ---- the models built
 
 -- the states of a model that is there
-states_of : Built → ℕ
-states_of (built.Model S) = S.states
-states_of (built.Refused n) = 0
+states_of : Result Shape ℕ → ℕ
+states_of (Ok S) = S.states
+states_of (Err n) = 0
 
 -- a model that is built has the states that it was given
 built_states : (s : ℕ) (i : Option StateId) (C : Transitions) (n : ℕ) (M : Columns) → states_of (build s i C n M).answer ≤ s
@@ -63,10 +62,10 @@ built_states s i C n M = pick (refusal s i C n (builds.short s n M))
     pick zero = omega arith
     pick (suc r) = omega arith
 
-few_of : (x : Built) (n : ℕ) → states_of x ≤ n → n ≤ 32 → Few x
+few_of : (x : Result Shape ℕ) (n : ℕ) → states_of x ≤ n → n ≤ 32 → Few x
 unfolding states_of
-few_of (built.Model S) n h g = omega arith
-few_of (built.Refused m) n h g = tt
+few_of (Ok S) n h g = omega arith
+few_of (Err m) n h g = tt
 
 side_states : (h : Head) (m : ℕ) (C : Transitions) (M : Columns) → states_of (side_ends h m C M).answer ≤ h.states
 unfolding states_of
@@ -76,26 +75,26 @@ side_states h m C M = pick (check 7 (ltb (shortest C) (m + h.transitions)) 0)
     pick zero = built_states h.states (Some (record { 0 = h.initial })) (cut_at m h.transitions C) h.transitions M
     pick (suc r) = omega arith
 
-pub built_few : (x : Built) (N : Columns) (h : Head) (m : ℕ) (k : answers.Columns) → builds.ends x N ≡ side_built h m k → h.states ≤ 32 → Few x
+pub built_few : (x : Result Shape ℕ) (N : Columns) (h : Head) (m : ℕ) (k : answers.Columns) → builds.ends x N ≡ side_built h m k → h.states ≤ 32 → Few x
 built_few x N h m k e g =
     let f : states_of x ≡ states_of (side_built h m k).answer = ap (λ (o : builds.Outcome). states_of o.answer) e in
     few_of x h.states (subst (λ (n : ℕ). n ≤ h.states) (sym f) (side_states h m (transitions k.sources k.labels k.targets k.weights) blank)) g
 
-pub both_few : (x y : Built) (b : Both) → b ≡ both x y → Few x → Few y → FewBoth b
+pub both_few : (x y : Result Shape ℕ) (b : Both) → b ≡ both x y → Few x → Few y → FewBoth b
 both_few x y b e p q = rw e (pick x y p q)
   where
-    pick : (u v : Built) → Few u → Few v → FewBoth (both u v)
-    pick (built.Model S) (built.Model T) f g = (f, g)
-    pick (built.Model S) (built.Refused n) f g = tt
-    pick (built.Refused m) v f g = tt
+    pick : (u v : Result Shape ℕ) → Few u → Few v → FewBoth (both u v)
+    pick (Ok S) (Ok T) f g = (f, g)
+    pick (Ok S) (Err n) f g = tt
+    pick (Err m) v f g = tt
 
 -- a model built, in what is printed
-pub right_is : (left y : Built) (b : Both) (ML N : Columns) (h : Heads) (k : answers.Columns) → b ≡ both left y → builds.ends y N ≡ side_built h.right h.left.transitions k
+pub right_is : (left y : Result Shape ℕ) (b : Both) (ML N : Columns) (h : Heads) (k : answers.Columns) → b ≡ both left y → builds.ends y N ≡ side_built h.right h.left.transitions k
     → lists_text b ML N h k.classes ≡ right_text left ML h k
 right_is left y b ML N h k e f =
     ap (λ (z : Both). lists_text z ML N h k.classes) e ∙ ap (λ (o : builds.Outcome). lists_text (both left o.answer) ML o.memory h k.classes) f
 
-pub left_is : (x : Built) (N : Columns) (h : Heads) (k : answers.Columns) → builds.ends x N ≡ side_built h.left 0 k → right_text x N h k ≡ heads_text h k
+pub left_is : (x : Result Shape ℕ) (N : Columns) (h : Heads) (k : answers.Columns) → builds.ends x N ≡ side_built h.left 0 k → right_text x N h k ≡ heads_text h k
 left_is x N h k e = ap (λ (o : builds.Outcome). right_text o.answer o.memory h k) e
 
 -- ---- the card in the lists

@@ -8,8 +8,8 @@ use Rattle.numbers.specs.Real.{nought}
 use Rattle.bisim_core.specs.Data.{transitions}
 use Rattle.bisim_core.specs.Data as models
 use Rattle.bisim_build.specs.Build.{Outcome, build}
-use Rattle.bisim_build.specs.declared.builder.Built.{Built}
-use Rattle.bisim_build.specs.declared.builder.Built.TheVariants as built
+use Rattle.std.specs.Prelude.{Result, Ok, Err}
+use Rattle.bisim_core.specs.declared.wlts.Shape.{Shape}
 use Rattle.card_layout.specs.Card.{Side, Card}
 use Rattle.card_layout.specs.Lists.{Columns}
 use Rattle.card_reader.specs.declared.reader.Head.{Head}
@@ -51,9 +51,9 @@ pub record Room (h : Heads) (k : Columns) : Type 0 where
   pub classes_room : h.left.states + h.right.states ≤ length k.classes
 
 -- a model that is there has at most 32 states
-abbrev pub Few : Built → Type 0
-Few (built.Model S) = S.states ≤ 32
-Few (built.Refused n) = Unit
+abbrev pub Few : Result Shape ℕ → Type 0
+Few (Ok S) = S.states ≤ 32
+Few (Err n) = Unit
 
 abbrev pub FewBoth : Both → Type 0
 FewBoth (boths.Models SL SR) = (SL.states ≤ 32) × (SR.states ≤ 32)
@@ -68,7 +68,7 @@ abbrev pub lists_text : Both → models.Columns → models.Columns → Heads →
 lists_text b ML MR h classes = models_text b ML MR (slice 0 h.left.states classes) (slice h.left.states (h.left.states + h.right.states) classes) h.epsilon h.rho
 
 -- with a left model, and the right one built
-abbrev pub right_text : Built → models.Columns → Heads → Columns → List ℕ
+abbrev pub right_text : Result Shape ℕ → models.Columns → Heads → Columns → List ℕ
 right_text left ML h k = lists_text (both left (side_built h.right h.left.transitions k).answer) ML (side_built h.right h.left.transitions k).memory h k.classes
 
 -- with both built

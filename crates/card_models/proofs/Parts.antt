@@ -1,5 +1,5 @@
 -- Parts of lists, as code cuts them, and what `build_side` answers by whether the transitions are there.
-use Rattle.std.specs.Prelude.{Some}
+use Rattle.std.specs.Prelude.{Some, Err}
 use mathlib.Core.Path.{◌≡◌, sym, ap, ◌∙◌}
 use mathlib.Core.List.{List}
 use Prim.Native.Nat.{ℕ, ◌+◌, ◌-◌, ◌≤◌, ◌<◌}
@@ -10,7 +10,6 @@ use borrow.Author.Tests.{lt-ltb, le-ltb}
 use Rattle.numbers.proofs.Parts.{drop_take}
 use Rattle.bisim_core.specs.Data.{Transitions, Columns, transitions}
 use Rattle.bisim_build.specs.Build.{Outcome, ends, build}
-use Rattle.bisim_build.specs.declared.builder.Built.TheVariants.{Refused}
 use Rattle.card_reader.specs.declared.reader.Head.{Head}
 use Rattle.card_models.specs.Sides.{shortest, cut_at, side_ends}
 
@@ -18,7 +17,7 @@ pub cut : {A : Type 0} (m n : ℕ) (l : List A) → take (m + n - m) (drop m l) 
 cut m n l = let e : m + n - m ≡ n = omega arith in ap (λ (x : ℕ). take x (drop m l)) e ∙ sym (drop_take m n l)
 
 module _ (h : Head) (m : ℕ) (C : Transitions) (M : Columns) where
-  pub side_short : shortest C < m + h.transitions → ends (Refused 7) M ≡ side_ends h m C M
+  pub side_short : shortest C < m + h.transitions → ends (Err 7) M ≡ side_ends h m C M
   side_short e = rw (lt-ltb (shortest C) (m + h.transitions) e)
 
   pub side_there : m + h.transitions ≤ shortest C → build h.states (Some (record { 0 = h.initial })) (cut_at m h.transitions C) h.transitions M ≡ side_ends h m C M

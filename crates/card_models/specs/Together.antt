@@ -1,22 +1,21 @@
 -- What `both_models` answers of two outcomes of `build`.
 use Rattle.std.specs.Prelude.{ℕ, min}
 use Rattle.bisim_core.specs.declared.wlts.Shape.{Shape}
-use Rattle.bisim_build.specs.declared.builder.Built.{Built}
-use Rattle.bisim_build.specs.declared.builder.Built.TheVariants as built
+use Rattle.std.specs.Prelude.{Result, Ok, Err}
 use Rattle.card_models.specs.declared.models.Both.{Both}
 use Rattle.card_models.specs.declared.models.Both.TheVariants.{Models, Refused}
 
 -- the left model with the right one, or the number that refuses it
-abbrev pub with_left : Shape → Built → Both
-with_left SL (built.Model SR) = Models SL SR
-with_left SL (built.Refused n) = Refused n
+abbrev pub with_left : Shape → Result Shape ℕ → Both
+with_left SL (Ok SR) = Models SL SR
+with_left SL (Err n) = Refused n
 
 -- the lower number, where m refuses the left model
-abbrev pub lower : ℕ → Built → ℕ
-lower m (built.Model SR) = m
-lower m (built.Refused n) = min m n
+abbrev pub lower : ℕ → Result Shape ℕ → ℕ
+lower m (Ok SR) = m
+lower m (Err n) = min m n
 
 -- both models, or the lower number that refuses one
-abbrev pub both : Built → Built → Both
-both (built.Model SL) right = with_left SL right
-both (built.Refused m) right = Refused (lower m right)
+abbrev pub both : Result Shape ℕ → Result Shape ℕ → Both
+both (Ok SL) right = with_left SL right
+both (Err m) right = Refused (lower m right)

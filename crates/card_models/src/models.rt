@@ -1,9 +1,10 @@
 // The two models of a card together.
 ghost use Rattle.std.specs.Prelude.{◌≡◌};
+ghost use Rattle.numbers.specs.Refuse.{numbered};
 ghost use Rattle.card_models.specs.Together;
 
-use bisim_build::builder::Built;
 use bisim_core::wlts::Shape;
+use numbers::refusal::Refusal;
 
 // Both models, or the lower number that refuses one.
 #[derive(Clone, Copy)]
@@ -13,31 +14,31 @@ pub enum Both {
 }
 
 // What `both_models` answers where the left model is there.
-fn with_left(a: Shape, right: Built) -> Both
-    ensures { result ≡ Together.with_left a right }
+fn with_left(a: Shape, right: Result<Shape, Refusal>) -> Both
+    ensures { result ≡ Together.with_left a (numbered right) }
 {
     match right {
-        Built::Model(b) => Both::Models(a, b),
-        Built::Refused(n) => Both::Refused(n),
+        Ok(b) => Both::Models(a, b),
+        Err(refusal) => Both::Refused(refusal.number()),
     }
 }
 
 // The lower number, where m refuses the left model.
-fn lower(m: u32, right: Built) -> u32
-    ensures { result ≡ Together.lower m right }
+fn lower(m: u32, right: Result<Shape, Refusal>) -> u32
+    ensures { result ≡ Together.lower m (numbered right) }
 {
     match right {
-        Built::Model(_) => m,
-        Built::Refused(n) => { if m < n { m } else { n } }
+        Ok(_) => m,
+        Err(refusal) => m.min(refusal.number()),
     }
 }
 
 // Both models, or the lower number that refuses one.
-pub fn both_models(left: Built, right: Built) -> Both
-    ensures { result ≡ Together.both left right }
+pub fn both_models(left: Result<Shape, Refusal>, right: Result<Shape, Refusal>) -> Both
+    ensures { result ≡ Together.both (numbered left) (numbered right) }
 {
     match left {
-        Built::Model(a) => with_left(a, right),
-        Built::Refused(m) => Both::Refused(lower(m, right)),
+        Ok(a) => with_left(a, right),
+        Err(refusal) => Both::Refused(lower(refusal.number(), right)),
     }
 }

@@ -7,11 +7,12 @@ ghost use Rattle.bisim_core.specs.Model;
 ghost use Rattle.bisim_build.specs.Build;
 ghost use Rattle.replies.specs.Answers.{initial, shape, of_interned, of_found, of_resolved, of_counted, of_start, of_successors, of_built};
 
-use bisim_build::builder;
+use bisim_build::builder::build;
 use bisim_core::ids;
 use bisim_core::ids::{Interner, LabelId, StateId};
 use bisim_core::wlts::Wlts;
 use bisim_reader::reader;
+use build_theory::lent::{Draft, Store};
 use numbers::Real;
 use numbers::refusal::code;
 use replies::answers;
@@ -101,21 +102,23 @@ pub extern "C" fn tanqesha_build(
         ≡ (Build.build states (initial present start) (transitions sources.now labels.now targets.now weights.now) given
         (columns label_values.old offsets.old edge_labels.old edge_targets.old edge_weights.old)).memory }
 {
-    let initial = initial_of(present, start);
-    let answer = builder::build(
+    let draft = Draft {
         states,
-        initial,
+        initial: initial_of(present, start),
         sources,
         labels,
         targets,
         weights,
         given,
+    };
+    let mut store = Store {
         label_values,
         offsets,
         edge_labels,
         edge_targets,
         edge_weights,
-    );
+    };
+    let answer = build(&draft, &mut store);
     answers::put_built(answer, edges, distinct)
 }
 

@@ -3,42 +3,26 @@
 
 ghost use Rattle.std.specs.Prelude.{◌<◌};
 
-use bisim_build::builder;
-use bisim_build::builder::Built;
+use bisim_build::builder::build;
+use build_theory::lent::{Draft, Store};
+use numbers::refusal::code;
 use std::{array, io};
 
-// The outcome of `build` with stores that are long enough.
-fn outcome(
-    states: usize,
-    sources: &[u32],
-    labels: &[u32],
-    targets: &[u32],
-    weights: &[f64],
-    given: usize,
-) -> u32 {
+// The refusal of `build` with lists that are long enough, 0 for none.
+fn outcome(draft: &Draft) -> u32 {
     let mut label_values = [0u32; 4097];
     let mut offsets = [0u32; 2002];
     let mut edge_labels = [0u32; 4097];
     let mut edge_targets = [0u32; 4097];
     let mut edge_weights = [0.0f64; 4097];
-    let answer = builder::build(
-        states,
-        None,
-        sources,
-        labels,
-        targets,
-        weights,
-        given,
-        &mut label_values,
-        &mut offsets,
-        &mut edge_labels,
-        &mut edge_targets,
-        &mut edge_weights,
-    );
-    match answer {
-        Built::Model(_) => 0,
-        Built::Refused(k) => k,
-    }
+    let mut store = Store {
+        label_values: &mut label_values,
+        offsets: &mut offsets,
+        edge_labels: &mut edge_labels,
+        edge_targets: &mut edge_targets,
+        edge_weights: &mut edge_weights,
+    };
+    code(&build(draft, &mut store))
 }
 
 // Entry i is i / every % 2,000.
@@ -54,11 +38,27 @@ fn targets(k: usize) -> u32 {
     let labels = [0u32; 40];
     let to: [u32; 40] = counted(1);
     let weights = [1.0f64; 40];
-    outcome(41, &sources, &labels, &to, &weights, k)
+    outcome(&Draft {
+        states: 41,
+        initial: None,
+        sources: &sources,
+        labels: &labels,
+        targets: &to,
+        weights: &weights,
+        given: k,
+    })
 }
 
 fn states(k: usize) -> u32 {
-    outcome(k, &[0u32; 1], &[0u32; 1], &[0u32; 1], &[1.0f64; 1], 1)
+    outcome(&Draft {
+        states: k,
+        initial: None,
+        sources: &[0u32; 1],
+        labels: &[0u32; 1],
+        targets: &[0u32; 1],
+        weights: &[1.0f64; 1],
+        given: 1,
+    })
 }
 
 // k loops on one state, with a label each.
@@ -66,7 +66,15 @@ fn labels(k: usize) -> u32 {
     let zeros = [0u32; 257];
     let labels: [u32; 257] = counted(1);
     let weights = [1.0f64; 257];
-    outcome(1, &zeros, &labels, &zeros, &weights, k)
+    outcome(&Draft {
+        states: 1,
+        initial: None,
+        sources: &zeros,
+        labels: &labels,
+        targets: &zeros,
+        weights: &weights,
+        given: k,
+    })
 }
 
 // k loops on 2,000 states, with three labels.
@@ -74,11 +82,27 @@ fn transitions(k: usize) -> u32 {
     let states: [u32; 4097] = counted(1);
     let labels: [u32; 4097] = counted(2000);
     let weights = [1.0f64; 4097];
-    outcome(2000, &states, &labels, &states, &weights, k)
+    outcome(&Draft {
+        states: 2000,
+        initial: None,
+        sources: &states,
+        labels: &labels,
+        targets: &states,
+        weights: &weights,
+        given: k,
+    })
 }
 
 fn weight(w: f64) -> u32 {
-    outcome(2, &[0u32; 1], &[0u32; 1], &[1u32; 1], &[w; 1], 1)
+    outcome(&Draft {
+        states: 2,
+        initial: None,
+        sources: &[0u32; 1],
+        labels: &[0u32; 1],
+        targets: &[1u32; 1],
+        weights: &[w; 1],
+        given: 1,
+    })
 }
 
 fn show(rt: &impl Print, what: &str, refusal: u32) -> io::Result<()> {
@@ -105,9 +129,9 @@ fn show_weights(rt: &impl Print) -> io::Result<()> {
     show(rt, "weight just below 2^-40", weight(9.094947017729281e-13))?;
     show(rt, "weight 2^40", weight(1099511627776.0))?;
     show(rt, "weight just above 2^40", weight(1099511627776.0002))?;
-    show(rt, "weight NaN", weight(zero / zero))?;
-    show(rt, "weight infinity", weight(numbers::infinity()))?;
-    show(rt, "weight -infinity", weight(-numbers::infinity()))?;
+    show(rt, "weight NaN", weight(f64::NAN))?;
+    show(rt, "weight infinity", weight(f64::INFINITY))?;
+    show(rt, "weight -infinity", weight(f64::NEG_INFINITY))?;
     show(rt, "weight -1", weight(-1.0))?;
     Ok(())
 }

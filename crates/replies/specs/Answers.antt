@@ -4,8 +4,6 @@ use Rattle.std.specs.Prelude.{ℕ, Bool, true, false, eqb, Option, Some, None, R
 use Rattle.bisim_core.specs.declared.ids.StateId.{StateId}
 use Rattle.bisim_core.specs.declared.ids.LabelId.{LabelId}
 use Rattle.bisim_core.specs.declared.wlts.Shape.{Shape}
-use Rattle.bisim_build.specs.declared.builder.Built.{Built}
-use Rattle.bisim_build.specs.declared.builder.Built.TheVariants as built
 
 -- no state, or s
 abbrev pub absent_if : Bool → ℕ → Option StateId
@@ -53,6 +51,6 @@ of_successors (Ok (f, t)) x y = 0 ∷ f ∷ t ∷ []
 of_successors (Err k) x y = k ∷ x ∷ y ∷ []
 
 -- edges, labels
-abbrev pub of_built : Built → ℕ → ℕ → List ℕ
-of_built (built.Model S) x y = 0 ∷ S.edges ∷ S.labels ∷ []
-of_built (built.Refused k) x y = k ∷ x ∷ y ∷ []
+abbrev pub of_built : Result Shape ℕ → ℕ → ℕ → List ℕ
+of_built (Ok S) x y = 0 ∷ S.edges ∷ S.labels ∷ []
+of_built (Err k) x y = k ∷ x ∷ y ∷ []

@@ -5,8 +5,8 @@ ghost use Rattle.replies.specs.Answers.{of_interned, of_found, of_resolved, of_c
 ghost use Rattle.replies.specs.Flows.{told, of_flow};
 ghost use Rattle.replies.specs.Relations.{of_ended, of_verdict, sought, of_least};
 
-use bisim_build::builder::Built;
 use bisim_core::ids::{LabelId, StateId};
+use bisim_core::wlts::Shape;
 use bisimilar::related::Verdict;
 use epsdelta::relation::Ended;
 use flow_core::rows::Answer;
@@ -105,16 +105,16 @@ pub fn put_successors(
     }
 }
 
-pub fn put_built(answer: Built, edges: &mut usize, labels: &mut usize) -> u32
-    ensures { result ∷ edges.new ∷ labels.new ∷ [] ≡ of_built answer edges.old labels.old }
+pub fn put_built(built: Result<Shape, Refusal>, edges: &mut usize, labels: &mut usize) -> u32
+    ensures { result ∷ edges.new ∷ labels.new ∷ [] ≡ of_built (numbered built) edges.old labels.old }
 {
-    match answer {
-        Built::Model(shape) => {
+    match built {
+        Ok(shape) => {
             *edges = shape.edges;
             *labels = shape.labels;
             0
         }
-        Built::Refused(k) => k,
+        Err(_) => code(&built),
     }
 }
 

@@ -7,5 +7,5 @@ use Rattle.build_theory.proofs.all_below.Goals as goal
 
 pub returns : goal.returns
 returns c =
-    all_from_yields_List (λ x. ltb x c.args.bound) _ _ _ c.all.ensures.ran (YieldsList-from_take c.args.given (YieldsList-from_slice c.args.column.now cc) cc) (λ x b q k. search (rules, tests))
+    all_from_yields_List (λ x. ltb x c.args.draft.now.states) _ _ _ c.all.ensures.ran (YieldsList-from_take c.args.draft.now.given (YieldsList-from_slice c.args.column.now cc) cc) (λ x b q k. search (rules, tests))
     ∙ list_all_is _ _

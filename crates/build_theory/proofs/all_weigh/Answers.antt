@@ -8,5 +8,5 @@ use Rattle.build_theory.proofs.all_weigh.Goals as goal
 
 pub returns : goal.returns
 returns c =
-    all_from_yields_List weighs _ _ _ c.all.ensures.ran (YieldsList-from_take c.args.given (YieldsList-from_slice c.args.weights.now cc) cc) (λ x b q k. search (rules, tests))
+    all_from_yields_List weighs _ _ _ c.all.ensures.ran (YieldsList-from_take c.args.draft.now.given (YieldsList-from_slice c.args.draft.now.weights.now cc) cc) (λ x b q k. search (rules, tests))
     ∙ list_all_is _ _

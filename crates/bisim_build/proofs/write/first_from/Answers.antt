@@ -1,4 +1,4 @@
-use Rattle.std.proofs.Common.{rules, ◌≤◌, ◌<◌}
+use Rattle.std.proofs.Common.{rules, ◌≤◌, ◌<◌, length, arith}
 use Rattle.std.proofs.lemmas.Iterator.{YieldsList-from_slice, IsFirst-from_position}
 use borrow.Author.Tests.{tests}
 use Rattle.bisim_build.proofs.Writes.{found_first, found_none}
@@ -6,10 +6,10 @@ use Rattle.bisim_build.proofs.write.first_from.Goals as goal
 
 pub returns-in-Some : goal.returns-in-Some
 returns-in-Some c =
-    found_first c.args.triples.now c.args.m c.args.p c.args.bound c.requires.0 c.requires.1 _
+    found_first c.args.triples.now (length c.args.triples.now) c.args.p c.args.bound c.requires (omega arith) _
     (IsFirst-from_position _ _ _ (λ x. c.args.bound ≤ x) (λ x. x < c.args.bound) c.in-Some.ensures.ran (YieldsList-from_slice _ cc) (λ x q k. search (rules, tests)) (λ x q k. search (rules, tests)))
 
 pub returns-in-None : goal.returns-in-None
 returns-in-None c =
-    found_none c.args.triples.now c.args.m c.args.p c.args.bound c.requires.0 c.requires.1
+    found_none c.args.triples.now (length c.args.triples.now) c.args.p c.args.bound c.requires (omega arith)
     (IsFirst-from_position _ _ _ (λ x. c.args.bound ≤ x) (λ x. x < c.args.bound) c.in-None.ensures.ran (YieldsList-from_slice _ cc) (λ x q k. search (rules, tests)) (λ x q k. search (rules, tests)))

@@ -3,27 +3,27 @@ use Rattle.bisim_edges.proofs.Crowds.{crowding, Ready, ready_same, ready_new, cr
 use Rattle.bisim_edges.proofs.crowd.crowded.Goals.{then-s-state, then-leads+else-count-gt31, else-s-state, else-leads}
 use Rattle.bisim_edges.proofs.crowd.crowded.Goals as goal
 
-pub loop-j-init : goal.loop-j-init
-loop-j-init c = crowding _ _ _ _ refl
+pub loop-key-init : goal.loop-key-init
+loop-key-init c = crowding _ _ _ _ refl
 
 pub returns-then-count-gt31 : goal.returns-then-count-gt31
 returns-then-count-gt31 c =
-    let ready : Ready c.loop-j.invariant c.requires.0 c.loop-j-test.true c.if-s-state.count = elim c.if-s-state.branch [
-      | then-s-state w ↦ ready_new c.loop-j.invariant c.requires.0 c.loop-j-test.true w.if-s-state.true _ w.count-is
-      | else-s-state w ↦ ready_same c.loop-j.invariant c.requires.0 c.loop-j-test.true w.if-s-state.false _ w.count-is
+    let ready : Ready c.loop-key.invariant c.requires.0 c.loop-key-test.true c.if-s-state.count = elim c.if-s-state.branch [
+      | then-s-state w ↦ ready_new c.loop-key.invariant c.requires.0 c.loop-key-test.true w.if-s-state.true _ w.count-is
+      | else-s-state w ↦ ready_same c.loop-key.invariant c.requires.0 c.loop-key-test.true w.if-s-state.false _ w.count-is
     ] in
-    crowd_found c.loop-j.invariant c.requires.0 c.loop-j-test.true _ ready (sym c.leads.ensures ∙ c.if-leads.true) _ _ c.note-count.ensures c.if-count-gt31.true
+    crowd_found c.loop-key.invariant c.requires.0 c.loop-key-test.true _ ready (sym c.leads.ensures ∙ c.if-leads.true) _ _ c.note-count.ensures c.if-count-gt31.true
 
-pub loop-j-preserved : goal.loop-j-preserved
-loop-j-preserved c =
-    let ready : Ready c.loop-j.invariant c.requires.0 c.loop-j-test.true c.if-s-state.count = elim c.if-s-state.branch [
-      | then-s-state w ↦ ready_new c.loop-j.invariant c.requires.0 c.loop-j-test.true w.if-s-state.true _ w.count-is
-      | else-s-state w ↦ ready_same c.loop-j.invariant c.requires.0 c.loop-j-test.true w.if-s-state.false _ w.count-is
+pub loop-key-preserved : goal.loop-key-preserved
+loop-key-preserved c =
+    let ready : Ready c.loop-key.invariant c.requires.0 c.loop-key-test.true c.if-s-state.count = elim c.if-s-state.branch [
+      | then-s-state w ↦ ready_new c.loop-key.invariant c.requires.0 c.loop-key-test.true w.if-s-state.true _ w.count-is
+      | else-s-state w ↦ ready_same c.loop-key.invariant c.requires.0 c.loop-key-test.true w.if-s-state.false _ w.count-is
     ] in
     elim c.if-leads.branch [
-      | then-leads+else-count-gt31 w ↦ crowd_more c.loop-j.invariant c.requires.0 c.loop-j-test.true _ ready (sym c.leads.ensures ∙ w.if-leads.true) _ _ w.note-count.ensures w.note-count.auto.seen w.if-count-gt31.false _ _ w.seen-is w.count-is
-      | else-leads w ↦ crowd_self c.loop-j.invariant c.requires.0 c.loop-j-test.true _ ready (sym c.leads.ensures ∙ w.if-leads.false) _ _ w.seen-is w.count-is
+      | then-leads+else-count-gt31 w ↦ crowd_more c.loop-key.invariant c.requires.0 c.loop-key-test.true _ ready (sym c.leads.ensures ∙ w.if-leads.true) _ _ w.note-count.ensures w.note-count.auto.seen w.if-count-gt31.false _ _ w.seen-is w.count-is
+      | else-leads w ↦ crowd_self c.loop-key.invariant c.requires.0 c.loop-key-test.true _ ready (sym c.leads.ensures ∙ w.if-leads.false) _ _ w.seen-is w.count-is
     ]
 
 pub returns : goal.returns
-returns c = crowd_none c.loop-j.invariant c.requires.0 c.loop-j-test.false
+returns c = crowd_none c.loop-key.invariant c.requires.0 c.loop-key-test.false

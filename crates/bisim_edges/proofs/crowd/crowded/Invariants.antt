@@ -1,7 +1,8 @@
 -- The keys rise, so those of a state stand together: `seen` holds the distinct targets of the state at hand, other than itself, and no state before has over 31 (`Crowding`).
 -- A turn takes one key; a 32nd target answers true, the end false.
+use lib.ListN.{length}
 use Rattle.bisim_edges.proofs.Crowds.{Crowding}
 use Rattle.bisim_edges.proofs.crowd.crowded.Given as goal
 
-abbrev pub invariant-loop-j : goal.invariant-loop-j
-invariant-loop-j l = Crowding l.keys l.n l.weights l.seen l.count l.state l.j
+abbrev pub invariant-loop-key : goal.invariant-loop-key
+invariant-loop-key l = Crowding l.keys (length l.keys) l.weights l.seen l.count l.state l.key-index

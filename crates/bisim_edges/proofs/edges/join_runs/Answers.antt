@@ -1,12 +1,14 @@
+use mathlib.Core.Path.{sym, ◌∙◌}
+use borrow.Author.Tests.{eqb-true, eqb-false}
 use Rattle.bisim_edges.proofs.Joins.{joining, goes_on, begins, all_joined, joined_none}
 use Rattle.bisim_edges.proofs.edges.join_runs.Goals.{then-q-run, else-q-run}
 use Rattle.bisim_edges.proofs.edges.join_runs.Goals as goal
 
-pub returns-then-n-eq0 : goal.returns-then-n-eq0
-returns-then-n-eq0 c = joined_none _ _ _ _ _ c.requires.0 c.if-n-eq0.true
+pub returns-then-is_empty : goal.returns-then-is_empty
+returns-then-is_empty c = joined_none _ _ _ _ _ c.requires.0 (let e = c.is_empty.ensures in let t = c.if-is_empty.true in eqb-true _ _ (sym e ∙ t))
 
 pub loop-i-init : goal.loop-i-init
-loop-i-init c = joining _ _ _ _ _ c.requires.0 c.if-n-eq0.false
+loop-i-init c = joining _ _ _ _ _ c.requires.0 (let e = c.is_empty.ensures in let t = c.if-is_empty.false in eqb-false _ _ (sym e ∙ t))
 
 pub loop-i-preserved : goal.loop-i-preserved
 loop-i-preserved c = let h = c.loop-i-test.true in

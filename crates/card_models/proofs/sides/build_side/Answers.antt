@@ -1,5 +1,6 @@
 -- The parts of the lists are what `build` is given, where they are there.
 use native.Mathlib.Omega.{arith}
+use borrow.Author.Rules.{rules}
 use Rattle.bisim_core.specs.Data.{transitions, columns}
 use Rattle.card_models.proofs.Parts.{side_short, side_cut}
 use Rattle.card_models.proofs.sides.build_side.Goals as goal
@@ -17,4 +18,5 @@ returns-then-there-from-2 c =
 pub returns : goal.returns
 returns c =
     let a = c.args in
-    side_cut a.head a.from (transitions a.sources.now a.labels.now a.targets.now a.weights.now) (columns a.label_values.now a.offsets.now a.edge_labels.now a.edge_targets.now a.edge_weights.now) (omega arith) c.build.ensures
+    let h = side_cut a.head a.from (transitions a.sources.now a.labels.now a.targets.now a.weights.now) (columns a.label_values.now a.offsets.now a.edge_labels.now a.edge_targets.now a.edge_weights.now) (omega arith) c.build.ensures.outcome in
+    search rules

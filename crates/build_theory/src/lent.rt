@@ -1,0 +1,24 @@
+// What `build` is handed: the model asked for, and the lists that it goes into.
+use bisim_core::ids::StateId;
+
+// The model asked for: its state count and initial state, and its transitions, column by column, of which the first `given` count.
+#[derive(Clone, Copy, Debug)]
+pub struct Draft<'a> {
+    pub states: usize,
+    pub initial: Option<StateId>,
+    pub sources: &'a [u32],
+    pub labels: &'a [u32],
+    pub targets: &'a [u32],
+    pub weights: &'a [f64],
+    pub given: usize,
+}
+
+// The lists that a model's columns go into.
+#[derive(Drop)]
+pub struct Store<'a> {
+    pub label_values: &'a mut [u32],
+    pub offsets: &'a mut [u32],
+    pub edge_labels: &'a mut [u32],
+    pub edge_targets: &'a mut [u32],
+    pub edge_weights: &'a mut [f64],
+}
