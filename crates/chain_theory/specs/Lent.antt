@@ -1,7 +1,24 @@
--- A chain that is lent.
+-- A chain that is lent, and what is lent for one.
+use Rattle.std.specs.Prelude.{◌≡◌}
 use Rattle.chain_theory.specs.Columns.{ChainColumns, chain_columns}
 use Rattle.chain_theory.specs.declared.Chain.{Chain}
+use Rattle.chain_theory.specs.declared.ChainMut.{ChainMut}
+use Rattle.chain_theory.specs.declared.ChainStore.{ChainStore}
 
 -- its columns
 abbrev pub of_chain : Chain → ChainColumns
 of_chain C = chain_columns C.offsets.now C.targets.now C.probs.now C.observations.now
+
+abbrev pub of_chain_mut : ChainMut → ChainColumns
+of_chain_mut C = chain_columns C.offsets.now C.targets.now C.probs.now C.observations.now
+
+abbrev pub of_store : ChainStore → ChainColumns
+of_store C = chain_columns C.offsets.now C.targets.now C.probs.now C.observations.now
+
+-- the lists are those that were lent
+abbrev pub SameLists : ChainStore → ChainStore → Type 0
+SameLists C D =
+    (D.offsets.ghost_name ≡ C.offsets.ghost_name)
+    × (D.targets.ghost_name ≡ C.targets.ghost_name)
+    × (D.probs.ghost_name ≡ C.probs.ghost_name)
+    × (D.observations.ghost_name ≡ C.observations.ghost_name)

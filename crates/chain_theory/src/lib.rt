@@ -4,6 +4,7 @@
 ghost use Rattle.std.specs.Prelude.{◌≡◌};
 ghost use Rattle.numbers.specs.Lists.{all};
 ghost use Rattle.chain_theory.specs.Check;
+ghost use Rattle.chain_theory.specs.Lent.{of_chain, of_chain_mut};
 
 use bisim_core::ids::StateId;
 use numbers::{GREATEST_WEIGHT, LEAST_OBSERVATION};
@@ -24,6 +25,40 @@ pub struct Chain<'a> {
     pub targets: &'a [u32],
     pub probs: &'a [f64],
     pub observations: &'a [f64],
+}
+
+// A chain whose observations are lent to be changed.
+#[derive(Drop)]
+pub struct ChainMut<'a> {
+    pub shape: ChainShape,
+    pub offsets: &'a [u32],
+    pub targets: &'a [u32],
+    pub probs: &'a [f64],
+    pub observations: &'a mut [f64],
+}
+
+impl ChainMut<'_> {
+    // The chain to be read.
+    pub fn chain(&self) -> Chain<'_>
+        ensures { (result.shape ≡ self.now.shape) × (of_chain result ≡ of_chain_mut self.now) }
+    {
+        Chain {
+            shape: self.shape,
+            offsets: self.offsets,
+            targets: self.targets,
+            probs: self.probs,
+            observations: self.observations,
+        }
+    }
+}
+
+// What is lent for a chain that is made: a list for each column, long enough or not.
+#[derive(Drop)]
+pub struct ChainStore<'a> {
+    pub offsets: &'a mut [u32],
+    pub targets: &'a mut [u32],
+    pub probs: &'a mut [f64],
+    pub observations: &'a mut [f64],
 }
 
 // The numbers from a least one to a greatest one.

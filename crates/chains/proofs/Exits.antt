@@ -1,20 +1,28 @@
 -- Exit rates: the turns of the loop that adds the weights of a state's edges, and of the loop that keeps the greatest sum.
-use mathlib.Core.Path.{◌≡◌, sym, ap, ◌∙◌}
+use mathlib.Core.Path.{◌≡◌, refl, sym, ap, ◌∙◌}
 use mathlib.Core.Bool.{Bool}
-use Prim.Native.Nat.{ℕ, suc, ◌+◌, ◌-◌, ◌<◌}
+use Prim.Native.Nat.{ℕ, suc, ◌+◌, ◌-◌, ◌≤◌, ◌<◌}
 use mathlib.Core.List.{List, map}
 use native.Mathlib.Omega.{arith}
 use native.Mathlib.Numerals.{add-one}
 use lib.Dec.{eqb}
-use lib.Ieee.{Float, binary64, add, nan}
+use lib.Ieee.{Float, of_bits, binary64, add, nan}
 use lib.ListN.{get_or}
 use borrow.Author.Tests.{eq-eqb, ne_eqb}
 use Rattle.numbers.specs.Lists.{span}
-use Rattle.numbers.specs.Real.{sum_from}
+use Rattle.numbers.specs.Real.{sum, sum_from}
 use Rattle.numbers.specs.Choice.{larger}
 use Rattle.bisim_core.specs.Data.{Columns}
-use Rattle.bisim_core.specs.Model.{edge_at}
-use Rattle.chain_theory.specs.Chain.{counted, leaving, greatest_from}
+use Rattle.bisim_core.specs.Model.{begins, edge_at, row}
+use Rattle.bisim_core.specs.declared.wlts.Shape.{Shape}
+use Rattle.bisim_core.proofs.Accepted.{Accepted}
+use Rattle.epsdelta_theory.proofs.RowReads.{starts_up}
+use Rattle.chain_theory.specs.Chain.{counted, leaving, exit_rate, greatest_from}
+
+-- ---- the edges of a state are among those of the model
+
+pub edges_in : {S : Shape} {M : Columns} {s : ℕ} → Accepted S M → s < S.states → begins M (s + 1) ≤ S.edges
+edges_in {S} {M} {s} A h = let u = starts_up M.offsets S.states A.begins_rise (s + 1) S.states (omega arith) (omega arith) in let e = A.begins_last in omega arith
 
 -- ---- the weights still to come, of edges i up to b of state s
 
@@ -41,6 +49,14 @@ module _ (M : Columns) (s i b : ℕ) (x : Float) (h : i < b) where
 pub left_end : (M : Columns) (s i b : ℕ) (x : Float) → i ≡ b → x ≡ sum_from x (Left M s i b)
 unfolding span leaving sum_from
 left_end M s i b x e = let z : 0 ≡ b - i = omega arith in ap (λ (n : ℕ). sum_from x (leaving (map (edge_at M s) (span i n)))) z
+
+from_none : (l : List Float) → sum_from (of_bits binary64 0) l ≡ sum l
+unfolding sum
+from_none l = refl
+
+pub left_start : (M : Columns) (s : ℕ) → sum_from (of_bits binary64 0) (Left M s (begins M s) (begins M (s + 1))) ≡ exit_rate (row M s)
+unfolding row exit_rate
+left_start M s = from_none (leaving (row M s))
 
 -- ---- the greatest of the numbers still to come, of states s up to n
 

@@ -1,15 +1,22 @@
 // What `uniformise` refuses.
 ghost use Rattle.std.specs.Prelude.{◌≡◌, ◌+◌, ltb, length};
-ghost use Rattle.bisim_core.specs.Data.{columns, columns_of};
+ghost use Rattle.numbers.specs.Refuse.{code};
+ghost use Rattle.bisim_core.specs.Data.{columns_of};
 ghost use Rattle.chain_theory.specs.Check;
-ghost use Rattle.chain_theory.specs.Columns.{chain_columns};
+ghost use Rattle.chain_theory.specs.Lent.{of_store};
 ghost use Rattle.chains.specs.Outcome;
 
 use bisim_core::wlts::{Shape, Wlts};
-use chain_theory::{all_within, within};
-use numbers::refusal::code;
-use numbers::{GREATEST_RATE, GREATEST_WEIGHT, LEAST_OBSERVATION, LEAST_WEIGHT};
+use chain_theory::{Bounds, ChainStore, OBSERVATIONS};
+use numbers::refusal::Refusal;
+use numbers::{GREATEST_RATE, LEAST_WEIGHT};
 use parts::starts::absent;
+
+// What a rate may be.
+const RATES: Bounds = Bounds {
+    least: LEAST_WEIGHT,
+    greatest: GREATEST_RATE,
+};
 
 // Whether n is below a + b.
 fn below_sum(n: usize, a: usize, b: usize) -> bool
@@ -19,64 +26,38 @@ fn below_sum(n: usize, a: usize, b: usize) -> bool
 }
 
 // Whether there are fewer observations than states, or a list lent for the chain is short.
-pub fn cramped(
-    states: usize,
-    edges: usize,
-    observations: &[f64],
-    offsets: &[u32],
-    targets: &[u32],
-    probs: &[f64],
-    seen: &[f64],
-) -> bool
-    ensures { result ≡ Check.cramped states edges (length observations.now) (chain_columns offsets.now targets.now probs.now seen.now) }
+pub fn cramped(shape: Shape, observations: &[f64], store: &ChainStore) -> bool
+    ensures { result ≡ Check.cramped shape.states shape.edges (length observations.now) (of_store store.now) }
 {
+    let Shape { states, edges, .. } = shape;
     observations.len() < states
-        || offsets.len() <= states
-        || below_sum(targets.len(), edges, states)
-        || below_sum(probs.len(), edges, states)
-        || seen.len() < states
+        || store.offsets.len() <= states
+        || below_sum(store.targets.len(), edges, states)
+        || below_sum(store.probs.len(), edges, states)
+        || store.observations.len() < states
 }
 
-// The first check that fails, 0 if none does.
+// Turned back with the first check that fails.
 pub(crate) fn uniformise_refusal(
     model: &Wlts,
     rate: f64,
     observations: &[f64],
-    chain_offsets: &[u32],
-    chain_targets: &[u32],
-    chain_probs: &[f64],
-    chain_seen: &[f64],
-) -> u32
-    ensures { result ≡ Outcome.uniformise_refusal model.now.shape (columns_of model.now) rate observations.now (chain_columns chain_offsets.now chain_targets.now chain_probs.now chain_seen.now) }
+    store: &ChainStore,
+) -> Result<(), Refusal>
+    ensures { code result ≡ Outcome.uniformise_refusal model.now.shape (columns_of model.now) rate observations.now (of_store store.now) }
 {
-    let refusal = code(&model.check());
-    if refusal != 0 {
-        return refusal;
-    }
-    if cramped(
-        model.shape.states,
-        model.shape.edges,
-        observations,
-        chain_offsets,
-        chain_targets,
-        chain_probs,
-        chain_seen,
-    ) {
-        return 7;
+    model.check()?;
+    if cramped(model.shape, observations, store) {
+        return Err(Refusal::Store);
     }
     if absent(model.shape.initial) {
-        return 8;
+        return Err(Refusal::NoInitialState);
     }
-    if !within(LEAST_WEIGHT, GREATEST_RATE, rate) {
-        return 11;
+    if !RATES.hold(rate) {
+        return Err(Refusal::DiscountOrRate);
     }
-    if !all_within(
-        LEAST_OBSERVATION,
-        GREATEST_WEIGHT,
-        observations,
-        model.shape.states,
-    ) {
-        return 12;
+    if !OBSERVATIONS.hold_all(&observations[..model.shape.states]) {
+        return Err(Refusal::Observation);
     }
-    0
+    Ok(())
 }

@@ -9,6 +9,7 @@ ghost use Rattle.replies.specs.Chains;
 ghost use Rattle.replies.specs.Chains.{told, of_rated, makes, made, leaves, scaled};
 
 use bisim_core::wlts::Wlts;
+use chain_theory::{ChainMut, ChainStore};
 use chains::chain;
 use replies::chain_answers;
 use replies::shapes::shape_of;
@@ -73,7 +74,7 @@ pub extern "C" fn tanqesha_common_rate(
         edge_weights: right_edge_weights,
     };
     let answer = chain::common_rate(&left, &right);
-    chain_answers::put_rate(answer, rate)
+    chain_answers::put_real(answer, rate)
 }
 
 // The chain of a model at a rate, with an observation of each state: where the entries of each state begin, their targets and probabilities, and the observations, over the front of the lists lent.
@@ -111,15 +112,13 @@ pub extern "C" fn tanqesha_uniformise(
         edge_targets,
         edge_weights,
     };
-    let answer = chain::uniformise(
-        &model,
-        rate,
-        observations,
-        chain_offsets,
-        chain_targets,
-        chain_probabilities,
-        chain_observations,
-    );
+    let mut store = ChainStore {
+        offsets: chain_offsets,
+        targets: chain_targets,
+        probs: chain_probabilities,
+        observations: chain_observations,
+    };
+    let answer = chain::uniformise(&model, rate, observations, &mut store);
     chain_answers::put_chain(answer, entries)
 }
 
@@ -149,19 +148,20 @@ pub extern "C" fn tanqesha_normalise(
         (Chains.shape right_states right_entries right_initial)
         (chain_columns right_offsets.now right_targets.now right_probabilities.now right_observations.old)) scale.old }
 {
-    let left = chain_answers::chain_of(left_states, left_entries, left_initial);
-    let right = chain_answers::chain_of(right_states, right_entries, right_initial);
-    let answer = normalise::normalise(
-        left,
-        left_offsets,
-        left_targets,
-        left_probabilities,
-        left_observations,
-        right,
-        right_offsets,
-        right_targets,
-        right_probabilities,
-        right_observations,
-    );
-    chain_answers::put_scale(answer, scale)
+    let mut left = ChainMut {
+        shape: chain_answers::chain_of(left_states, left_entries, left_initial),
+        offsets: left_offsets,
+        targets: left_targets,
+        probs: left_probabilities,
+        observations: left_observations,
+    };
+    let mut right = ChainMut {
+        shape: chain_answers::chain_of(right_states, right_entries, right_initial),
+        offsets: right_offsets,
+        targets: right_targets,
+        probs: right_probabilities,
+        observations: right_observations,
+    };
+    let answer = normalise::normalise(&mut left, &mut right);
+    chain_answers::put_real(answer, scale)
 }

@@ -1,14 +1,12 @@
 -- What `normalise` answers, and what it leaves in the observations of both chains.
-use Rattle.std.specs.Prelude.{ℕ, zero, suc, Bool, true, false, ◌&&◌, ◌||◌, List, length, take, leb, Float}
-use Rattle.numbers.specs.Real.{nought, least_observation, greatest_weight}
+use Rattle.std.specs.Prelude.{ℕ, zero, suc, ◌||◌, List, take, Float, Result, Ok, Err}
+use Rattle.numbers.specs.Real.{least_observation, greatest_weight}
 use Rattle.numbers.specs.Refuse.{check}
 use Rattle.numbers.specs.Lists.{every, all, over}
 use Rattle.chain_theory.specs.Chain.{Scaled, normalise}
 use Rattle.chain_theory.specs.Columns.{ChainColumns, chain_of}
 use Rattle.chain_theory.specs.Check.{within, proper, misshapen, unobserved, unfitting, improper}
 use Rattle.chain_theory.specs.declared.ChainShape.{ChainShape}
-use Rattle.normalise.specs.declared.Normalised.{Normalised}
-use Rattle.normalise.specs.declared.Normalised.TheVariants.{Scale, Refused}
 
 -- two chains handed in: the first check that fails over both, 0 if none does
 unfoldable pub normalise_refusal : ChainShape → ChainColumns → ChainShape → ChainColumns → ℕ
@@ -22,17 +20,17 @@ normalise_refusal HL CL HR CR =
 
 -- the answer, and the observations of both chains
 pub record Outcome : Type 0 where
-  pub answer : Normalised
+  pub answer : Result Float ℕ
   pub left : List Float
   pub right : List Float
 
-abbrev pub ends : Normalised → List Float → List Float → Outcome
+abbrev pub ends : Result Float ℕ → List Float → List Float → Outcome
 ends a l r = record { answer = a; left = l; right = r }
 
 -- those scaled over the front of what was there, or the number of the check that failed and the observations as they were
 abbrev pub settled : ℕ → Scaled → List Float → List Float → Outcome
-settled zero s l r = ends (Scale s.scale) (over s.left l) (over s.right r)
-settled (suc n) s l r = ends (Refused (suc n)) l r
+settled zero s l r = ends (Ok s.scale) (over s.left l) (over s.right r)
+settled (suc n) s l r = ends (Err (suc n)) l r
 
 unfoldable pub normalised : ChainShape → ChainColumns → ChainShape → ChainColumns → Outcome
 unfolding normalise_refusal normalise
@@ -43,16 +41,3 @@ normalised HL CL HR CR = settled (normalise_refusal HL CL HR CR) (normalise (tak
 -- the difference of the greatest and the least, and both lists
 abbrev pub scaling : Float → List Float → List Float → Scaled
 scaling x l r = record { scale = x; left = l; right = r }
-
--- scaled numbers over the front of what was there
-abbrev pub scaled_over : Scaled → List Float → List Float → Scaled
-scaled_over s l r = scaling s.scale (over s.left l) (over s.right r)
-
-abbrev pub scaled_if : Bool → Scaled → List Float → List Float → Scaled
-scaled_if true s l r = scaled_over s l r
-scaled_if false s l r = scaling nought l r
-
--- the first n of one list and the first m of another; all as it was where a list is shorter
-unfoldable pub scale_together : ℕ → List Float → ℕ → List Float → Scaled
-unfolding normalise
-scale_together n l m r = scaled_if (leb n (length l) && leb m (length r)) (normalise (take n l) (take m r)) l r

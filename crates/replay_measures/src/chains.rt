@@ -4,7 +4,7 @@ ghost use Rattle.replay_text.specs.Reading.{Lasts};
 use crate::asked::Rooms;
 use crate::scratch::expect_held;
 use bisim_core::ids::StateId;
-use chain_theory::ChainShape;
+use chain_theory::{ChainMut, ChainShape};
 use replay_text::text::Reader;
 
 // Room for the lists of a chain.
@@ -14,16 +14,6 @@ pub struct Store {
     pub targets: [u32; 200],
     pub probs: [f64; 200],
     pub seen: [f64; 200],
-}
-
-// A chain that is read, and its observations.
-#[derive(Drop)]
-pub struct Side<'a> {
-    pub shape: ChainShape,
-    pub offsets: &'a [u32],
-    pub targets: &'a [u32],
-    pub probs: &'a [f64],
-    pub seen: &'a mut [f64],
 }
 
 impl Store {
@@ -36,7 +26,7 @@ impl Store {
         }
     }
 
-    pub fn read<'a>(&'a mut self, r: &mut Reader) -> Side<'a>
+    pub fn read<'a>(&'a mut self, r: &mut Reader) -> ChainMut<'a>
         ensures { Lasts r.old r.new }
     {
         let Store {
@@ -45,7 +35,7 @@ impl Store {
             probs,
             seen,
         } = self;
-        Side {
+        ChainMut {
             shape: ChainShape {
                 states: r.number_field() as usize,
                 entries: r.number_field() as usize,
@@ -54,7 +44,7 @@ impl Store {
             offsets: r.list_field(offsets),
             targets: r.list_field(targets),
             probs: r.list_field(probs),
-            seen: r.list_field(seen),
+            observations: r.list_field(seen),
         }
     }
 

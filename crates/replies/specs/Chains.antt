@@ -1,14 +1,8 @@
 -- What the exported functions on chains return, and what the references and lists lent to them then hold.
-use Rattle.std.specs.Prelude.{ℕ, List, [], ◌∷◌, Float}
+use Rattle.std.specs.Prelude.{ℕ, List, [], ◌∷◌, Float, Result, Ok, Err}
 use Rattle.chain_theory.specs.Columns.{ChainColumns}
 use Rattle.chain_theory.specs.declared.ChainShape.{ChainShape}
-use Rattle.chains.specs.declared.chain.Rated.{Rated}
-use Rattle.chains.specs.declared.chain.Rated.TheVariants as rated
-use Rattle.chains.specs.declared.chain.Uniformised.{Uniformised}
-use Rattle.chains.specs.declared.chain.Uniformised.TheVariants as uniformised
 use Rattle.chains.specs.Outcome as chains
-use Rattle.normalise.specs.declared.Normalised.{Normalised}
-use Rattle.normalise.specs.declared.Normalised.TheVariants as normalised
 use Rattle.normalise.specs.Outcome as normalise
 
 -- a chain's counts and initial state
@@ -24,20 +18,23 @@ pub record Told : Type 0 where
 abbrev pub told : ℕ → Float → Told
 told k x = record { number = k; value = x }
 
--- 0 and the rate; or the refusal's number and what the reference held before
-abbrev pub of_rated : Rated → Float → Told
-of_rated (rated.Rate q) x = told 0 q
-of_rated (rated.Refused k) x = told k x
+-- 0 and the number; or the refusal's number and what the reference held before
+abbrev pub of_real : Result Float ℕ → Float → Told
+of_real (Ok y) x = told 0 y
+of_real (Err k) x = told k x
 
--- the same of the difference
-abbrev pub of_normalised : Normalised → Float → Told
-of_normalised (normalised.Scale d) x = told 0 d
-of_normalised (normalised.Refused k) x = told k x
+-- of the rate
+abbrev pub of_rated : Result Float ℕ → Float → Told
+of_rated a x = of_real a x
+
+-- of the difference
+abbrev pub of_normalised : Result Float ℕ → Float → Told
+of_normalised a x = of_real a x
 
 -- entries
-abbrev pub of_uniformised : Uniformised → ℕ → List ℕ
-of_uniformised (uniformised.Chain H) n = 0 ∷ H.entries ∷ []
-of_uniformised (uniformised.Refused k) n = k ∷ n ∷ []
+abbrev pub of_uniformised : Result ChainShape ℕ → ℕ → List ℕ
+of_uniformised (Ok H) n = 0 ∷ H.entries ∷ []
+of_uniformised (Err k) n = k ∷ n ∷ []
 
 -- what is told of `uniformise`, and the lists lent for the chain
 pub record Made : Type 0 where

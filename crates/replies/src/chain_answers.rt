@@ -1,11 +1,11 @@
 // The answers of `common_rate`, `uniformise` and `normalise` as numbers: 0, with what they hold put behind the references; or a refusal's number, the references left as they were. A chain's counts and initial state from numbers.
 ghost use Rattle.std.specs.Prelude.{◌≡◌, [], ◌∷◌};
-ghost use Rattle.replies.specs.Chains.{shape, told, of_rated, of_uniformised, of_normalised};
+ghost use Rattle.numbers.specs.Refuse.{numbered};
+ghost use Rattle.replies.specs.Chains.{shape, told, of_real, of_uniformised};
 
 use bisim_core::ids::StateId;
 use chain_theory::ChainShape;
-use chains::chain::{Rated, Uniformised};
-use normalise::Normalised;
+use numbers::refusal::{Refusal, code};
 
 // A chain's counts and initial state.
 pub fn chain_of(states: usize, entries: usize, initial: u32) -> ChainShape
@@ -18,38 +18,28 @@ pub fn chain_of(states: usize, entries: usize, initial: u32) -> ChainShape
     }
 }
 
-pub fn put_rate(answer: Rated, rate: &mut f64) -> u32
-    ensures { told result rate.new ≡ of_rated answer rate.old }
+// Of `common_rate` and `normalise`.
+pub fn put_real(answer: Result<f64, Refusal>, real: &mut f64) -> u32
+    ensures { told result real.new ≡ of_real (numbered answer) real.old }
 {
     match answer {
-        Rated::Rate(q) => {
-            *rate = q;
+        Ok(x) => {
+            *real = x;
             0
         }
-        Rated::Refused(k) => k,
+        Err(_) => code(&answer),
     }
 }
 
-pub fn put_chain(answer: Uniformised, entries: &mut usize) -> u32
-    ensures { result ∷ entries.new ∷ [] ≡ of_uniformised answer entries.old }
+// Of `uniformise`.
+pub fn put_chain(made: Result<ChainShape, Refusal>, entries: &mut usize) -> u32
+    ensures { result ∷ entries.new ∷ [] ≡ of_uniformised (numbered made) entries.old }
 {
-    match answer {
-        Uniformised::Chain(chain) => {
+    match made {
+        Ok(chain) => {
             *entries = chain.entries;
             0
         }
-        Uniformised::Refused(k) => k,
-    }
-}
-
-pub fn put_scale(answer: Normalised, scale: &mut f64) -> u32
-    ensures { told result scale.new ≡ of_normalised answer scale.old }
-{
-    match answer {
-        Normalised::Scale(x) => {
-            *scale = x;
-            0
-        }
-        Normalised::Refused(k) => k,
+        Err(_) => code(&made),
     }
 }

@@ -1,16 +1,25 @@
 -- A chain that fails decides the answer and leaves the observations; else both have an observation for each state, and these are scaled together.
-use Rattle.chain_theory.specs.Columns.{chain_columns}
-use Rattle.normalise.proofs.Scaling.{answer_refused, both_long, answer_scaled}
+use mathlib.Core.Path.{refl}
+use native.Mathlib.Omega.{arith}
+use Rattle.chain_theory.specs.Lent.{of_chain_mut}
+use Rattle.normalise.proofs.Scaling.{by, answer_refused, both_long, answer_scaled}
 use Rattle.normalise.proofs.normalise.Goals as goal
 
-pub returns-then-refusal-ne0 : goal.returns-then-refusal-ne0
-returns-then-refusal-ne0 c =
-    answer_refused c.args.left (chain_columns c.args.left_offsets.now c.args.left_targets.now c.args.left_probs.now c.args.left_seen.now) c.args.right (chain_columns c.args.right_offsets.now c.args.right_targets.now c.args.right_probs.now c.args.right_seen.now) _ _ _ c.chain_refusal-of_left.ensures c.chain_refusal-of_right.ensures c.earlier-refusal.ensures c.if-refusal-ne0.true
+pub returns-in_err-earlier-clause-outcome : goal.returns-in_err-earlier-clause-outcome
+returns-in_err-earlier-clause-outcome c =
+    answer_refused c.args.left.now.shape (of_chain_mut c.args.left.now) c.args.right.now.shape (of_chain_mut c.args.right.now) _ _ _ (by c.chain.ensures c.chain_refusal-of_left.ensures) (by c.chain-2.ensures c.chain_refusal-of_right.ensures) c.in_err-earlier.ensures c.from_residual.result _ c.from_residual.ensures.1 refl
 
-pub scale_in-requires : goal.scale_in-requires
-scale_in-requires c =
-    both_long c.args.left (chain_columns c.args.left_offsets.now c.args.left_targets.now c.args.left_probs.now c.args.left_seen.now) c.args.right (chain_columns c.args.right_offsets.now c.args.right_targets.now c.args.right_probs.now c.args.right_seen.now) _ _ _ c.chain_refusal-of_left.ensures c.chain_refusal-of_right.ensures c.earlier-refusal.ensures c.if-refusal-ne0.false
+pub slice_bounds-scale_together-end : goal.slice_bounds-scale_together-end
+slice_bounds-scale_together-end c =
+    let h = both_long c.args.left.now.shape (of_chain_mut c.args.left.now) c.args.right.now.shape (of_chain_mut c.args.right.now) _ _ _ (by c.chain.ensures c.chain_refusal-of_left.ensures) (by c.chain-2.ensures c.chain_refusal-of_right.ensures) c.in_ok-earlier.ensures refl in
+    let a = h.0 in omega arith
 
-pub returns : goal.returns
-returns c =
-    answer_scaled c.args.left (chain_columns c.args.left_offsets.now c.args.left_targets.now c.args.left_probs.now c.args.left_seen.now) c.args.right (chain_columns c.args.right_offsets.now c.args.right_targets.now c.args.right_probs.now c.args.right_seen.now) _ _ _ c.chain_refusal-of_left.ensures c.chain_refusal-of_right.ensures c.earlier-refusal.ensures c.if-refusal-ne0.false _ c.scale_in.ensures
+pub slice_bounds-scale_together-end-2 : goal.slice_bounds-scale_together-end-2
+slice_bounds-scale_together-end-2 c =
+    let h = both_long c.args.left.now.shape (of_chain_mut c.args.left.now) c.args.right.now.shape (of_chain_mut c.args.right.now) _ _ _ (by c.chain.ensures c.chain_refusal-of_left.ensures) (by c.chain-2.ensures c.chain_refusal-of_right.ensures) c.in_ok-earlier.ensures refl in
+    let a = h.1 in omega arith
+
+pub returns-clause-outcome : goal.returns-clause-outcome
+returns-clause-outcome c =
+    answer_scaled c.args.left.now.shape (of_chain_mut c.args.left.now) c.args.right.now.shape (of_chain_mut c.args.right.now) _ _ _ (by c.chain.ensures c.chain_refusal-of_left.ensures) (by c.chain-2.ensures c.chain_refusal-of_right.ensures) c.in_ok-earlier.ensures refl
+    _ _ _ c.scale_together.auto.left c.scale_together.auto.right c.scale_together.ensures

@@ -1,37 +1,36 @@
 -- By the cases of the checks, in their order: a place behind a check knows that it passed.
-use mathlib.Core.Path.{◌≡◌, sym, ap, ◌∙◌}
-use mathlib.Core.Bool.{Bool, not}
-use Rattle.bisim_core.specs.Data.{columns, columns_of}
-use Rattle.chain_theory.specs.Columns.{chain_columns}
+use mathlib.Core.Path.{refl, sym, ap, ◌∙◌}
+use mathlib.Core.Bool.{not}
+use Rattle.numbers.proofs.Refuses.{number_positive, turned_back_code}
+use Rattle.bisim_core.specs.Data.{columns_of}
+use Rattle.chain_theory.specs.Lent.{of_store}
 use Rattle.chains.proofs.Answers.{refused_model, refused_7, refused_8, refused_11, refused_12, refused_none}
 use Rattle.chains.proofs.checks.uniformise_refusal.Goals as goal
 
-outside : (x y : Bool) → x ≡ y → not x ≡ not y
-outside x y e = ap not e
-
-pub returns-then-refusal-ne0 : goal.returns-then-refusal-ne0
-returns-then-refusal-ne0 c =
-    refused_model c.args.model.now.shape (columns_of c.args.model.now) c.args.rate c.args.observations.now (chain_columns c.args.chain_offsets.now c.args.chain_targets.now c.args.chain_probs.now c.args.chain_seen.now) _ (c.code-refusal.ensures ∙ c.check.ensures) c.if-refusal-ne0.true
+pub returns-in_err-check : goal.returns-in_err-check
+returns-in_err-check c =
+    turned_back_code c.from_residual.result _ _ c.from_residual.ensures.1
+    (refused_model c.args.model.now.shape (columns_of c.args.model.now) c.args.rate c.args.observations.now (of_store c.args.store.now) _ c.in_err-check.ensures (number_positive _))
 
 pub returns-then-cramped : goal.returns-then-cramped
 returns-then-cramped c =
-    refused_7 c.args.model.now.shape (columns_of c.args.model.now) c.args.rate c.args.observations.now (chain_columns c.args.chain_offsets.now c.args.chain_targets.now c.args.chain_probs.now c.args.chain_seen.now) _ (c.code-refusal.ensures ∙ c.check.ensures) c.if-refusal-ne0.false (sym c.cramped.ensures ∙ c.if-cramped.true)
+    refused_7 c.args.model.now.shape (columns_of c.args.model.now) c.args.rate c.args.observations.now (of_store c.args.store.now) _ c.in_ok-check.ensures refl (sym c.cramped.ensures ∙ c.if-cramped.true)
 
 pub returns-then-absent : goal.returns-then-absent
 returns-then-absent c =
-    refused_8 c.args.model.now.shape (columns_of c.args.model.now) c.args.rate c.args.observations.now (chain_columns c.args.chain_offsets.now c.args.chain_targets.now c.args.chain_probs.now c.args.chain_seen.now) _ (c.code-refusal.ensures ∙ c.check.ensures) c.if-refusal-ne0.false (sym c.cramped.ensures ∙ c.if-cramped.false) (sym c.absent.ensures ∙ c.if-absent.true)
+    refused_8 c.args.model.now.shape (columns_of c.args.model.now) c.args.rate c.args.observations.now (of_store c.args.store.now) _ c.in_ok-check.ensures refl (sym c.cramped.ensures ∙ c.if-cramped.false) (sym c.absent.ensures ∙ c.if-absent.true)
 
-pub returns-then-not-within : goal.returns-then-not-within
-returns-then-not-within c =
-    refused_11 c.args.model.now.shape (columns_of c.args.model.now) c.args.rate c.args.observations.now (chain_columns c.args.chain_offsets.now c.args.chain_targets.now c.args.chain_probs.now c.args.chain_seen.now) _ (c.code-refusal.ensures ∙ c.check.ensures) c.if-refusal-ne0.false (sym c.cramped.ensures ∙ c.if-cramped.false) (sym c.absent.ensures ∙ c.if-absent.false)
-    (outside _ _ (sym c.within.ensures) ∙ (ap not c.if-not-within.true))
+pub returns-then-not-hold : goal.returns-then-not-hold
+returns-then-not-hold c =
+    refused_11 c.args.model.now.shape (columns_of c.args.model.now) c.args.rate c.args.observations.now (of_store c.args.store.now) _ c.in_ok-check.ensures refl (sym c.cramped.ensures ∙ c.if-cramped.false) (sym c.absent.ensures ∙ c.if-absent.false)
+    (ap not (sym c.hold.ensures ∙ c.if-not-hold.true))
 
-pub returns-then-not-all_within : goal.returns-then-not-all_within
-returns-then-not-all_within c =
-    refused_12 c.args.model.now.shape (columns_of c.args.model.now) c.args.rate c.args.observations.now (chain_columns c.args.chain_offsets.now c.args.chain_targets.now c.args.chain_probs.now c.args.chain_seen.now) _ (c.code-refusal.ensures ∙ c.check.ensures) c.if-refusal-ne0.false (sym c.cramped.ensures ∙ c.if-cramped.false) (sym c.absent.ensures ∙ c.if-absent.false)
-    (outside _ _ (sym c.within.ensures) ∙ (ap not c.if-not-within.false)) (outside _ _ (sym c.all_within.ensures) ∙ (ap not c.if-not-all_within.true))
+pub returns-then-not-hold_all : goal.returns-then-not-hold_all
+returns-then-not-hold_all c =
+    refused_12 c.args.model.now.shape (columns_of c.args.model.now) c.args.rate c.args.observations.now (of_store c.args.store.now) _ c.in_ok-check.ensures refl (sym c.cramped.ensures ∙ c.if-cramped.false) (sym c.absent.ensures ∙ c.if-absent.false)
+    (ap not (sym c.hold.ensures ∙ c.if-not-hold.false)) (ap not (sym c.hold_all.ensures ∙ c.if-not-hold_all.true))
 
 pub returns : goal.returns
 returns c =
-    refused_none c.args.model.now.shape (columns_of c.args.model.now) c.args.rate c.args.observations.now (chain_columns c.args.chain_offsets.now c.args.chain_targets.now c.args.chain_probs.now c.args.chain_seen.now) _ (c.code-refusal.ensures ∙ c.check.ensures) c.if-refusal-ne0.false (sym c.cramped.ensures ∙ c.if-cramped.false) (sym c.absent.ensures ∙ c.if-absent.false)
-    (outside _ _ (sym c.within.ensures) ∙ (ap not c.if-not-within.false)) (outside _ _ (sym c.all_within.ensures) ∙ (ap not c.if-not-all_within.false))
+    refused_none c.args.model.now.shape (columns_of c.args.model.now) c.args.rate c.args.observations.now (of_store c.args.store.now) _ c.in_ok-check.ensures refl (sym c.cramped.ensures ∙ c.if-cramped.false) (sym c.absent.ensures ∙ c.if-absent.false)
+    (ap not (sym c.hold.ensures ∙ c.if-not-hold.false)) (ap not (sym c.hold_all.ensures ∙ c.if-not-hold_all.false))

@@ -1,52 +1,30 @@
-use mathlib.Core.Path.{refl}
-use mathlib.Core.List.{List}
-use Prim.Native.Nat.{ℕ, ◌+◌, ◌≤◌, ◌<◌}
 use native.Mathlib.Omega.{arith}
-use lib.Ieee.{Float}
-use lib.ListN.{length, length-set, set, get_or}
-use Rattle.epsdelta_theory.proofs.RowsIn.{Readable}
-use Rattle.chains.proofs.Rowing.{rowing, near, makeable, within, turn, rowed, Long}
+use Prim.Native.Nat.{◌+◌, ◌≤◌}
+use Rattle.std.proofs.Common.{refl}
+use Rattle.bisim_core.specs.Data.{columns_of}
+use Rattle.chain_theory.specs.Lent.{of_store}
+use Rattle.chains.proofs.Rowing.{rowing, makeable, within, turn, rowed}
 use Rattle.chains.proofs.rows.make_rows.Goals as goal
 
--- the lists are long
-long : {n : ℕ} {O ET : List ℕ} {EW : List Float} (S T : List ℕ) (P : List Float) → Readable n O ET EW × (n < length S) × (get_or O n 0 + n ≤ length T) × (get_or O n 0 + n ≤ length P) → Long n O (set S 0 0) T P
-long S T P p = let l = length-set S 0 0 in let a = p.1 in (omega arith, p.2, p.3)
-
 pub loop-s-init : goal.loop-s-init
-loop-s-init c =
-    let h : 0 < length c.args.starts.now = let p = c.requires.1 in omega arith in
-    rowing _ _ _ _ _ c.args.starts.now _ _ h
+loop-s-init c = (
+  rowing c.args.model.now.shape (columns_of c.args.model.now) c.args.rate (of_store c.args.store.now) (let h = c.requires.room.0 in omega arith),
+  (refl, refl, refl, refl),
+)
 
-pub slice_bounds-make_row-count : goal.slice_bounds-make_row-count
-slice_bounds-make_row-count c =
-    let e = (near c.requires.0 (long _ _ _ c.requires) c.loop-s.invariant c.loop-s-test.true).0 in omega arith
+pub make_row-end-requires-clause-room : goal.make_row-end-requires-clause-room
+make_row-end-requires-clause-room c = makeable (of_store c.args.store.now) c.requires.accepted c.requires.room c.loop-s.invariant.0 c.loop-s-test.true
 
-pub slice_bounds-make_row-start : goal.slice_bounds-make_row-start
-slice_bounds-make_row-start c =
-    let e = (near c.requires.0 (long _ _ _ c.requires) c.loop-s.invariant c.loop-s-test.true).0 in omega arith
-
-pub slice_bounds-make_row-count-in-loop-s : goal.slice_bounds-make_row-count-in-loop-s
-slice_bounds-make_row-count-in-loop-s c =
-    let e = (near c.requires.0 (long _ _ _ c.requires) c.loop-s.invariant c.loop-s-test.true).1 in omega arith
-
-pub slice_bounds-make_row-start-in-loop-s : goal.slice_bounds-make_row-start-in-loop-s
-slice_bounds-make_row-start-in-loop-s c =
-    let e = (near c.requires.0 (long _ _ _ c.requires) c.loop-s.invariant c.loop-s-test.true).1 in omega arith
-
-pub make_row-m-requires : goal.make_row-m-requires
-make_row-m-requires c =
-    makeable c.requires.0 (long c.args.starts.now c.args.targets.now c.args.probs.now c.requires) c.loop-s.invariant c.loop-s-test.true _ _ refl refl
-
-pub overflow_cast-starts : goal.overflow_cast-starts
-overflow_cast-starts c =
-    let last : c.loop-s.end + c.make_row-m.result ≤ 6096 =
-    within c.requires.0 (long _ _ _ c.requires) c.loop-s.invariant c.loop-s-test.true _ _ refl refl _ c.make_row-m.ensures.0 in
+pub overflow_cast-store : goal.overflow_cast-store
+overflow_cast-store c =
+    let last : c.loop-s.end + c.make_row-end.result ≤ 6096 = within (of_store c.args.store.now) c.requires.accepted c.requires.room c.loop-s.invariant.0 c.loop-s-test.true _ c.make_row-end.ensures.few in
     let e = last in omega arith
 
 pub loop-s-preserved : goal.loop-s-preserved
-loop-s-preserved c =
-    turn c.requires.0 (long c.args.starts.now c.args.targets.now c.args.probs.now c.requires) c.loop-s.invariant c.loop-s-test.true _ _ refl refl _ _ _ c.make_row-m.ensures c.make_row-m.auto.targets c.make_row-m.auto.probs
+loop-s-preserved c = (
+  turn (of_store c.args.store.now) c.requires.accepted c.requires.room c.loop-s.invariant.0 c.loop-s-test.true _ c.make_row-end.ensures.few _ _ c.make_row-end.ensures.made c.make_row-end.auto.targets c.make_row-end.auto.probs,
+  c.loop-s.invariant.1,
+)
 
-pub returns : goal.returns
-returns c =
-    rowed c.args.starts.now c.loop-s.invariant (let h = c.loop-s-test.false in let l = c.loop-s.invariant.low in omega arith)
+pub returns-clause-rows_laid : goal.returns-clause-rows_laid
+returns-clause-rows_laid c = rowed (of_store c.args.store.now) c.loop-s.invariant.0 (let h = c.loop-s-test.false in let l = c.loop-s.invariant.0.low in omega arith)
