@@ -1,7 +1,6 @@
 pub mod Bools
 pub mod Refuses
 pub mod Sorts
-pub mod Merging
 pub mod Over
 pub mod Pointwise
 pub mod Seeks
@@ -16,5 +15,4 @@ pub mod Comparisons
 pub mod Members
 pub mod Parts
 pub mod Choices
-pub mod Digits
 pub mod Loops
