@@ -16,6 +16,7 @@ use crate::checks::later;
 use bisim_core::wlts::{Shape, Wlts};
 use epsdelta_jumps::jumps::{Joined, union};
 use epsdelta_sweeps::relate::relate;
+use flow_links::rows::Rows;
 
 // The relation is in the bytes, or the number of the first check that fails.
 #[derive(Clone, Copy)]
@@ -76,17 +77,14 @@ fn finish(
     }
     put_classes(left_classes, left, classes, 0);
     put_classes(right_classes, right, classes, left);
-    relate(
-        left + right,
-        classes,
+    let rows = Rows {
+        states: left + right,
         exits,
         starts,
         targets,
         probs,
-        settings.epsilon,
-        settings.rho,
-        relation,
-    );
+    };
+    relate(&rows, classes, settings.epsilon, settings.rho, relation);
     Ended::Related
 }
 

@@ -9,11 +9,12 @@ use lib.Ieee.{Float, nan, binary64, of_bits, of_fields, div}
 use lib.ListN.{length, get_or, take, drop}
 use lib.Seq.{get_or-take, get_or-drop, take-nil, slice, length-slice}
 use borrow.Author.Tests.{le-leb, eq-eqb}
+use Rattle.std.specs.Prelude.{Option, Some, None, IfSome, unwrap_or}
 use Rattle.numbers.specs.Bits.{packed}
 use Rattle.numbers.specs.Real.{nought}
 use Rattle.numbers.proofs.Bools.{and_second}
 use Rattle.epsdelta_theory.specs.Jumps.{jumps_of}
-use Rattle.epsdelta_theory.specs.FlowTest.{run_between}
+use Rattle.epsdelta_theory.specs.FlowTest.{run_between, links_of, heads}
 use Rattle.epsdelta_theory.proofs.TasksIn.{row_in, test_in, RowsFit}
 use Rattle.epsdelta_theory.proofs.Unchanged.{Quiet}
 use Rattle.flow_duality.specs.Spare.{row_most, is_share}
@@ -28,7 +29,11 @@ use Rattle.flow_core.specs.Outcome.{settled}
 use Rattle.flow_theory.specs.Run.{all_pushes}
 use Rattle.flow_core.specs.declared.rows.Answer.{Answer}
 use Rattle.flow_core.specs.declared.rows.Answer.TheVariants.{Flow, Refused}
-use Rattle.flow_direct.specs.Reaches.{both_reach, reaches, at_least}
+use Rattle.flow_links.specs.declared.rows.Test.{Test}
+use Rattle.flow_direct.specs.Reaches.{both_reach, reaches, test_both, test_reaches, Known, at_least}
+use Rattle.flow_direct.specs.declared.reach.Ways.{Ways}
+use Rattle.flow_direct.specs.declared.reach.Ways.TheVariants as ways
+use Rattle.epsdelta_sweeps.specs.Place.{Judged}
 use Rattle.flow_direct.proofs.Beginning.{answer_reaches}
 use Rattle.flow.specs.declared.network.FlowNetwork.{FlowNetwork}
 use Rattle.flow.specs.Filled.{flow_rows}
@@ -138,6 +143,18 @@ pub ample_is : (a b c d : ℕ) (plenty here : Float) (r : Answer) → Between a 
 ample_is a b c d plenty here (Flow f p q) B h = B f h
 ample_is a b c d plenty here (Refused k) B h = absurd (false≢true h)
 
+-- what is known of a flow test, of the definition's
+pub known_test : {X : List Bool → Type 0} (t : Test) (need : Float) (f : List Bool → Bool) (known : Option Bool) → IfSome known (λ passes. passes ≡ test_reaches t need) → ((R : List Bool) → X R → test_reaches t need ≡ f R) → IfSome known (λ passes. (R : List Bool) → X R → f R ≡ passes)
+known_test t need f (Some passes) v h = λ R e. sym (v ∙ h R e)
+known_test t need f None v h = v
+
+-- and of the one back
+pub known_judged : (t : Test) (need here : Float) {f b : Bool} (w : Ways) → Known t need here w → test_both t need ≡ (f && b) → test_reaches t need ≡ f → (test_reaches t here ≡ true → (f ≡ true) × (b ≡ true)) → Judged f b w
+known_judged t need here (ways.Both passes) k e g h = sym (k ∙ e)
+known_judged t need here ways.Plenty k e g h = h k
+known_judged t need here ways.Forth k e g h = sym g ∙ k
+known_judged t need here ways.Unknown k e g h = k
+
 pub first_fails : (a b : Bool) → a ≡ false → false ≡ (a && b)
 first_fails a b h = ap (λ (x : Bool). x && b) (sym h)
 
@@ -150,11 +167,11 @@ module _ {n : ℕ} {S T : List ℕ} {P : List Float} (F : RowsFit n S T P) where
 
   -- where the links of the test were written into rows with room for all, the run on a network that is filled from them is the definition's test
   pub laid_test : (store : List ℕ) (s t : ℕ) → s < n → t < n → (h : List ℕ) (c : List Float) → length h ≡ 2046 → length c ≡ 2046
-      → {d : Bool} {k : ℕ} {h' : List ℕ} {c' : List Float} → Written (entries S T s) (entries S P s) (entries S T t) (entries S P t) n (relation_of store) h c d k h' c'
-      → (x y z : ℕ) → x ≡ length (entries S T s) + length (entries S T t) + 2 → y ≡ length (entries S T s) + length (entries S T t) → z ≡ length (entries S T s) + length (entries S T t) + 1
+      → {o : Option ℕ} {h' : List ℕ} {c' : List Float} → Written (entries S T s) (entries S P s) (entries S T t) (entries S P t) n (relation_of store) h c o h' c'
+      → (k x y z : ℕ) → k ≡ unwrap_or o 0 → x ≡ length (entries S T s) + length (entries S T t) + 2 → y ≡ length (entries S T s) + length (entries S T t) → z ≡ length (entries S T s) + length (entries S T t) + 1
       → (N : FlowNetwork) → length N.links ≡ 2176 → length N.list ≡ 2176 → (p : List Float) → length p ≡ 2046
       → (need : Float) (R : List Bool) → store ≡ packed R → test_in n S T P need R s t ≡ at_least need (flow_rows N h' c' p k x y z).answer
-  laid_test store s t i j h c lh lc {d} {k} {h'} {c'} w x y z ex ey ez N whole places p lp need R e =
+  laid_test store s t i j h c lh lc {o} {h'} {c'} w k x y z ek ex ey ez N whole places p lp need R e =
       let us = entries S T s in
       let vs = entries S P s in
       let ts = entries S T t in
@@ -163,15 +180,17 @@ module _ {n : ℕ} {S T : List ℕ} {P : List Float} (F : RowsFit n S T P) where
       let G = fit us vs ts ws n f in
       let q = 2 * (length us + length ts + length us * length ts) in
       let few = few_links (length us) (length ts) G.left.few G.right.few in
-      let done : d ≡ true =
-      w.0 ∙ ap (λ (b : Bool). b && (leb q (length h) && leb q (length c))) f ∙ ap (λ (b : Bool). b && leb q (length c)) (le-leb q (length h) (omega arith)) ∙ le-leb q (length c) (omega arith) in
-      let L = laid us vs ts ws n store h c w done in
+      let rooms : (leb q (length h) && leb q (length c)) ≡ true = ap (λ (b : Bool). b && leb q (length c)) (le-leb q (length h) (omega arith)) ∙ le-leb q (length c) (omega arith) in
+      let (d, L) = laid us vs ts ws n store h c w f rooms in
       let m = L.heads_in in
       let g = L.heads_size in
+      let v = length (heads (links_of n (relation_of store) (jumps_of us vs) (jumps_of ts ws))) in
+      let ev : k ≡ v = ek ∙ ap (λ (r : Option ℕ). unwrap_or r 0) d in
       sym (
-      ap (λ (v : ℕ). at_least need (flow_rows N h' c' p k v y z).answer) ex
-      ∙ ap (λ (v : ℕ). at_least need (flow_rows N h' c' p k (length us + length ts + 2) v z).answer) ey
-      ∙ ap (λ (v : ℕ). at_least need (flow_rows N h' c' p k (length us + length ts + 2) (length us + length ts) v).answer) ez
+      ap (λ (k : ℕ). at_least need (flow_rows N h' c' p k x y z).answer) ev
+      ∙ ap (λ (x : ℕ). at_least need (flow_rows N h' c' p v x y z).answer) ex
+      ∙ ap (λ (y : ℕ). at_least need (flow_rows N h' c' p v (length us + length ts + 2) y z).answer) ey
+      ∙ ap (λ (z : ℕ). at_least need (flow_rows N h' c' p v (length us + length ts + 2) (length us + length ts) z).answer) ez
       ∙ ap (at_least need) (rows_between store L N whole places p (omega arith) ∙ passed_in F store R e s t i j)
       )
 

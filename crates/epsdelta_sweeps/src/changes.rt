@@ -1,11 +1,28 @@
 // Strikes that are noted, so that flow tests that would pass again need no run.
 // Bit v % 64 of word 2 u of `changed` is set after a strike of u and v in this sweep, that of word 2 u + 1 after one in the sweep before. States v that are 64 apart share a bit. The word behind those of all states is 0 in the first sweep alone.
 ghost use Rattle.std.specs.Prelude.{◌≡◌, ℕ, ◌≤◌, ◌<◌, ◌+◌, ◌*◌, ◌%◌, true, false, length, get_or, IfSome};
-ghost use Rattle.numbers.specs.Bits.{cleared};
+ghost use Rattle.numbers.specs.Bits.{bit_at, cleared};
 ghost use Rattle.epsdelta_theory.proofs.Unchanged.{Off, Told, Missed, QuietAt, Quiet, noted};
+ghost use Rattle.epsdelta_sweeps.specs.Place.{Same};
+ghost use Rattle.flow_links.proofs.RowsRead.{Fitting};
 
-use crate::rows::part;
-use numbers::clear_bit;
+use crate::rows::row;
+use flow_links::rows::Rows;
+use numbers::{bit, clear_bit};
+
+// What sweeps write: the bytes of the relation, and the words of the strikes.
+#[derive(Drop)]
+pub(crate) struct Memory<'a> {
+    pub(crate) relation: &'a mut [u8],
+    pub(crate) changed: &'a mut [u64],
+}
+
+// Whether bit i of the relation is set.
+pub(crate) fn holds(memory: &Memory, i: usize) -> bool
+    ensures { result ≡ bit_at memory.now.relation.now i }
+{
+    bit(memory.relation, i)
+}
 
 // The strikes of some states: the bits of those with any of them, in this sweep, and in the sweep before with one that is not below another.
 #[derive(Clone, Copy)]
@@ -25,9 +42,9 @@ fn not_below(u: usize, s: usize, word: u64) -> u64
 }
 
 // The strikes of these targets, if all of them are states.
-fn strikes_of(row: &[u32], states: usize, changed: &[u64], s: usize) -> Option<Strikes>
-    requires { (states ≤ 2000) × (2 * states < length changed.now) }
-    ensures { IfSome result (λ m. (i : ℕ) → i < length row.now → Told states changed.now s (get_or row.now i 0) m.recent m.before) }
+fn strikes_of(row: &[u32], states: usize, memory: &Memory, s: usize) -> Option<Strikes>
+    requires { (states ≤ 2000) × (2 * states < length memory.now.changed.now) }
+    ensures { IfSome result (λ m. (i : ℕ) → i < length row.now → Told states memory.now.changed.now s (get_or row.now i 0) m.recent m.before) }
 {
     let mut recent = 0;
     let mut before = 0;
@@ -36,8 +53,8 @@ fn strikes_of(row: &[u32], states: usize, changed: &[u64], s: usize) -> Option<S
         if states <= u {
             return None;
         }
-        recent |= changed[2 * u];
-        before |= not_below(u, s, changed[2 * u + 1]);
+        recent |= memory.changed[2 * u];
+        before |= not_below(u, s, memory.changed[2 * u + 1]);
     }
     Some(Strikes { recent, before })
 }
@@ -64,47 +81,40 @@ fn untouched(row: &[u32], states: usize, m: Strikes, s: usize) -> bool
 }
 
 // True only if s and t have targets, and no entry that their flow tests read was struck since their turn in the sweep before.
-pub(crate) fn unchanged(
-    starts: &[u32],
-    targets: &[u32],
-    states: usize,
-    changed: &[u64],
-    s: usize,
-    t: usize,
-) -> bool
-    requires { (states ≤ 2000) × (2 * states < length changed.now) × (s + 1 < length starts.now) × (t + 1 < length starts.now) × (get_or starts.now s 0 ≤ get_or starts.now (s + 1) 0) × (get_or starts.now t 0 ≤ get_or starts.now (t + 1) 0) × (get_or starts.now (s + 1) 0 ≤ length targets.now) × (get_or starts.now (t + 1) 0 ≤ length targets.now) }
-    ensures { result ≡ true → Quiet starts.now targets.now (QuietAt states changed.now s) s t }
+pub(crate) fn unchanged(rows: &Rows, memory: &Memory, s: usize, t: usize) -> bool
+    requires { Fitting rows.now × (2 * rows.now.states < length memory.now.changed.now) × (s < rows.now.states) × (t < rows.now.states) }
+    ensures { result ≡ true → Quiet rows.now.starts.now rows.now.targets.now (QuietAt rows.now.states memory.now.changed.now s) s t }
 {
-    let us = part(starts, targets, s);
-    let vs = part(starts, targets, t);
-    if changed[2 * states] == 0 || us.is_empty() || vs.is_empty() {
+    let us = row(rows, s).targets;
+    let vs = row(rows, t).targets;
+    if memory.changed[2 * rows.states] == 0 || us.is_empty() || vs.is_empty() {
         return false;
     }
-    match strikes_of(us, states, changed, s) {
-        Some(m) => untouched(vs, states, m, s),
+    match strikes_of(us, rows.states, memory, s) {
+        Some(m) => untouched(vs, rows.states, m, s),
         None => false,
     }
 }
 
 // Strikes (s, t): both orders are cleared, and the strike is noted.
-pub(crate) fn strike(states: usize, relation: &mut [u8], changed: &mut [u64], s: usize, t: usize)
-    requires { (states ≤ 2000) × (2 * states < length changed.old) × (s < states) × (t < states) }
-    ensures { (relation.new ≡ cleared (cleared relation.old (s * states + t)) (t * states + s)) × (changed.new ≡ noted changed.old s t) }
+pub(crate) fn strike(states: usize, memory: &mut Memory, s: usize, t: usize)
+    requires { (states ≤ 2000) × (2 * states < length memory.old.changed.now) × (s < states) × (t < states) }
+    ensures { (memory.new.relation.now ≡ cleared (cleared memory.old.relation.now (s * states + t)) (t * states + s)) × (memory.new.changed.now ≡ noted memory.old.changed.now s t) × Same memory.old memory.new }
 {
-    clear_bit(relation, s * states + t);
-    clear_bit(relation, t * states + s);
-    changed[2 * s] |= 1 << (t % 64);
-    changed[2 * t] |= 1 << (s % 64);
+    clear_bit(memory.relation, s * states + t);
+    clear_bit(memory.relation, t * states + s);
+    memory.changed[2 * s] |= 1 << (t % 64);
+    memory.changed[2 * t] |= 1 << (s % 64);
 }
 
 // A sweep is over: its strikes are those of the sweep before.
-pub(crate) fn fade(states: usize, changed: &mut [u64])
-    requires { (states ≤ 2000) × (2 * states < length changed.old) }
-    ensures { (u : ℕ) → u < states → get_or changed.new (2 * u + 1) 0 ≡ get_or changed.old (2 * u) 0 }
+pub(crate) fn fade(states: usize, memory: &mut Memory)
+    requires { (states ≤ 2000) × (2 * states < length memory.old.changed.now) }
+    ensures { ((u : ℕ) → u < states → get_or memory.new.changed.now (2 * u + 1) 0 ≡ get_or memory.old.changed.now (2 * u) 0) × (length memory.new.changed.now ≡ length memory.old.changed.now) × (memory.new.relation.now ≡ memory.old.relation.now) × Same memory.old memory.new }
 {
     for u in 0..states {
-        changed[2 * u + 1] = changed[2 * u];
-        changed[2 * u] = 0;
+        memory.changed[2 * u + 1] = memory.changed[2 * u];
+        memory.changed[2 * u] = 0;
     }
-    changed[2 * states] = 1;
+    memory.changed[2 * states] = 1;
 }

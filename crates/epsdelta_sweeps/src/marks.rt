@@ -8,29 +8,38 @@ ghost use Rattle.epsdelta_theory.proofs.TasksIn.{marked_in, MarksIn};
 
 use epsdelta_theory::rates_close;
 
+// What the marks are made of: the class and the exit rate of each state, and by what factor rates may differ.
+#[derive(Clone, Copy)]
+pub(crate) struct Classed<'a> {
+    pub(crate) states: usize,
+    pub(crate) classes: &'a [u32],
+    pub(crate) exits: &'a [f64],
+    pub(crate) rho: f64,
+}
+
 // Whether s and t have equal classes, and exit rates that pass the rate test.
-fn marked(classes: &[u32], exits: &[f64], rho: f64, s: usize, t: usize) -> bool
-    requires { (s < length classes.now) × (t < length classes.now) × (s < length exits.now) × (t < length exits.now) }
-    ensures { result ≡ marked_in classes.now exits.now rho s t }
+fn marked(of: &Classed, s: usize, t: usize) -> bool
+    requires { (s < length of.now.classes.now) × (t < length of.now.classes.now) × (s < length of.now.exits.now) × (t < length of.now.exits.now) }
+    ensures { result ≡ marked_in of.now.classes.now of.now.exits.now of.now.rho s t }
 {
-    if classes[s] != classes[t] {
+    if of.classes[s] != of.classes[t] {
         return false;
     }
-    rates_close(exits[s], exits[t], rho)
+    rates_close(of.exits[s], of.exits[t], of.rho)
 }
 
 // The entry of (s, t), by the pair's lower state and its higher one; false past the last state.
-fn entry(classes: &[u32], exits: &[f64], rho: f64, states: usize, s: usize, t: usize) -> bool
-    requires { (states ≤ length classes.now) × (states ≤ length exits.now) × (t < states) }
-    ensures { (Q : Task) → MarksIn Q states classes.now exits.now rho → result ≡ get_or (Sweeps.marks Q) (s * states + t) false }
+fn entry(of: &Classed, s: usize, t: usize) -> bool
+    requires { (of.now.states ≤ length of.now.classes.now) × (of.now.states ≤ length of.now.exits.now) × (t < of.now.states) }
+    ensures { (Q : Task) → MarksIn Q of.now.states of.now.classes.now of.now.exits.now of.now.rho → result ≡ get_or (Sweeps.marks Q) (s * of.now.states + t) false }
 {
-    if states <= s {
+    if of.states <= s {
         return false;
     }
     if s < t {
-        return marked(classes, exits, rho, s, t);
+        return marked(of, s, t);
     }
-    marked(classes, exits, rho, t, s)
+    marked(of, t, s)
 }
 
 // The row and the column of the entry before (s, t).
@@ -45,50 +54,50 @@ fn before(s: usize, t: usize, states: usize) -> (usize, usize)
 }
 
 // True only if row s has eight entries from column t on, and the states of all of them have another class than s.
-fn apart(classes: &[u32], states: usize, s: usize, t: usize) -> bool
-    requires { (states ≤ length classes.now) × (t < states) }
-    ensures { result ≡ true → (E : List Float) (rho : Float) (Q : Task) → MarksIn Q states classes.now E rho → 0 ≡ bits (take 8 (drop (s * states + t) (Sweeps.marks Q))) }
+fn apart(of: &Classed, s: usize, t: usize) -> bool
+    requires { (of.now.states ≤ length of.now.classes.now) × (t < of.now.states) }
+    ensures { result ≡ true → (E : List Float) (rho : Float) (Q : Task) → MarksIn Q of.now.states of.now.classes.now E rho → 0 ≡ bits (take 8 (drop (s * of.now.states + t) (Sweeps.marks Q))) }
 {
-    if states <= s || states - t < 8 {
+    if of.states <= s || of.states - t < 8 {
         return false;
     }
-    !classes[t..t + 8].contains(&classes[s])
+    !of.classes[t..t + 8].contains(&of.classes[s])
 }
 
 // The byte of the eight entries from `first` on, the last of them first.
-fn byte_of(classes: &[u32], exits: &[f64], rho: f64, states: usize, first: usize) -> u8
-    requires { (0 < states) × (states ≤ length classes.now) × (states ≤ length exits.now) × (first ≤ 4000000) }
-    ensures { (Q : Task) → MarksIn Q states classes.now exits.now rho → result ≡ bits (take 8 (drop first (Sweeps.marks Q))) }
+fn byte_of(of: &Classed, first: usize) -> u8
+    requires { (0 < of.now.states) × (of.now.states ≤ length of.now.classes.now) × (of.now.states ≤ length of.now.exits.now) × (first ≤ 4000000) }
+    ensures { (Q : Task) → MarksIn Q of.now.states of.now.classes.now of.now.exits.now of.now.rho → result ≡ bits (take 8 (drop first (Sweeps.marks Q))) }
 {
     let mut byte = 0;
-    let mut s = (first + 8) / states;
-    let mut t = (first + 8) % states;
+    let mut s = (first + 8) / of.states;
+    let mut t = (first + 8) % of.states;
     for _ in 0..8usize {
-        (s, t) = before(s, t, states);
-        byte = 2 * byte + u8::from(entry(classes, exits, rho, states, s, t));
+        (s, t) = before(s, t, of.states);
+        byte = 2 * byte + u8::from(entry(of, s, t));
     }
     byte
 }
 
 // The same, without a look at each entry where no class is shared.
-fn byte_at(classes: &[u32], exits: &[f64], rho: f64, states: usize, first: usize) -> u8
-    requires { (0 < states) × (states ≤ length classes.now) × (states ≤ length exits.now) × (first ≤ 4000000) }
-    ensures { (Q : Task) → MarksIn Q states classes.now exits.now rho → result ≡ bits (take 8 (drop first (Sweeps.marks Q))) }
+fn byte_at(of: &Classed, first: usize) -> u8
+    requires { (0 < of.now.states) × (of.now.states ≤ length of.now.classes.now) × (of.now.states ≤ length of.now.exits.now) × (first ≤ 4000000) }
+    ensures { (Q : Task) → MarksIn Q of.now.states of.now.classes.now of.now.exits.now of.now.rho → result ≡ bits (take 8 (drop first (Sweeps.marks Q))) }
 {
-    let s = first / states;
-    let t = first % states;
-    if apart(classes, states, s, t) {
+    let s = first / of.states;
+    let t = first % of.states;
+    if apart(of, s, t) {
         return 0;
     }
-    byte_of(classes, exits, rho, states, first)
+    byte_of(of, first)
 }
 
 // Writes the marks of all pairs, both orders; spare bits are zero.
-pub(crate) fn marks(classes: &[u32], exits: &[f64], rho: f64, states: usize, relation: &mut [u8])
-    requires { (states ≤ 2000) × (states ≤ length classes.now) × (states ≤ length exits.now) × (length relation.old ≡ relation_bytes states) }
-    ensures { (Q : Task) → MarksIn Q states classes.now exits.now rho → relation.new ≡ packed (Sweeps.marks Q) }
+pub(crate) fn marks(of: &Classed, relation: &mut [u8])
+    requires { (of.now.states ≤ 2000) × (of.now.states ≤ length of.now.classes.now) × (of.now.states ≤ length of.now.exits.now) × (length relation.old ≡ relation_bytes of.now.states) }
+    ensures { (Q : Task) → MarksIn Q of.now.states of.now.classes.now of.now.exits.now of.now.rho → relation.new ≡ packed (Sweeps.marks Q) }
 {
     for (k, byte) in relation.iter_mut().enumerate() {
-        *byte = byte_at(classes, exits, rho, states, 8 * k);
+        *byte = byte_at(of, 8 * k);
     }
 }

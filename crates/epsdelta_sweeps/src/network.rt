@@ -1,139 +1,110 @@
 // The flow tests that sweeps ask for, on one network that is lent to each of them.
 ghost use Rattle.std.specs.Prelude.{◌≡◌, ℕ, ◌≤◌, ◌<◌, ◌+◌, ◌*◌, ◌-◌, Bool, true, false, List, Float, length};
 ghost use Rattle.numbers.specs.Bits.{packed};
-ghost use Rattle.epsdelta_theory.proofs.TasksIn.{RowsFit, test_in};
+ghost use Rattle.epsdelta_theory.proofs.TasksIn.{test_in};
+ghost use Rattle.flow_links.proofs.RowsRead.{Fitting};
 ghost use Rattle.flow_duality.proofs.Places.{Held, Moves, weight};
 ghost use Rattle.flow.specs.declared.network.FlowNetwork.{FlowNetwork};
 ghost use Rattle.flow.specs.Filled.{flow_rows};
 ghost use Rattle.flow_direct.specs.Reaches.{at_least};
+ghost use Rattle.epsdelta_sweeps.specs.Place.{waits, back, Same};
 
-use crate::rows::part;
-use crate::sweeps::{Place, settle};
+use crate::changes::Memory;
+use crate::place::{Place, Terms};
+use crate::rows::test;
+use crate::sweeps::settle;
 use flow::network::{FlowNetwork, new};
 use flow::rows::flow_rows;
 use flow_core::rows::Answer;
 use flow_links::links::write_links;
+use flow_links::rows::Rows;
+
+// Rows for the links of a flow test: those of two states with 31 jumps each take 2,046 places.
+#[derive(Drop)]
+pub(crate) struct LinkStore {
+    heads: [u32; 2046],
+    caps: [f64; 2046],
+    costs: [f64; 2046],
+}
 
 // The links of a flow test in rows: the places that they take, the nodes, and the test's ends.
 #[derive(Clone, Copy)]
-pub struct Laid {
-    pub places: usize,
-    pub nodes: usize,
-    pub source: usize,
-    pub sink: usize,
+pub(crate) struct Laid {
+    places: usize,
+    nodes: usize,
+    source: usize,
+    sink: usize,
 }
 
-// Writes the links of the flow test from s to t over the lent rows.
-fn lay_links(
-    starts: &[u32],
-    targets: &[u32],
-    probs: &[f64],
-    states: usize,
-    relation: &[u8],
-    s: usize,
-    t: usize,
-    heads: &mut [u32],
-    caps: &mut [f64],
-) -> Laid
-    requires { RowsFit states starts.now targets.now probs.now × (s < states) × (t < states) × (length heads.old ≡ 2046) × (length caps.old ≡ 2046) }
-    ensures { (N : FlowNetwork) → length N.links ≡ 2176 → length N.list ≡ 2176 → (costs : List Float) → length costs ≡ 2046 → (need : Float) (R : List Bool) → relation.now ≡ packed R
-        → test_in states starts.now targets.now probs.now need R s t ≡ at_least need (flow_rows N heads.new caps.new costs result.places result.nodes result.source result.sink).answer }
+// Writes the links of the flow test from s to t.
+fn lay_links(rows: &Rows, memory: &Memory, s: usize, t: usize, store: &mut LinkStore) -> Laid
+    requires { Fitting rows.now × (s < rows.now.states) × (t < rows.now.states) }
+    ensures { (N : FlowNetwork) → length N.links ≡ 2176 → length N.list ≡ 2176 → (costs : List Float) → length costs ≡ 2046 → (need : Float) (R : List Bool) → memory.now.relation.now ≡ packed R
+        → test_in rows.now.states rows.now.starts.now rows.now.targets.now rows.now.probs.now need R s t ≡ at_least need (flow_rows N store.new.heads store.new.caps costs result.places result.nodes result.source result.sink).answer }
 {
-    let us = part(starts, targets, s);
-    let ts = part(starts, targets, t);
-    let w = write_links(
-        us,
-        part(starts, probs, s),
-        ts,
-        part(starts, probs, t),
-        states,
-        relation,
-        heads,
-        caps,
-    );
-    let source = us.len() + ts.len();
+    let test = test(rows, memory, s, t);
+    let source = test.left.targets.len() + test.right.targets.len();
     Laid {
-        places: w.places,
+        places: write_links(&test, &mut store.heads, &mut store.caps).unwrap_or(0),
         nodes: source + 2,
         source,
         sink: source + 1,
     }
 }
 
-// Writes the links of the flow test that a place asks for over the lent rows.
-fn lay(
-    starts: &[u32],
-    targets: &[u32],
-    probs: &[f64],
-    states: usize,
-    relation: &[u8],
-    p: Place,
-    heads: &mut [u32],
-    caps: &mut [f64],
-) -> Laid
-    requires { RowsFit states starts.now targets.now probs.now × (p.s < states) × (p.t < states) × (length heads.old ≡ 2046) × (length caps.old ≡ 2046) }
-    ensures { (N : FlowNetwork) → length N.links ≡ 2176 → length N.list ≡ 2176 → (costs : List Float) → length costs ≡ 2046 → (need : Float) (R : List Bool) → relation.now ≡ packed R
-        → (p.back ≡ false → test_in states starts.now targets.now probs.now need R p.s p.t ≡ at_least need (flow_rows N heads.new caps.new costs result.places result.nodes result.source result.sink).answer)
-        × (p.back ≡ true → test_in states starts.now targets.now probs.now need R p.t p.s ≡ at_least need (flow_rows N heads.new caps.new costs result.places result.nodes result.source result.sink).answer) }
+// Writes the links of the flow test that a place asks for.
+fn lay(rows: &Rows, memory: &Memory, p: Place, store: &mut LinkStore) -> Laid
+    requires { Fitting rows.now × (p.s < rows.now.states) × (p.t < rows.now.states) }
+    ensures { (N : FlowNetwork) → length N.links ≡ 2176 → length N.list ≡ 2176 → (costs : List Float) → length costs ≡ 2046 → (need : Float) (R : List Bool) → memory.now.relation.now ≡ packed R
+        → (back p.asks ≡ false → test_in rows.now.states rows.now.starts.now rows.now.targets.now rows.now.probs.now need R p.s p.t ≡ at_least need (flow_rows N store.new.heads store.new.caps costs result.places result.nodes result.source result.sink).answer)
+        × (back p.asks ≡ true → test_in rows.now.states rows.now.starts.now rows.now.targets.now rows.now.probs.now need R p.t p.s ≡ at_least need (flow_rows N store.new.heads store.new.caps costs result.places result.nodes result.source result.sink).answer) }
 {
-    let s = p.s;
-    let t = p.t;
-    if p.back {
-        return lay_links(starts, targets, probs, states, relation, t, s, heads, caps);
+    if p.asks.back() {
+        return lay_links(rows, memory, p.t, p.s, store);
     }
-    lay_links(starts, targets, probs, states, relation, s, t, heads, caps)
+    lay_links(rows, memory, p.s, p.t, store)
 }
 
 // The flow test that a place asks for, on a network and rows that are lent.
 fn asked_on(
     net: &mut FlowNetwork,
-    starts: &[u32],
-    targets: &[u32],
-    probs: &[f64],
-    states: usize,
-    relation: &[u8],
+    rows: &Rows,
+    memory: &Memory,
     p: Place,
-    heads: &mut [u32],
-    caps: &mut [f64],
-    costs: &mut [f64],
+    store: &mut LinkStore,
 ) -> Answer
-    requires { RowsFit states starts.now targets.now probs.now × (p.s < states) × (p.t < states) × (length heads.old ≡ 2046) × (length caps.old ≡ 2046) × (length costs.old ≡ 2046) }
-    ensures { (need : Float) (R : List Bool) → relation.now ≡ packed R → (p.back ≡ false → test_in states starts.now targets.now probs.now need R p.s p.t ≡ at_least need result) × (p.back ≡ true → test_in states starts.now targets.now probs.now need R p.t p.s ≡ at_least need result) }
+    requires { Fitting rows.now × (p.s < rows.now.states) × (p.t < rows.now.states) }
+    ensures { (need : Float) (R : List Bool) → memory.now.relation.now ≡ packed R → (back p.asks ≡ false → test_in rows.now.states rows.now.starts.now rows.now.targets.now rows.now.probs.now need R p.s p.t ≡ at_least need result) × (back p.asks ≡ true → test_in rows.now.states rows.now.starts.now rows.now.targets.now rows.now.probs.now need R p.t p.s ≡ at_least need result) }
 {
     let _link = net.links[0]; // for the proof: a read tells how long the network's arrays are
-    let w = lay(starts, targets, probs, states, relation, p, heads, caps);
-    flow_rows(net, heads, caps, costs, w.places, w.nodes, w.source, w.sink)
+    let w = lay(rows, memory, p, store);
+    flow_rows(
+        net,
+        &mut store.heads,
+        &mut store.caps,
+        &mut store.costs,
+        w.places,
+        w.nodes,
+        w.source,
+        w.sink,
+    )
 }
 
 // Sweeps from a place until one without a strike: each test that asks is made on the network that is lent.
 fn run_on(
     net: &mut FlowNetwork,
-    exits: &[f64],
-    starts: &[u32],
-    targets: &[u32],
-    probs: &[f64],
-    states: usize,
-    need: f64,
-    plenty: f64,
-    relation: &mut [u8],
-    changed: &mut [u64],
-    heads: &mut [u32],
-    caps: &mut [f64],
-    costs: &mut [f64],
+    terms: &Terms,
+    memory: &mut Memory,
+    store: &mut LinkStore,
     first: Place,
 ) -> Place
-    requires { RowsFit states starts.now targets.now probs.now × (states ≤ length exits.now) × Held states exits.now starts.now targets.now probs.now need plenty relation.old changed.old first.s first.t first.back first.asks
-        × (length heads.old ≡ 2046) × (length caps.old ≡ 2046) × (length costs.old ≡ 2046) × (first.asks ≡ false → (first.struck ≡ false) × (states ≤ first.s) × (states ≤ first.t)) }
-    ensures { Moves states exits.now starts.now targets.now probs.now need plenty relation.old first.s first.t first.back first.struck first.asks (weight states relation.old first.s first.t first.back first.struck + 1) relation.new changed.new result.s result.t result.back result.struck result.asks × (result.asks ≡ false) × (result.struck ≡ false) × (states ≤ result.s) × (states ≤ result.t) }
+    requires { Fitting terms.now.rows × (terms.now.rows.states ≤ length terms.now.rows.exits.now) × Held terms.now.rows.states terms.now.rows.exits.now terms.now.rows.starts.now terms.now.rows.targets.now terms.now.rows.probs.now terms.now.need terms.now.plenty memory.old.relation.now memory.old.changed.now first.s first.t (back first.asks) (waits first.asks) × (waits first.asks ≡ false → (first.struck ≡ false) × (terms.now.rows.states ≤ first.s) × (terms.now.rows.states ≤ first.t)) }
+    ensures { Moves terms.now.rows.states terms.now.rows.exits.now terms.now.rows.starts.now terms.now.rows.targets.now terms.now.rows.probs.now terms.now.need terms.now.plenty memory.old.relation.now first.s first.t (back first.asks) first.struck (waits first.asks) (weight terms.now.rows.states memory.old.relation.now first.s first.t (back first.asks) first.struck + 1) memory.new.relation.now memory.new.changed.now result.s result.t (back result.asks) result.struck (waits result.asks) × (waits result.asks ≡ false) × (result.struck ≡ false) × (terms.now.rows.states ≤ result.s) × (terms.now.rows.states ≤ result.t) × Same memory.old memory.new }
 {
     let mut p = first;
-    while p.asks {
-        let answer = asked_on(
-            net, starts, targets, probs, states, relation, p, heads, caps, costs,
-        );
-        p = settle(
-            exits, starts, targets, probs, states, need, plenty, relation, changed, p, answer,
-        );
+    while p.asks.waits() {
+        let answer = asked_on(net, &terms.rows, memory, p, store);
+        p = settle(terms, memory, p, answer);
     }
     p
 }
@@ -141,53 +112,28 @@ fn run_on(
 // The same on a network that is handed in.
 fn on_network(
     made: FlowNetwork,
-    exits: &[f64],
-    starts: &[u32],
-    targets: &[u32],
-    probs: &[f64],
-    states: usize,
-    need: f64,
-    plenty: f64,
-    relation: &mut [u8],
-    changed: &mut [u64],
-    heads: &mut [u32],
-    caps: &mut [f64],
-    costs: &mut [f64],
+    terms: &Terms,
+    memory: &mut Memory,
+    store: &mut LinkStore,
     first: Place,
 ) -> Place
-    requires { RowsFit states starts.now targets.now probs.now × (states ≤ length exits.now) × Held states exits.now starts.now targets.now probs.now need plenty relation.old changed.old first.s first.t first.back first.asks
-        × (length heads.old ≡ 2046) × (length caps.old ≡ 2046) × (length costs.old ≡ 2046) × (first.asks ≡ false → (first.struck ≡ false) × (states ≤ first.s) × (states ≤ first.t)) }
-    ensures { Moves states exits.now starts.now targets.now probs.now need plenty relation.old first.s first.t first.back first.struck first.asks (weight states relation.old first.s first.t first.back first.struck + 1) relation.new changed.new result.s result.t result.back result.struck result.asks × (result.asks ≡ false) × (result.struck ≡ false) × (states ≤ result.s) × (states ≤ result.t) }
+    requires { Fitting terms.now.rows × (terms.now.rows.states ≤ length terms.now.rows.exits.now) × Held terms.now.rows.states terms.now.rows.exits.now terms.now.rows.starts.now terms.now.rows.targets.now terms.now.rows.probs.now terms.now.need terms.now.plenty memory.old.relation.now memory.old.changed.now first.s first.t (back first.asks) (waits first.asks) × (waits first.asks ≡ false → (first.struck ≡ false) × (terms.now.rows.states ≤ first.s) × (terms.now.rows.states ≤ first.t)) }
+    ensures { Moves terms.now.rows.states terms.now.rows.exits.now terms.now.rows.starts.now terms.now.rows.targets.now terms.now.rows.probs.now terms.now.need terms.now.plenty memory.old.relation.now first.s first.t (back first.asks) first.struck (waits first.asks) (weight terms.now.rows.states memory.old.relation.now first.s first.t (back first.asks) first.struck + 1) memory.new.relation.now memory.new.changed.now result.s result.t (back result.asks) result.struck (waits result.asks) × (waits result.asks ≡ false) × (result.struck ≡ false) × (terms.now.rows.states ≤ result.s) × (terms.now.rows.states ≤ result.t) × Same memory.old memory.new }
 {
     let mut net = made;
-    run_on(
-        &mut net, exits, starts, targets, probs, states, need, plenty, relation, changed, heads,
-        caps, costs, first,
-    )
+    run_on(&mut net, terms, memory, store, first)
 }
 
-// The same on a network and rows that are made here: the rows of two states with 31 jumps each take 2,046 places.
-pub(crate) fn with_rows(
-    exits: &[f64],
-    starts: &[u32],
-    targets: &[u32],
-    probs: &[f64],
-    states: usize,
-    need: f64,
-    plenty: f64,
-    relation: &mut [u8],
-    changed: &mut [u64],
-    first: Place,
-) -> Place
-    requires { RowsFit states starts.now targets.now probs.now × (states ≤ length exits.now) × Held states exits.now starts.now targets.now probs.now need plenty relation.old changed.old first.s first.t first.back first.asks × (first.asks ≡ false → (first.struck ≡ false) × (states ≤ first.s) × (states ≤ first.t)) }
-    ensures { Moves states exits.now starts.now targets.now probs.now need plenty relation.old first.s first.t first.back first.struck first.asks (weight states relation.old first.s first.t first.back first.struck + 1) relation.new changed.new result.s result.t result.back result.struck result.asks × (result.asks ≡ false) × (result.struck ≡ false) × (states ≤ result.s) × (states ≤ result.t) }
+// The same on a network and rows that are made here.
+pub(crate) fn with_rows(terms: &Terms, memory: &mut Memory, first: Place) -> Place
+    requires { Fitting terms.now.rows × (terms.now.rows.states ≤ length terms.now.rows.exits.now) × Held terms.now.rows.states terms.now.rows.exits.now terms.now.rows.starts.now terms.now.rows.targets.now terms.now.rows.probs.now terms.now.need terms.now.plenty memory.old.relation.now memory.old.changed.now first.s first.t (back first.asks) (waits first.asks) × (waits first.asks ≡ false → (first.struck ≡ false) × (terms.now.rows.states ≤ first.s) × (terms.now.rows.states ≤ first.t)) }
+    ensures { Moves terms.now.rows.states terms.now.rows.exits.now terms.now.rows.starts.now terms.now.rows.targets.now terms.now.rows.probs.now terms.now.need terms.now.plenty memory.old.relation.now first.s first.t (back first.asks) first.struck (waits first.asks) (weight terms.now.rows.states memory.old.relation.now first.s first.t (back first.asks) first.struck + 1) memory.new.relation.now memory.new.changed.now result.s result.t (back result.asks) result.struck (waits result.asks) × (waits result.asks ≡ false) × (result.struck ≡ false) × (terms.now.rows.states ≤ result.s) × (terms.now.rows.states ≤ result.t) × Same memory.old memory.new }
 {
-    let mut heads = [0u32; 2046];
-    let mut caps = [0.0f64; 2046];
-    let mut costs = [0.0f64; 2046];
+    let mut store = LinkStore {
+        heads: [0; 2046],
+        caps: [0.0; 2046],
+        costs: [0.0; 2046],
+    };
     let made = new(66);
-    on_network(
-        made.net, exits, starts, targets, probs, states, need, plenty, relation, changed,
-        &mut heads, &mut caps, &mut costs, first,
-    )
+    on_network(made.net, terms, memory, &mut store, first)
 }

@@ -1,70 +1,67 @@
 // How much flow is plenty: so much that the flow test back passes too.
 ghost use Rattle.std.specs.Prelude.{◌≡◌, true, ℕ, ◌≤◌, ◌<◌, ◌+◌, length, get_or};
-ghost use Rattle.epsdelta_theory.proofs.TasksIn.{RowsFit};
 ghost use Rattle.flow_duality.proofs.Plenty.{Formed, Light, LightRow, Plenty, Between};
+ghost use Rattle.flow_links.proofs.RowsRead.{Fitting};
 
-use crate::rows::part;
+use crate::place::Terms;
+use crate::rows::row;
 use flow_duality::{ROW_MOST, SPARE, is_share};
+use flow_links::rows::Rows;
 
 // True only if these jumps are to states, with rates above 0 and at most 1.
-fn light(targets: &[u32], probs: &[f64], states: usize) -> bool
-    requires { length targets.now ≡ length probs.now }
-    ensures { result ≡ true → (i : ℕ) → i < length targets.now → Light states targets.now probs.now i }
+fn light(targets: &[u32], rates: &[f64], states: usize) -> bool
+    requires { length targets.now ≡ length rates.now }
+    ensures { result ≡ true → (i : ℕ) → i < length targets.now → Light states targets.now rates.now i }
 {
     targets
         .iter()
-        .zip(probs)
+        .zip(rates)
         .all(|(u, p)| (*u as usize) < states && is_share(*p))
 }
 
 // True only if these are the jumps of s.
-fn light_row(starts: &[u32], targets: &[u32], probs: &[f64], states: usize, s: usize) -> bool
-    requires { RowsFit states starts.now targets.now probs.now × (s < states) }
-    ensures { result ≡ true → LightRow states starts.now targets.now probs.now s }
+fn light_row(rows: &Rows, s: usize) -> bool
+    requires { Fitting rows.now × (s < rows.now.states) }
+    ensures { result ≡ true → LightRow rows.now.states rows.now.starts.now rows.now.targets.now rows.now.probs.now s }
 {
-    light(part(starts, targets, s), part(starts, probs, s), states)
+    let row = row(rows, s);
+    light(row.targets, row.rates, rows.states)
 }
 
 // True only if these are the jumps of all states.
-fn all_light(starts: &[u32], targets: &[u32], probs: &[f64], states: usize) -> bool
-    requires { RowsFit states starts.now targets.now probs.now }
-    ensures { result ≡ true → (s : ℕ) → s < states → LightRow states starts.now targets.now probs.now s }
+fn all_light(rows: &Rows) -> bool
+    requires { Fitting rows.now }
+    ensures { result ≡ true → (s : ℕ) → s < rows.now.states → LightRow rows.now.states rows.now.starts.now rows.now.targets.now rows.now.probs.now s }
 {
-    (0..states).all(
+    (0..rows.states).all(
         |s|
-            requires { RowsFit states starts.now targets.now probs.now × (s < states) }
-        { light_row(starts, targets, probs, states, s) },
+            requires { Fitting rows.now × (s < rows.now.states) }
+        { light_row(rows, s) },
     )
 }
 
 // SPARE more than what is needed, where all rows are such; else no flow is plenty.
-pub(crate) fn plenty_of(
-    starts: &[u32],
-    targets: &[u32],
-    probs: &[f64],
-    states: usize,
-    need: f64,
-) -> f64
-    requires { RowsFit states starts.now targets.now probs.now × Formed need }
-    ensures { Plenty states starts.now targets.now probs.now need result }
+pub(crate) fn plenty_of(rows: &Rows, need: f64) -> f64
+    requires { Fitting rows.now × Formed need }
+    ensures { Plenty rows.now.states rows.now.starts.now rows.now.targets.now rows.now.probs.now need result }
 {
-    if !all_light(starts, targets, probs, states) {
+    if !all_light(rows) {
         return 0.0 / 0.0;
     }
     need + SPARE
 }
 
 // Plenty, where the rows of s and t have at most ROW_MOST jumps each; else no flow is.
-pub(crate) fn plenty_between(starts: &[u32], s: usize, t: usize, plenty: f64) -> f64
-    requires { (s + 1 < length starts.now) × (t + 1 < length starts.now) × (get_or starts.now s 0 ≤ get_or starts.now (s + 1) 0) × (get_or starts.now t 0 ≤ get_or starts.now (t + 1) 0) }
-    ensures { Between (get_or starts.now s 0) (get_or starts.now (s + 1) 0) (get_or starts.now t 0) (get_or starts.now (t + 1) 0) plenty result }
+pub(crate) fn plenty_between(terms: &Terms, s: usize, t: usize) -> f64
+    requires { (s + 1 < length terms.now.rows.starts.now) × (t + 1 < length terms.now.rows.starts.now) × (get_or terms.now.rows.starts.now s 0 ≤ get_or terms.now.rows.starts.now (s + 1) 0) × (get_or terms.now.rows.starts.now t 0 ≤ get_or terms.now.rows.starts.now (t + 1) 0) }
+    ensures { Between (get_or terms.now.rows.starts.now s 0) (get_or terms.now.rows.starts.now (s + 1) 0) (get_or terms.now.rows.starts.now t 0) (get_or terms.now.rows.starts.now (t + 1) 0) terms.now.plenty result }
 {
-    let a = starts[s] as usize;
-    let b = starts[s + 1] as usize;
-    let c = starts[t] as usize;
-    let d = starts[t + 1] as usize;
+    let a = terms.rows.starts[s] as usize;
+    let b = terms.rows.starts[s + 1] as usize;
+    let c = terms.rows.starts[t] as usize;
+    let d = terms.rows.starts[t + 1] as usize;
     if b - a <= ROW_MOST && d - c <= ROW_MOST {
-        return plenty;
+        return terms.plenty;
     }
     0.0 / 0.0
 }

@@ -1,57 +1,76 @@
-// Whether lists hold rows that marks and sweeps can read, and the part of a list that is one state's.
+// Whether lists hold rows that marks and sweeps can read, and what is read of them.
 ghost use Rattle.std.specs.Prelude.{◌≡◌, ◌&&◌, ◌≤◌, ◌<◌, ◌+◌, leb, ltb, length, get_or};
 ghost use Rattle.numbers.specs.Lists.{every};
 ghost use Rattle.epsdelta_theory.specs.Relation.{relation_bytes};
-ghost use Rattle.flow_links.proofs.RowsRead.{entries, row_stands};
+ghost use Rattle.flow_links.proofs.RowsRead.{Fitting, entries, row_stands};
 
-use flow_links::fits::row_fits;
+use crate::changes::Memory;
+use flow_links::rows::{Row, Rows, Test};
 
 // The entries of state s, from its start up to the next.
-pub(crate) fn part<'a, T>(starts: &[u32], list: &'a [T], s: usize) -> &'a [T]
+fn part<'a, T>(starts: &[u32], list: &'a [T], s: usize) -> &'a [T]
     requires { (s + 1 < length starts.now) × (get_or starts.now s 0 ≤ get_or starts.now (s + 1) 0) × (get_or starts.now (s + 1) 0 ≤ length list.now) }
     ensures { result.now ≡ entries starts.now list.now s }
 {
     &list[starts[s] as usize..starts[s + 1] as usize]
 }
 
-// Whether the jumps of state s are there, and a flow test takes its row.
-fn stands(starts: &[u32], targets: &[u32], probs: &[f64], s: usize) -> bool
-    requires { s + 1 < length starts.now }
-    ensures { result ≡ row_stands starts.now targets.now probs.now s }
+// The row of state s.
+pub(crate) fn row<'a>(rows: &Rows<'a>, s: usize) -> Row<'a>
+    requires { (s + 1 < length rows.now.starts.now) × (get_or rows.now.starts.now s 0 ≤ get_or rows.now.starts.now (s + 1) 0) × (get_or rows.now.starts.now (s + 1) 0 ≤ length rows.now.targets.now) × (get_or rows.now.starts.now (s + 1) 0 ≤ length rows.now.probs.now) }
+    ensures { (result.targets.now ≡ entries rows.now.starts.now rows.now.targets.now s) × (result.rates.now ≡ entries rows.now.starts.now rows.now.probs.now s) }
 {
-    let a = starts[s] as usize;
-    let b = starts[s + 1] as usize;
+    Row {
+        targets: part(rows.starts, rows.targets, s),
+        rates: part(rows.starts, rows.probs, s),
+    }
+}
+
+// The flow test from s to t.
+pub(crate) fn test<'a>(rows: &Rows<'a>, memory: &'a Memory, s: usize, t: usize) -> Test<'a>
+    requires { Fitting rows.now × (s < rows.now.states) × (t < rows.now.states) }
+    ensures { (result.left.targets.now ≡ entries rows.now.starts.now rows.now.targets.now s) × (result.left.rates.now ≡ entries rows.now.starts.now rows.now.probs.now s) × (result.right.targets.now ≡ entries rows.now.starts.now rows.now.targets.now t) × (result.right.rates.now ≡ entries rows.now.starts.now rows.now.probs.now t) × (result.states ≡ rows.now.states) × (result.relation.now ≡ memory.now.relation.now) }
+{
+    Test {
+        left: row(rows, s),
+        right: row(rows, t),
+        states: rows.states,
+        relation: memory.relation,
+    }
+}
+
+// Whether the jumps of state s are there, and a flow test takes its row.
+fn stands(rows: &Rows, s: usize) -> bool
+    requires { s + 1 < length rows.now.starts.now }
+    ensures { result ≡ row_stands rows.now.starts.now rows.now.targets.now rows.now.probs.now s }
+{
+    let a = rows.starts[s];
+    let b = rows.starts[s + 1];
     a <= b
-        && b <= targets.len()
-        && b <= probs.len()
-        && row_fits(part(starts, targets, s), part(starts, probs, s))
+        && b as usize <= rows.targets.len()
+        && b as usize <= rows.probs.len()
+        && row(rows, s).fits()
 }
 
 // Whether this holds of every state.
-pub(crate) fn all_stand(starts: &[u32], targets: &[u32], probs: &[f64], states: usize) -> bool
-    requires { (states ≤ 2000) × (states < length starts.now) }
-    ensures { result ≡ every (row_stands starts.now targets.now probs.now) states }
+pub(crate) fn all_stand(rows: &Rows) -> bool
+    requires { (rows.now.states ≤ 2000) × (rows.now.states < length rows.now.starts.now) }
+    ensures { result ≡ every (row_stands rows.now.starts.now rows.now.targets.now rows.now.probs.now) rows.now.states }
 {
-    (0..states).all(
+    (0..rows.states).all(
         |s|
-            requires { s + 1 < length starts.now }
-        { stands(starts, targets, probs, s) },
+            requires { s + 1 < length rows.now.starts.now }
+        { stands(rows, s) },
     )
 }
 
-// Whether there are at most 2,000 states, and a class, an exit rate and a start for each, and bytes for the relation.
-pub(crate) fn long_enough(
-    states: usize,
-    classes: usize,
-    exits: usize,
-    starts: usize,
-    bytes: usize,
-) -> bool
-    ensures { result ≡ (leb states 2000 && (leb states classes && (leb states exits && (ltb states starts && leb (relation_bytes states) bytes)))) }
+// Whether there are at most 2,000 states, and an exit rate and a start for each, a class, and bytes for the relation.
+pub(crate) fn long_enough(rows: &Rows, classes: usize, bytes: usize) -> bool
+    ensures { result ≡ (leb rows.now.states 2000 && (leb rows.now.states classes && (leb rows.now.states (length rows.now.exits.now) && (ltb rows.now.states (length rows.now.starts.now) && leb (relation_bytes rows.now.states) bytes)))) }
 {
-    states <= 2000
-        && states <= classes
-        && states <= exits
-        && states < starts
-        && (states * states).div_ceil(8) <= bytes
+    rows.states <= 2000
+        && rows.states <= classes
+        && rows.states <= rows.exits.len()
+        && rows.states < rows.starts.len()
+        && (rows.states * rows.states).div_ceil(8) <= bytes
 }

@@ -1,11 +1,13 @@
 -- The flow test of two rows that fit: what its start is, and what an answer says of it.
 use mathlib.Core.Path.{◌≡◌, refl, sym, ap, ◌∙◌}
 use Prim.Native.Nat.{ℕ, ◌+◌, ◌*◌}
-use mathlib.Core.Bool.{Bool, true, false, ◌&&◌}
+use mathlib.Core.Bool.{Bool, true, false, ◌&&◌, false≢true}
 use mathlib.Core.List.{List, []}
 use lib.Dec.{leb}
 use lib.Ieee.{Float, le}
 use lib.ListN.{get_or}
+use Rattle.std.specs.Prelude.{Option, Some, None, IfSome, unwrap_or}
+use Rattle.std.proofs.lemmas.Option.{IfSome_then}
 use Rattle.numbers.specs.Bits.{bit_at}
 use Rattle.numbers.proofs.Bools.{and_t, and_second}
 use Rattle.flow_theory.specs.Run.{FlowRun}
@@ -47,12 +49,17 @@ module _ (us : List ℕ) (vs : List Float) (ts : List ℕ) (ws : List Float) (n 
         }
 
     -- what is known of rows that fit
-    pub known_reaches : (need : Float) {known passes : Bool} → Told us vs ts ws n store need known passes → known ≡ true → passes ≡ reaches us vs ts ws n (relation_of store) need
-    known_reaches need T z = T z (rows_of us vs ts ws n store) begins ∙ ap (λ (b : Bool). b && le need (run_between n (relation_of store) (jumps_of us vs) (jumps_of ts ws)).total) (sym f)
+    pub known_reaches : (need : Float) (known : Option Bool) → Told us vs ts ws n store need known → IfSome known (λ passes. passes ≡ reaches us vs ts ws n (relation_of store) need)
+    known_reaches need known T = IfSome_then known T (λ _ E. E (rows_of us vs ts ws n store) begins ∙ ap (λ (b : Bool). b && le need (run_between n (relation_of store) (jumps_of us vs) (jumps_of ts ws)).total) (sym f))
 
   -- rows that do not fit
   pub none_reaches : (need : Float) → fits us vs ts ws n ≡ false → false ≡ reaches us vs ts ws n (relation_of store) need
   none_reaches need f = ap (λ (b : Bool). b && le need (run_between n (relation_of store) (jumps_of us vs) (jumps_of ts ws)).total) (sym f)
+
+-- what is known to be so
+pub known_true : {x : Bool} (known : Option Bool) → IfSome known (λ passes. passes ≡ x) → unwrap_or known false ≡ true → x ≡ true
+known_true (Some passes) e z = sym e ∙ z
+known_true None e z = absurd (false≢true z)
 
 -- ---- both ways
 

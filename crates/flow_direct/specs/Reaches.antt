@@ -1,9 +1,13 @@
 -- Whether the flow of a flow test is enough.
-use Rattle.std.specs.Prelude.{ℕ, Bool, false, ◌&&◌, List, Float}
+use Rattle.std.specs.Prelude.{ℕ, Bool, true, false, ◌&&◌, ◌≡◌, ⊤, List, Float}
 use Rattle.std.specs.Float.Ieee.{le}
 use Rattle.epsdelta_theory.specs.Jumps.{jumps_of}
 use Rattle.epsdelta_theory.specs.FlowTest.{run_between}
+use Rattle.epsdelta_theory.specs.Relation.{relation_of}
 use Rattle.flow_links.specs.Fits.{fits}
+use Rattle.flow_links.specs.declared.rows.Test.{Test}
+use Rattle.flow_direct.specs.declared.reach.Ways.{Ways}
+use Rattle.flow_direct.specs.declared.reach.Ways.TheVariants as ways
 use Rattle.flow_core.specs.declared.rows.Answer.{Answer}
 use Rattle.flow_core.specs.declared.rows.Answer.TheVariants as says
 
@@ -14,6 +18,20 @@ reaches us vs ts ws n R need = fits us vs ts ws n && le need (run_between n R (j
 -- the flows of the runs from the one row to the other and back are
 abbrev pub both_reach : List ℕ → List Float → List ℕ → List Float → ℕ → List Bool → Float → Bool
 both_reach us vs ts ws n R need = reaches us vs ts ws n R need && reaches ts ws us vs n R need
+
+-- of a test that is lent
+abbrev pub test_reaches : Test → Float → Bool
+test_reaches T need = reaches T.left.targets.now T.left.rates.now T.right.targets.now T.right.rates.now T.states (relation_of T.relation.now) need
+
+abbrev pub test_both : Test → Float → Bool
+test_both T need = both_reach T.left.targets.now T.left.rates.now T.right.targets.now T.right.rates.now T.states (relation_of T.relation.now) need
+
+-- what is known of it and of the test back is so: whether both pass, that the flow is plenty, or that the first passes
+abbrev pub Known : Test → Float → Float → Ways → Type 0
+Known T need plenty (ways.Both passes) = passes ≡ test_both T need
+Known T need plenty ways.Plenty = test_reaches T plenty ≡ true
+Known T need plenty ways.Forth = test_reaches T need ≡ true
+Known T need plenty ways.Unknown = ⊤
 
 -- the same of an answer; a refusal is no flow
 abbrev pub at_least : Float → Answer → Bool

@@ -6,103 +6,75 @@ ghost use Rattle.numbers.specs.Real.{nought};
 ghost use Rattle.numbers.specs.Choice;
 ghost use Rattle.flow_routes.proofs.Coding.{Room, Giving, Shut};
 
+use flow_links::rows::Test;
 use flow_routes::remains;
 use numbers::{bit, smaller};
 
+// What each target of s and of t has left of its rate, and what was given so far: entry i * n + k says how much target i of s gave to target k of the n of t.
+#[derive(Drop)]
+pub(crate) struct Rest<'a> {
+    pub(crate) lefts: &'a mut [f64],
+    pub(crate) rights: &'a mut [f64],
+    pub(crate) flows: &'a mut [f64],
+}
+
 // Target i of s gives to target k of t as much as both have left, and entry e counts it; gives how much.
-fn give(
-    lefts: &mut [f64],
-    rights: &mut [f64],
-    flows: &mut [f64],
-    i: usize,
-    k: usize,
-    e: usize,
-) -> f64
-    requires { (i < length lefts.old) × (k < length rights.old) × (e < length flows.old) }
-    ensures { (result ≡ Choice.smaller (get_or lefts.old i nan) (get_or rights.old k nan)) × (lefts.new ≡ set lefts.old i (sub binary64 (get_or lefts.old i nan) result)) × (rights.new ≡ set rights.old k (sub binary64 (get_or rights.old k nan) result)) × (flows.new ≡ set flows.old e (add binary64 (get_or flows.old e nan) result)) }
+fn give(rest: &mut Rest, i: usize, k: usize, e: usize) -> f64
+    requires { (i < length rest.old.lefts.now) × (k < length rest.old.rights.now) × (e < length rest.old.flows.now) }
+    ensures { (result ≡ Choice.smaller (get_or rest.old.lefts.now i nan) (get_or rest.old.rights.now k nan)) × (rest.new.lefts.now ≡ set rest.old.lefts.now i (sub binary64 (get_or rest.old.lefts.now i nan) result)) × (rest.new.rights.now ≡ set rest.old.rights.now k (sub binary64 (get_or rest.old.rights.now k nan) result)) × (rest.new.flows.now ≡ set rest.old.flows.now e (add binary64 (get_or rest.old.flows.now e nan) result)) }
 {
-    let x = smaller(lefts[i], rights[k]);
-    lefts[i] -= x;
-    rights[k] -= x;
-    flows[e] += x;
+    let x = smaller(rest.lefts[i], rest.rights[k]);
+    rest.lefts[i] -= x;
+    rest.rights[k] -= x;
+    rest.flows[e] += x;
     x
 }
 
-// Up to which of the first n targets of t nothing is left, `from` at least.
-fn first_open(rights: &[f64], from: usize, n: usize) -> usize
-    requires { (n ≤ length rights.now) × Shut from rights.now }
-    ensures { Shut result rights.now }
+// Up to which target of t nothing is left, `from` at least.
+fn first_open(rest: &Rest, from: usize) -> usize
+    requires { Shut from rest.now.rights.now }
+    ensures { Shut result rest.now.rights.now }
 {
-    for k in from..n {
-        if remains(rights[k]) {
+    for k in from..rest.rights.len() {
+        if remains(rest.rights[k]) {
             return k;
         }
     }
-    n
+    rest.rights.len()
 }
 
 // Target i of s gives to each target of t from `from` on, those before having nothing left; gives the flow then.
-fn give_row(
-    left_targets: &[u32],
-    right_targets: &[u32],
-    states: usize,
-    relation: &[u8],
-    lefts: &mut [f64],
-    rights: &mut [f64],
-    flows: &mut [f64],
-    i: usize,
-    from: usize,
-    before: f64,
-) -> f64
-    requires { Room left_targets.now right_targets.now states lefts.old rights.old flows.old × (i < length left_targets.now) × Shut from rights.old }
-    ensures { Shut from rights.new × Giving left_targets.now right_targets.now states relation.now lefts.old rights.old flows.old before i lefts.new rights.new flows.new result (i + 1) 0 }
+fn give_row(test: &Test, rest: &mut Rest, i: usize, from: usize, before: f64) -> f64
+    requires { Room test.now.left.targets.now test.now.right.targets.now test.now.states rest.old.lefts.now rest.old.rights.now rest.old.flows.now × (i < length test.now.left.targets.now) × Shut from rest.old.rights.now }
+    ensures { Shut from rest.new.rights.now × Giving test.now.left.targets.now test.now.right.targets.now test.now.states test.now.relation.now rest.old.lefts.now rest.old.rights.now rest.old.flows.now before i rest.new.lefts.now rest.new.rights.now rest.new.flows.now result (i + 1) 0 }
 {
-    let base = left_targets[i] as usize * states;
+    let targets = test.right.targets;
+    let base = test.left.targets[i] as usize * test.states;
     let mut total = before;
-    for k in from..right_targets.len() {
-        if !remains(lefts[i]) {
+    for k in from..targets.len() {
+        if !remains(rest.lefts[i]) {
             return total;
         }
-        if remains(rights[k]) && bit(relation, base + right_targets[k] as usize) {
-            total += give(lefts, rights, flows, i, k, i * right_targets.len() + k);
+        if remains(rest.rights[k]) && bit(test.relation, base + targets[k] as usize) {
+            total += give(rest, i, k, i * targets.len() + k);
         }
     }
     total
 }
 
 // Each target of s in turn, until the flow is enough; gives the flow then.
-pub(crate) fn give_rows(
-    left_targets: &[u32],
-    right_targets: &[u32],
-    states: usize,
-    relation: &[u8],
-    lefts: &mut [f64],
-    rights: &mut [f64],
-    flows: &mut [f64],
-    need: f64,
-) -> f64
-    requires { Room left_targets.now right_targets.now states lefts.old rights.old flows.old }
-    ensures { (i : ℕ) × (le need result ≡ false → length left_targets.now ≤ i) × Giving left_targets.now right_targets.now states relation.now lefts.old rights.old flows.old nought 0 lefts.new rights.new flows.new result i 0 }
+pub(crate) fn give_rows(test: &Test, rest: &mut Rest, need: f64) -> f64
+    requires { Room test.now.left.targets.now test.now.right.targets.now test.now.states rest.old.lefts.now rest.old.rights.now rest.old.flows.now }
+    ensures { (i : ℕ) × (le need result ≡ false → length test.now.left.targets.now ≤ i) × Giving test.now.left.targets.now test.now.right.targets.now test.now.states test.now.relation.now rest.old.lefts.now rest.old.rights.now rest.old.flows.now nought 0 rest.new.lefts.now rest.new.rights.now rest.new.flows.now result i 0 }
 {
     let mut total = 0.0;
     let mut from: usize = 0;
-    for i in 0..left_targets.len() {
-        total = give_row(
-            left_targets,
-            right_targets,
-            states,
-            relation,
-            lefts,
-            rights,
-            flows,
-            i,
-            from,
-            total,
-        );
+    for i in 0..test.left.targets.len() {
+        total = give_row(test, rest, i, from, total);
         if need <= total {
             return total;
         }
-        from = first_open(rights, from, right_targets.len());
+        from = first_open(rest, from);
     }
     total
 }

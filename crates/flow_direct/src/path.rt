@@ -1,112 +1,79 @@
 // A path by labels, from the source down to label 1 and the sink, and the push of the least that is left on it.
-// The targets of s and of t that it goes by are kept in two lists, at their labels.
 ghost use Rattle.std.specs.Prelude.{◌≡◌, ◌≤◌, ◌<◌, ◌+◌, ◌*◌, length, get_or};
 ghost use Rattle.flow_routes.proofs.Ways.{plus, minus};
-ghost use Rattle.flow_routes.proofs.Coding.{Placed, Sized};
+ghost use Rattle.flow_routes.proofs.Coding.{Placed, Room, Sized};
 ghost use Rattle.flow_routes.proofs.Pathing.{Stopped, LeastIs, SendsAll};
 
+use crate::give::Rest;
 use crate::search::{first_back, first_right};
+use flow_links::rows::Test;
+use flow_routes::Stop;
 use numbers::smaller;
 
-// Where a walk ends: the label, and 0 for a target of s from where no link falls, 1 for such a target of t, 2 for a target of t with label 1.
-#[derive(Clone, Copy)]
-pub struct Stop {
-    pub label: usize,
-    pub side: usize,
+// The label of each target: how far it is from the sink at least.
+#[derive(Drop)]
+pub(crate) struct Labels<'a> {
+    pub(crate) lefts: &'a mut [usize],
+    pub(crate) rights: &'a mut [usize],
 }
 
-pub(crate) const LEFT: usize = 0; // a target of s
-
-pub(crate) const RIGHT: usize = 1; // a target of t
-
-pub(crate) const SINK: usize = 2; // a target of t with label 1
+// The targets of s and of t that a path goes by, at their labels.
+#[derive(Clone, Copy)]
+pub(crate) struct Path {
+    pub(crate) lefts: [usize; 10],
+    pub(crate) rights: [usize; 10],
+}
 
 // Walks from target `start` of s, which has label s, along the first link that falls, as far as there is one.
 pub(crate) fn walk(
-    left_targets: &[u32],
-    right_targets: &[u32],
-    states: usize,
-    relation: &[u8],
-    flows: &[f64],
-    left_labels: &[usize],
-    right_labels: &[usize],
+    test: &Test,
+    rest: &Rest,
+    labels: &Labels,
     s: usize,
     start: usize,
-    by_left: &mut [usize],
-    by_right: &mut [usize],
+    path: &mut Path,
 ) -> Stop
-    requires { (states ≤ 2000) × (length left_targets.now ≤ 31) × (length right_targets.now ≤ 31) × (length left_targets.now ≤ length left_labels.now) × (length right_targets.now ≤ length right_labels.now) × (length left_targets.now * length right_targets.now ≤ length flows.now) × (1 ≤ s) × (s ≤ 8) × (start < length left_targets.now) × (length by_left.old ≡ 10) × (length by_right.old ≡ 10) }
-    ensures { Stopped left_targets.now right_targets.now states relation.now flows.now left_labels.now right_labels.now s start by_left.new by_right.new result.label result.side × (length by_left.new ≡ 10) × (length by_right.new ≡ 10) }
+    requires { (test.now.states ≤ 2000) × (length test.now.left.targets.now ≤ 31) × (length test.now.right.targets.now ≤ 31) × (length labels.now.lefts.now ≡ length test.now.left.targets.now) × (length labels.now.rights.now ≡ length test.now.right.targets.now) × (length test.now.left.targets.now * length test.now.right.targets.now ≤ length rest.now.flows.now) × (1 ≤ s) × (s ≤ 8) × (start < length test.now.left.targets.now) }
+    ensures { Stopped test.now.left.targets.now test.now.right.targets.now test.now.states test.now.relation.now rest.now.flows.now labels.now.lefts.now labels.now.rights.now s start path.new.lefts path.new.rights result }
 {
-    by_left[s] = start;
+    path.lefts[s] = start;
     let mut g = s;
     loop {
-        let i = by_left[g];
-        let base = left_targets[i] as usize * states;
-        let k = first_right(right_targets, relation, base, right_labels, g);
-        if k == right_targets.len() {
-            return Stop {
-                label: g,
-                side: LEFT,
-            };
-        }
-        by_right[g] = k;
+        let Some(k) = first_right(test, labels, path.lefts[g], g) else {
+            return Stop::Left(g);
+        };
+        path.rights[g] = k;
         if g == 1 {
-            return Stop {
-                label: g,
-                side: SINK,
-            };
+            return Stop::Sink;
         }
-        let below = g - 1;
-        let j = first_back(
-            flows,
-            left_labels,
-            left_targets.len(),
-            right_targets.len(),
-            k,
-            below,
-        );
-        if j == left_targets.len() {
-            return Stop {
-                label: g,
-                side: RIGHT,
-            };
-        }
-        by_left[below] = j;
-        g = below;
+        let Some(j) = first_back(rest, labels, test.right.targets.len(), k, g - 1) else {
+            return Stop::Right(g);
+        };
+        g -= 1;
+        path.lefts[g] = j;
     }
 }
 
 // The entry of the targets at labels h of s and k of t.
-fn entry(by_left: &[usize], by_right: &[usize], h: usize, k: usize, width: usize) -> usize
-    requires { (h < length by_left.now) × (k < length by_right.now) × (width ≤ 31) × (get_or by_left.now h 0 ≤ 31) × (get_or by_right.now k 0 ≤ 31) }
-    ensures { result ≡ get_or by_left.now h 0 * width + get_or by_right.now k 0 }
+fn entry(path: &Path, h: usize, k: usize, width: usize) -> usize
+    requires { (h < 10) × (k < 10) × (width ≤ 31) × (get_or path.now.lefts h 0 ≤ 31) × (get_or path.now.rights k 0 ≤ 31) }
+    ensures { result ≡ get_or path.now.lefts h 0 * width + get_or path.now.rights k 0 }
 {
-    by_left[h] * width + by_right[k]
+    path.lefts[h] * width + path.rights[k]
 }
 
 // The least that is left on a whole path.
-pub(crate) fn least(
-    lefts: &[f64],
-    rights: &[f64],
-    flows: &[f64],
-    rows: usize,
-    width: usize,
-    s: usize,
-    by_left: &[usize],
-    by_right: &[usize],
-) -> f64
-    requires { (rows ≤ 31) × (width ≤ 31) × (rows ≤ length lefts.now) × (width ≤ length rights.now) × (rows * width ≤ length flows.now) × (s ≤ 8) × Placed rows width s by_left.now by_right.now 1 0 × (length by_left.now ≡ 10) × (length by_right.now ≡ 10) }
-    ensures { LeastIs width lefts.now rights.now flows.now s by_left.now by_right.now result }
+pub(crate) fn least(test: &Test, rest: &Rest, s: usize, path: &Path) -> f64
+    requires { Room test.now.left.targets.now test.now.right.targets.now test.now.states rest.now.lefts.now rest.now.rights.now rest.now.flows.now × (s ≤ 8) × Placed (length test.now.left.targets.now) (length test.now.right.targets.now) s path.now.lefts path.now.rights 1 0 }
+    ensures { LeastIs (length test.now.right.targets.now) rest.now.lefts.now rest.now.rights.now rest.now.flows.now s path.now.lefts path.now.rights result }
 {
-    let i = by_left[s];
-    let mut x = lefts[i];
+    let width = test.right.targets.len();
+    let mut x = rest.lefts[path.lefts[s]];
     for g in (1..s).rev() {
-        let e = entry(by_left, by_right, g, g + 1, width);
-        x = smaller(x, flows[e]);
+        let e = entry(path, g, g + 1, width);
+        x = smaller(x, rest.flows[e]);
     }
-    let k = by_right[1];
-    smaller(x, rights[k])
+    smaller(x, rest.rights[path.rights[1]])
 }
 
 // Gives x to an entry.
@@ -126,25 +93,16 @@ fn take_from(list: &mut [f64], e: usize, x: f64)
 }
 
 // Pushes x along a whole path.
-pub(crate) fn push(
-    lefts: &mut [f64],
-    rights: &mut [f64],
-    flows: &mut [f64],
-    rows: usize,
-    width: usize,
-    s: usize,
-    by_left: &[usize],
-    by_right: &[usize],
-    x: f64,
-)
-    requires { (rows ≤ 31) × (width ≤ 31) × (rows ≤ length lefts.old) × (width ≤ length rights.old) × (rows * width ≤ length flows.old) × (s ≤ 8) × Placed rows width s by_left.now by_right.now 1 0 × (length by_left.now ≡ 10) × (length by_right.now ≡ 10) }
-    ensures { Sized lefts.old rights.old flows.old lefts.new rights.new flows.new × SendsAll width lefts.old rights.old flows.old s by_left.now by_right.now x lefts.new rights.new flows.new }
+pub(crate) fn push(test: &Test, rest: &mut Rest, s: usize, path: &Path, x: f64)
+    requires { Room test.now.left.targets.now test.now.right.targets.now test.now.states rest.old.lefts.now rest.old.rights.now rest.old.flows.now × (s ≤ 8) × Placed (length test.now.left.targets.now) (length test.now.right.targets.now) s path.now.lefts path.now.rights 1 0 }
+    ensures { Sized rest.old.lefts.now rest.old.rights.now rest.old.flows.now rest.new.lefts.now rest.new.rights.now rest.new.flows.now × SendsAll (length test.now.right.targets.now) rest.old.lefts.now rest.old.rights.now rest.old.flows.now s path.now.lefts path.now.rights x rest.new.lefts.now rest.new.rights.now rest.new.flows.now }
 {
+    let width = test.right.targets.len();
     for g in (1..s).rev() {
-        give_to(flows, entry(by_left, by_right, g + 1, g + 1, width), x);
-        take_from(flows, entry(by_left, by_right, g, g + 1, width), x);
+        give_to(rest.flows, entry(path, g + 1, g + 1, width), x);
+        take_from(rest.flows, entry(path, g, g + 1, width), x);
     }
-    give_to(flows, entry(by_left, by_right, 1, 1, width), x);
-    take_from(lefts, by_left[s], x);
-    take_from(rights, by_right[1], x);
+    give_to(rest.flows, entry(path, 1, 1, width), x);
+    take_from(rest.lefts, path.lefts[s], x);
+    take_from(rest.rights, path.rights[1], x);
 }

@@ -1,16 +1,16 @@
 // Whether the flow of a flow test is enough.
-ghost use Rattle.std.specs.Prelude.{◌≡◌, true, false, ℕ, ◌≤◌, ◌<◌, ◌*◌, length, get_or};
+ghost use Rattle.std.specs.Prelude.{◌≡◌, true, ℕ, ◌≤◌, ◌<◌, ◌*◌, length, get_or, Float, IfSome};
 ghost use Rattle.std.specs.Float.{nan};
 ghost use Rattle.numbers.specs.Real.{nought};
-ghost use Rattle.epsdelta_theory.specs.Relation.{relation_of};
-ghost use Rattle.flow_links.specs.Fits.{fits};
+ghost use Rattle.flow_links.specs.Lent.{test_fits};
+ghost use Rattle.flow_links.proofs.Fitting.{TestFit};
 ghost use Rattle.flow_routes.proofs.Reaching.{Told};
-ghost use Rattle.flow_direct.specs.Reaches.{at_least, reaches, both_reach};
+ghost use Rattle.flow_direct.specs.Reaches.{at_least, test_reaches, Known};
 
-use crate::give::give_rows;
-use crate::settle::{Verdict, search_on};
+use crate::give::{Rest, give_rows};
+use crate::settle::search_on;
 use flow_core::rows::Answer;
-use flow_links::fits::rows_fit;
+use flow_links::rows::Test;
 
 // Whether an answer is a flow that is enough.
 pub fn enough(answer: Answer, need: f64) -> bool
@@ -27,293 +27,102 @@ pub fn enough(answer: Answer, need: f64) -> bool
 }
 
 // The first pushes, and the search where they are not enough, with room lent for each pair of targets.
-fn reach_in(
-    left_targets: &[u32],
-    left_rates: &[f64],
-    right_targets: &[u32],
-    right_rates: &[f64],
-    states: usize,
-    relation: &[u8],
-    need: f64,
-    flows: &mut [f64],
-) -> Verdict
-    requires { (states ≤ 2000) × (length left_targets.now ≤ 31) × (length right_targets.now ≤ 31) × (length left_rates.now ≡ length left_targets.now) × (length right_rates.now ≡ length right_targets.now) × (length left_targets.now * length right_targets.now ≤ length flows.old) × ((j : ℕ) → j < length flows.old → get_or flows.old j nan ≡ nought) }
-    ensures { Told left_targets.now left_rates.now right_targets.now right_rates.now states relation.now need result.known result.passes }
+fn reach_in(test: &Test, need: f64, flows: &mut [f64]) -> Option<bool>
+    requires { TestFit test.now × (length test.now.left.targets.now * length test.now.right.targets.now ≤ length flows.old) × ((j : ℕ) → j < length flows.old → get_or flows.old j nan ≡ nought) }
+    ensures { Told test.now.left.targets.now test.now.left.rates.now test.now.right.targets.now test.now.right.rates.now test.now.states test.now.relation.now need result }
 {
     let mut lefts = [0.0f64; 31];
     let mut rights = [0.0f64; 31];
-    lefts[..left_rates.len()].copy_from_slice(left_rates);
-    rights[..right_rates.len()].copy_from_slice(right_rates);
-    let total = give_rows(
-        left_targets,
-        right_targets,
-        states,
-        relation,
-        &mut lefts,
-        &mut rights,
+    let mut rest = Rest {
+        lefts: &mut lefts[..test.left.rates.len()],
+        rights: &mut rights[..test.right.rates.len()],
         flows,
-        need,
-    );
+    };
+    rest.lefts.copy_from_slice(test.left.rates);
+    rest.rights.copy_from_slice(test.right.rates);
+    let total = give_rows(test, &mut rest, need);
     if need <= total {
-        return Verdict {
-            known: true,
-            passes: true,
-        };
+        return Some(true);
     }
-    search_on(
-        left_targets,
-        right_targets,
-        states,
-        relation,
-        &mut lefts,
-        &mut rights,
-        flows,
-        total,
-        need,
-    )
+    search_on(test, &mut rest, total, need)
 }
 
 // The same, with room for N pairs of targets.
-fn reach_in_room<const N: usize>(
-    left_targets: &[u32],
-    left_rates: &[f64],
-    right_targets: &[u32],
-    right_rates: &[f64],
-    states: usize,
-    relation: &[u8],
-    need: f64,
-) -> Verdict
-    requires { (states ≤ 2000) × (length left_targets.now ≤ 31) × (length right_targets.now ≤ 31) × (length left_rates.now ≡ length left_targets.now) × (length right_rates.now ≡ length right_targets.now) × (length left_targets.now * length right_targets.now ≤ N) × (N ≤ 961) }
-    ensures { Told left_targets.now left_rates.now right_targets.now right_rates.now states relation.now need result.known result.passes }
+fn reach_in_room<const N: usize>(test: &Test, need: f64) -> Option<bool>
+    requires { TestFit test.now × (length test.now.left.targets.now * length test.now.right.targets.now ≤ N) × (N ≤ 961) }
+    ensures { Told test.now.left.targets.now test.now.left.rates.now test.now.right.targets.now test.now.right.rates.now test.now.states test.now.relation.now need result }
 {
     let mut flows = [0.0f64; N];
-    reach_in(
-        left_targets,
-        left_rates,
-        right_targets,
-        right_rates,
-        states,
-        relation,
-        need,
-        &mut flows,
-    )
+    reach_in(test, need, &mut flows)
 }
 
-// What is known of the flow test of rows that fit, without a network.
-fn reach(
-    left_targets: &[u32],
-    left_rates: &[f64],
-    right_targets: &[u32],
-    right_rates: &[f64],
-    states: usize,
-    relation: &[u8],
-    need: f64,
-) -> Verdict
-    requires { (states ≤ 2000) × (length left_targets.now ≤ 31) × (length right_targets.now ≤ 31) × (length left_rates.now ≡ length left_targets.now) × (length right_rates.now ≡ length right_targets.now) }
-    ensures { Told left_targets.now left_rates.now right_targets.now right_rates.now states relation.now need result.known result.passes }
+// What is known of a flow test whose rows fit, without a network.
+fn reach(test: &Test, need: f64) -> Option<bool>
+    requires { TestFit test.now }
+    ensures { Told test.now.left.targets.now test.now.left.rates.now test.now.right.targets.now test.now.right.rates.now test.now.states test.now.relation.now need result }
 {
-    if left_targets.len() <= 8 && right_targets.len() <= 8 {
-        return reach_in_room::<64>(
-            left_targets,
-            left_rates,
-            right_targets,
-            right_rates,
-            states,
-            relation,
-            need,
-        );
+    let most = test.left.targets.len().max(test.right.targets.len());
+    if most <= 8 {
+        return reach_in_room::<64>(test, need);
     }
-    if left_targets.len() <= 12 && right_targets.len() <= 12 {
-        return reach_in_room::<144>(
-            left_targets,
-            left_rates,
-            right_targets,
-            right_rates,
-            states,
-            relation,
-            need,
-        );
+    if most <= 12 {
+        return reach_in_room::<144>(test, need);
     }
-    reach_in_room::<961>(
-        left_targets,
-        left_rates,
-        right_targets,
-        right_rates,
-        states,
-        relation,
-        need,
-    )
+    reach_in_room::<961>(test, need)
 }
 
-// Whether the flow between two rows of jumps against a relation is at least what is needed, where that is known without a network: bit u * states + v says whether v is related with u.
-// It is not where a row has over 31 targets, or not one rate from 0 to 2^40 for each, or where the relation is over more than 2,000 states.
-pub fn verdict(
-    left_targets: &[u32],
-    left_rates: &[f64],
-    right_targets: &[u32],
-    right_rates: &[f64],
-    states: usize,
-    relation: &[u8],
-    need: f64,
-) -> Verdict
-    ensures { result.known ≡ true → result.passes ≡ reaches left_targets.now left_rates.now right_targets.now right_rates.now states (relation_of relation.now) need }
+// Whether the flow of a flow test is at least what is needed, where that is known without a network.
+// It is not enough where a row has over 31 targets, or not one rate from 0 to 2^40 for each, or where the relation is over more than 2,000 states.
+pub fn verdict(test: &Test, need: f64) -> Option<bool>
+    ensures { IfSome result (λ passes. passes ≡ test_reaches test.now need) }
 {
-    if !rows_fit(left_targets, left_rates, right_targets, right_rates, states) {
-        return Verdict {
-            known: true,
-            passes: false,
-        };
+    if !test.fits() {
+        return Some(false);
     }
-    reach(
-        left_targets,
-        left_rates,
-        right_targets,
-        right_rates,
-        states,
-        relation,
-        need,
-    )
+    reach(test, need)
 }
 
-// True only if plenty is no less than what is needed, and the flow between two rows that fit is known to be at least that.
-fn reaches_plenty(
-    left_targets: &[u32],
-    left_rates: &[f64],
-    right_targets: &[u32],
-    right_rates: &[f64],
-    states: usize,
-    relation: &[u8],
-    need: f64,
-    plenty: f64,
-) -> bool
-    requires { fits left_targets.now left_rates.now right_targets.now right_rates.now states ≡ true }
-    ensures { result ≡ true → reaches left_targets.now left_rates.now right_targets.now right_rates.now states (relation_of relation.now) plenty ≡ true }
+// True only if plenty is no less than what is needed, and the flow of a test that fits is known to be at least that.
+fn reaches_plenty(test: &Test, need: f64, plenty: f64) -> bool
+    requires { test_fits test.now ≡ true }
+    ensures { result ≡ true → test_reaches test.now plenty ≡ true }
 {
-    if need <= plenty {
-        let v = reach(
-            left_targets,
-            left_rates,
-            right_targets,
-            right_rates,
-            states,
-            relation,
-            plenty,
-        );
-        return v.known && v.passes;
-    }
-    false
+    need <= plenty && reach(test, plenty).unwrap_or(false)
 }
 
-// What is known without a network of the flow tests between two rows, from the one to the other and back: whether both pass. With `back` the first does, and with `plenty` its flow is at least what is called so.
-#[derive(Clone, Copy)]
-pub struct Ways {
-    pub known: bool,
-    pub passes: bool,
-    pub back: bool,
-    pub plenty: bool,
+// What is known without a network of a flow test and the one back: whether both pass; or that the flow of the first is at least what is called plenty; or that the first passes, and no more; or nothing.
+#[derive(Clone, Copy, Debug, PartialEq, Eq)]
+pub enum Ways {
+    Both(bool),
+    Plenty,
+    Forth,
+    Unknown,
 }
 
-// The same both ways of rows that fit. The flow back is looked at only where the other is known to be enough.
-fn each_way(
-    left_targets: &[u32],
-    left_rates: &[f64],
-    right_targets: &[u32],
-    right_rates: &[f64],
-    states: usize,
-    relation: &[u8],
-    need: f64,
-) -> Ways
-    requires { fits left_targets.now left_rates.now right_targets.now right_rates.now states ≡ true }
-    ensures { (result.known ≡ true → result.passes ≡ both_reach left_targets.now left_rates.now right_targets.now right_rates.now states (relation_of relation.now) need) × (result.back ≡ true → reaches left_targets.now left_rates.now right_targets.now right_rates.now states (relation_of relation.now) need ≡ true) × (result.plenty ≡ false) }
+// The same of a test that fits, but for plenty. The flow back is looked at only where the other is known to be enough.
+fn each_way(test: &Test, need: f64) -> Ways
+    requires { test_fits test.now ≡ true }
+    ensures { (plenty : Float) → Known test.now need plenty result }
 {
-    let v = reach(
-        left_targets,
-        left_rates,
-        right_targets,
-        right_rates,
-        states,
-        relation,
-        need,
-    );
-    if !v.known {
-        return Ways {
-            known: false,
-            passes: false,
-            back: false,
-            plenty: false,
-        };
-    }
-    if !v.passes {
-        return Ways {
-            known: true,
-            passes: false,
-            back: false,
-            plenty: false,
-        };
-    }
-    let w = reach(
-        right_targets,
-        right_rates,
-        left_targets,
-        left_rates,
-        states,
-        relation,
-        need,
-    );
-    Ways {
-        known: w.known,
-        passes: w.passes,
-        back: true,
-        plenty: false,
+    match reach(test, need) {
+        None => Ways::Unknown,
+        Some(false) => Ways::Both(false),
+        Some(true) => match reach(&test.back(), need) {
+            None => Ways::Forth,
+            Some(passes) => Ways::Both(passes),
+        },
     }
 }
 
-// The same both ways, with one check of the rows, unless the flow from the one to the other is known to be plenty.
-pub fn both_ways(
-    left_targets: &[u32],
-    left_rates: &[f64],
-    right_targets: &[u32],
-    right_rates: &[f64],
-    states: usize,
-    relation: &[u8],
-    need: f64,
-    plenty: f64,
-) -> Ways
-    ensures { (result.known ≡ true → result.passes ≡ both_reach left_targets.now left_rates.now right_targets.now right_rates.now states (relation_of relation.now) need) × (result.back ≡ true → reaches left_targets.now left_rates.now right_targets.now right_rates.now states (relation_of relation.now) need ≡ true)
-        × (result.plenty ≡ true → reaches left_targets.now left_rates.now right_targets.now right_rates.now states (relation_of relation.now) plenty ≡ true) }
+// The same of any test, with one check of the rows.
+pub fn both_ways(test: &Test, need: f64, plenty: f64) -> Ways
+    ensures { Known test.now need plenty result }
 {
-    if !rows_fit(left_targets, left_rates, right_targets, right_rates, states) {
-        return Ways {
-            known: true,
-            passes: false,
-            back: false,
-            plenty: false,
-        };
+    if !test.fits() {
+        return Ways::Both(false);
     }
-    if reaches_plenty(
-        left_targets,
-        left_rates,
-        right_targets,
-        right_rates,
-        states,
-        relation,
-        need,
-        plenty,
-    ) {
-        return Ways {
-            known: false,
-            passes: false,
-            back: false,
-            plenty: true,
-        };
+    if reaches_plenty(test, need, plenty) {
+        return Ways::Plenty;
     }
-    each_way(
-        left_targets,
-        left_rates,
-        right_targets,
-        right_rates,
-        states,
-        relation,
-        need,
-    )
+    each_way(test, need)
 }

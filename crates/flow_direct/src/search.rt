@@ -1,11 +1,14 @@
 // Searches: the first target that has a label and something left. They go from the last target down without a way out, since which target it is can't be foretold.
-ghost use Rattle.std.specs.Prelude.{◌≡◌, ◌≢◌, ℕ, ◌+◌, ◌*◌, ◌≤◌, ◌<◌, true, false, length, get_or};
+ghost use Rattle.std.specs.Prelude.{◌≡◌, ◌+◌, ◌*◌, ◌≤◌, ◌<◌, true, false, length, get_or};
 ghost use Rattle.std.specs.Float.Ieee.{lt};
 ghost use Rattle.std.specs.Float.{nan};
 ghost use Rattle.numbers.specs.Real.{eps};
 ghost use Rattle.numbers.specs.Bits.{bit_at};
-ghost use Rattle.flow_routes.proofs.Coding.{FirstOf};
+ghost use Rattle.flow_routes.proofs.Coding.{FirstOf, Found};
 
+use crate::give::Rest;
+use crate::path::Labels;
+use flow_links::rows::Test;
 use flow_routes::remains;
 
 // j where both hold, else r.
@@ -15,16 +18,17 @@ fn lower(one: bool, two: bool, j: usize, r: usize) -> usize
     if one && two { j } else { r }
 }
 
-// The first of n targets of s with this label and rate left; n where there is none.
-pub(crate) fn first_left(lefts: &[f64], labels: &[usize], n: usize, want: usize) -> usize
-    requires { (n ≤ length lefts.now) × (n ≤ length labels.now) }
-    ensures { FirstOf n result (λ j. (lt eps (get_or lefts.now j nan) ≡ true) × (get_or labels.now j 0 ≡ want)) }
+// The first target of s with this label and rate left.
+pub(crate) fn first_left(rest: &Rest, labels: &Labels, want: usize) -> Option<usize>
+    requires { length labels.now.lefts.now ≡ length rest.now.lefts.now }
+    ensures { Found (length rest.now.lefts.now) (λ j. (lt eps (get_or rest.now.lefts.now j nan) ≡ true) × (get_or labels.now.lefts.now j 0 ≡ want)) result }
 {
+    let n = rest.lefts.len();
     let mut r = n;
     for j in (0..n).rev() {
-        r = lower(remains(lefts[j]), labels[j] == want, j, r);
+        r = lower(remains(rest.lefts[j]), labels.lefts[j] == want, j, r);
     }
-    r
+    if r < n { Some(r) } else { None }
 }
 
 // Byte k of a relation; 0 past its end.
@@ -41,51 +45,46 @@ fn related(relation: &[u8], i: usize) -> bool
     (byte_of(relation, i >> 3) >> (i & 7)) & 1 == 1
 }
 
-// The first target of t with this label whose bit, counted from `base` on, is set; their number where there is none.
-pub(crate) fn first_right(
-    targets: &[u32],
-    relation: &[u8],
-    base: usize,
-    labels: &[usize],
-    want: usize,
-) -> usize
-    requires { (length targets.now ≤ length labels.now) × (base ≤ 8589934590000) }
-    ensures { FirstOf (length targets.now) result (λ j. (get_or labels.now j 0 ≡ want) × (bit_at relation.now (base + get_or targets.now j 0) ≡ true)) }
+// The first target of t with this label that is related with target i of s.
+pub(crate) fn first_right(test: &Test, labels: &Labels, i: usize, want: usize) -> Option<usize>
+    requires { (i < length test.now.left.targets.now) × (length labels.now.rights.now ≡ length test.now.right.targets.now) × (test.now.states ≤ 2000) }
+    ensures { Found (length test.now.right.targets.now) (λ j. (get_or labels.now.rights.now j 0 ≡ want) × (bit_at test.now.relation.now (get_or test.now.left.targets.now i 0 * test.now.states + get_or test.now.right.targets.now j 0) ≡ true)) result }
 {
-    let mut r = targets.len();
-    for j in (0..targets.len()).rev() {
+    let targets = test.right.targets;
+    let base = test.left.targets[i] as usize * test.states;
+    let n = targets.len();
+    let mut r = n;
+    for j in (0..n).rev() {
         r = lower(
-            labels[j] == want,
-            related(relation, base + targets[j] as usize),
+            labels.rights[j] == want,
+            related(test.relation, base + targets[j] as usize),
             j,
             r,
         );
     }
-    r
+    if r < n { Some(r) } else { None }
 }
 
-// The first of n targets of s with this label that has given something to target k of t; n where there is none.
+// The first target of s with this label that has given something to target k of the `width` of t.
 pub(crate) fn first_back(
-    flows: &[f64],
-    labels: &[usize],
-    n: usize,
+    rest: &Rest,
+    labels: &Labels,
     width: usize,
     k: usize,
     want: usize,
-) -> usize
-    requires { (n ≤ length labels.now) × (n ≤ 31) × (width ≤ 31) × (k < width) × (n * width ≤ length flows.now) }
-    ensures { FirstOf n result (λ j. (get_or labels.now j 0 ≡ want) × (lt eps (get_or flows.now (j * width + k) nan) ≡ true)) }
+) -> Option<usize>
+    requires { (length labels.now.lefts.now ≤ 31) × (width ≤ 31) × (k < width) × (length labels.now.lefts.now * width ≤ length rest.now.flows.now) }
+    ensures { Found (length labels.now.lefts.now) (λ j. (get_or labels.now.lefts.now j 0 ≡ want) × (lt eps (get_or rest.now.flows.now (j * width + k) nan) ≡ true)) result }
 {
+    let n = labels.lefts.len();
     let mut r = n;
     for j in (0..n).rev() {
-        r = lower(labels[j] == want, remains(flows[j * width + k]), j, r);
+        r = lower(
+            labels.lefts[j] == want,
+            remains(rest.flows[j * width + k]),
+            j,
+            r,
+        );
     }
-    r
-}
-
-// Whether none of the labels is g.
-pub(crate) fn none_at(labels: &[usize], g: usize) -> bool
-    ensures { result ≡ true → (j : ℕ) → j < length labels.now → get_or labels.now j 0 ≢ g }
-{
-    !labels.contains(&g)
+    if r < n { Some(r) } else { None }
 }

@@ -5,113 +5,67 @@ ghost use Rattle.flow_routes.proofs.Coding.{Room};
 ghost use Rattle.flow_routes.proofs.Pathing.{Settled};
 ghost use Rattle.flow_routes.proofs.Reaching.{label_of, Tried, Judged, Searched};
 
+use crate::give::Rest;
+use crate::path::Labels;
 use crate::search::first_left;
-use crate::step::{Step, one_step};
-use flow_routes::remains;
-
-// What one try came to: whether the search goes on, with which label of the source and which flow, and else what is known.
-#[derive(Clone, Copy)]
-pub struct Attempt {
-    pub on: bool,
-    pub known: bool,
-    pub passes: bool,
-    pub s: usize,
-    pub total: f64,
-}
-
-// Whether it is known if the flow is enough, and whether it is.
-#[derive(Clone, Copy)]
-pub struct Verdict {
-    pub known: bool,
-    pub passes: bool,
-}
+use crate::step::one_step;
+use flow_links::rows::Test;
+use flow_routes::{Attempt, Step, remains};
 
 const HIGHEST: usize = 8; // the highest label of the source that is tried
 
 // What a step leads to: no flow more after a cut; after a push the flow may be enough; else the search goes on.
 fn after_step(step: Step, s: usize, total: f64, need: f64) -> Attempt
-    ensures { Judged need s total step.pushed step.cut step.amount result.s result.total result.on result.known result.passes }
+    ensures { Judged need s total step result }
 {
-    if step.cut {
-        return Attempt {
-            on: false,
-            known: true,
-            passes: false,
-            s,
-            total,
-        };
-    }
-    if step.pushed {
-        let after = total + step.amount;
-        let enough = need <= after;
-        return Attempt {
-            on: !enough,
-            known: enough,
-            passes: enough,
-            s,
-            total: after,
-        };
-    }
-    Attempt {
-        on: true,
-        known: false,
-        passes: false,
-        s,
-        total,
+    match step {
+        Step::Cut => Attempt::Ended(Some(false)),
+        Step::Risen => Attempt::On {
+            label: s,
+            flow: total,
+        },
+        Step::Pushed(x) => {
+            let after = total + x;
+            if need <= after {
+                Attempt::Ended(Some(true))
+            } else {
+                Attempt::On {
+                    label: s,
+                    flow: after,
+                }
+            }
+        }
     }
 }
 
 // The rise of the source's label, or one step.
 fn try_once(
-    left_targets: &[u32],
-    right_targets: &[u32],
-    states: usize,
-    relation: &[u8],
-    lefts: &mut [f64],
-    rights: &mut [f64],
-    flows: &mut [f64],
-    left_labels: &mut [usize],
-    right_labels: &mut [usize],
+    test: &Test,
+    rest: &mut Rest,
+    labels: &mut Labels,
     s: usize,
     total: f64,
     need: f64,
 ) -> Attempt
-    requires { Room left_targets.now right_targets.now states lefts.old rights.old flows.old × (length left_targets.now ≤ length left_labels.old) × (length right_targets.now ≤ length right_labels.old) × (1 ≤ s) × (s ≤ 8) }
-    ensures { Tried left_targets.now right_targets.now states relation.now need lefts.old rights.old flows.old left_labels.old right_labels.old s total lefts.new rights.new flows.new left_labels.new right_labels.new result.s result.total result.on result.known result.passes }
+    requires { Room test.now.left.targets.now test.now.right.targets.now test.now.states rest.old.lefts.now rest.old.rights.now rest.old.flows.now × (length labels.old.lefts.now ≡ length test.now.left.targets.now) × (length labels.old.rights.now ≡ length test.now.right.targets.now) × (1 ≤ s) × (s ≤ 8) }
+    ensures { Tried test.now.left.targets.now test.now.right.targets.now test.now.states test.now.relation.now need rest.old.lefts.now rest.old.rights.now rest.old.flows.now labels.old.lefts.now labels.old.rights.now s total rest.new.lefts.now rest.new.rights.now rest.new.flows.now labels.new.lefts.now labels.new.rights.now result }
 {
-    let start = first_left(lefts, left_labels, left_targets.len(), s);
-    if start == left_targets.len() {
-        if s < HIGHEST {
-            return Attempt {
-                on: true,
-                known: false,
-                passes: false,
-                s: s + 1,
-                total,
-            };
+    match first_left(rest, labels, s) {
+        Some(start) => {
+            let step = one_step(test, rest, labels, s, start);
+            after_step(step, s, total, need)
         }
-        return Attempt {
-            on: false,
-            known: false,
-            passes: false,
-            s,
-            total,
-        };
+        None => {
+            if s < HIGHEST {
+                Attempt::On {
+                    label: s + 1,
+                    flow: total,
+                }
+            } else {
+                Attempt::Ended(None)
+            }
+        }
     }
-    let step = one_step(
-        left_targets,
-        right_targets,
-        states,
-        relation,
-        lefts,
-        rights,
-        flows,
-        left_labels,
-        right_labels,
-        s,
-        start,
-    );
-    after_step(step, s, total, need)
 }
 
 // After how many tries the search gives up: between rows of over 14 targets a run on a network is soon the quicker way.
@@ -122,53 +76,23 @@ fn tries_of(m: usize, n: usize) -> usize
 }
 
 // Tries until one ends the search.
-fn settle(
-    left_targets: &[u32],
-    right_targets: &[u32],
-    states: usize,
-    relation: &[u8],
-    lefts: &mut [f64],
-    rights: &mut [f64],
-    flows: &mut [f64],
-    left_labels: &mut [usize],
-    right_labels: &mut [usize],
-    before: f64,
-    need: f64,
-) -> Verdict
-    requires { Room left_targets.now right_targets.now states lefts.old rights.old flows.old × (length left_targets.now ≤ length left_labels.old) × (length right_targets.now ≤ length right_labels.old) }
-    ensures { Settled left_targets.now right_targets.now states relation.now need lefts.old rights.old flows.old left_labels.old right_labels.old before result.known result.passes }
+fn settle(test: &Test, rest: &mut Rest, labels: &mut Labels, before: f64, need: f64) -> Option<bool>
+    requires { Room test.now.left.targets.now test.now.right.targets.now test.now.states rest.old.lefts.now rest.old.rights.now rest.old.flows.now × (length labels.old.lefts.now ≡ length test.now.left.targets.now) × (length labels.old.rights.now ≡ length test.now.right.targets.now) }
+    ensures { Settled test.now.left.targets.now test.now.right.targets.now test.now.states test.now.relation.now need rest.old.lefts.now rest.old.rights.now rest.old.flows.now labels.old.lefts.now labels.old.rights.now before result }
 {
     let mut s: usize = 2;
     let mut total = before;
-    let most = tries_of(left_targets.len(), right_targets.len());
+    let most = tries_of(test.left.targets.len(), test.right.targets.len());
     for _ in 0..most {
-        let a = try_once(
-            left_targets,
-            right_targets,
-            states,
-            relation,
-            lefts,
-            rights,
-            flows,
-            left_labels,
-            right_labels,
-            s,
-            total,
-            need,
-        );
-        if !a.on {
-            return Verdict {
-                known: a.known,
-                passes: a.passes,
-            };
+        match try_once(test, rest, labels, s, total, need) {
+            Attempt::On { label, flow } => {
+                s = label;
+                total = flow;
+            }
+            Attempt::Ended(known) => return known,
         }
-        s = a.s;
-        total = a.total;
     }
-    Verdict {
-        known: false,
-        passes: false,
-    }
+    None
 }
 
 // One label where something is left, else another.
@@ -178,46 +102,37 @@ fn label_of(x: f64, some: usize, none: usize) -> usize
     if remains(x) { some } else { none }
 }
 
-// The first labels of n targets.
-fn first_labels(rates: &[f64], n: usize, some: usize, none: usize, labels: &mut [usize])
-    requires { (n ≤ length rates.now) × (n ≤ length labels.old) }
-    ensures { (length labels.new ≡ length labels.old) × ((k : ℕ) → k < n → get_or labels.new k 0 ≡ label_of some none (get_or rates.now k nan)) }
+// A label for each of these rates.
+fn label_all(rates: &[f64], some: usize, none: usize, labels: &mut [usize])
+    requires { length rates.now ≡ length labels.old }
+    ensures { (length labels.new ≡ length labels.old) × ((k : ℕ) → k < length rates.now → get_or labels.new k 0 ≡ label_of some none (get_or rates.now k nan)) }
 {
-    for k in 0..n {
-        labels[k] = label_of(rates[k], some, none);
+    for (k, label) in labels.iter_mut().enumerate() {
+        *label = label_of(rates[k], some, none);
     }
 }
 
-// The search from the first labels: a target of s with rate left is a step farther from the sink, and so is a target of t without.
-pub(crate) fn search_on(
-    left_targets: &[u32],
-    right_targets: &[u32],
-    states: usize,
-    relation: &[u8],
-    lefts: &mut [f64],
-    rights: &mut [f64],
-    flows: &mut [f64],
-    before: f64,
-    need: f64,
-) -> Verdict
-    requires { Room left_targets.now right_targets.now states lefts.old rights.old flows.old }
-    ensures { Searched left_targets.now right_targets.now states relation.now need lefts.old rights.old flows.old before result.known result.passes }
+// The first labels: a target of s with rate left is a step farther from the sink, and so is a target of t without.
+fn first_labels(rest: &Rest, labels: &mut Labels)
+    requires { (length rest.now.lefts.now ≡ length labels.old.lefts.now) × (length rest.now.rights.now ≡ length labels.old.rights.now) }
+    ensures lefts { (length labels.new.lefts.now ≡ length labels.old.lefts.now) × ((i : ℕ) → i < length rest.now.lefts.now → get_or labels.new.lefts.now i 0 ≡ label_of 2 1 (get_or rest.now.lefts.now i nan)) }
+    ensures rights { (length labels.new.rights.now ≡ length labels.old.rights.now) × ((k : ℕ) → k < length rest.now.rights.now → get_or labels.new.rights.now k 0 ≡ label_of 1 2 (get_or rest.now.rights.now k nan)) }
 {
-    let mut left_labels = [1usize; 31];
-    let mut right_labels = [1usize; 31];
-    first_labels(lefts, left_targets.len(), 2, 1, &mut left_labels);
-    first_labels(rights, right_targets.len(), 1, 2, &mut right_labels);
-    settle(
-        left_targets,
-        right_targets,
-        states,
-        relation,
-        lefts,
-        rights,
-        flows,
-        &mut left_labels,
-        &mut right_labels,
-        before,
-        need,
-    )
+    label_all(rest.lefts, 2, 1, labels.lefts);
+    label_all(rest.rights, 1, 2, labels.rights);
+}
+
+// The search from the first labels.
+pub(crate) fn search_on(test: &Test, rest: &mut Rest, before: f64, need: f64) -> Option<bool>
+    requires { Room test.now.left.targets.now test.now.right.targets.now test.now.states rest.old.lefts.now rest.old.rights.now rest.old.flows.now }
+    ensures { Searched test.now.left.targets.now test.now.right.targets.now test.now.states test.now.relation.now need rest.old.lefts.now rest.old.rights.now rest.old.flows.now before result }
+{
+    let mut lefts = [1usize; 31];
+    let mut rights = [1usize; 31];
+    let mut labels = Labels {
+        lefts: &mut lefts[..test.left.targets.len()],
+        rights: &mut rights[..test.right.targets.len()],
+    };
+    first_labels(rest, &mut labels);
+    settle(test, rest, &mut labels, before, need)
 }

@@ -1,106 +1,67 @@
 // One step of the search: a walk by labels, and then a push along the whole path, or the rise of a label.
-ghost use Rattle.std.specs.Prelude.{◌≡◌, ◌≢◌, true, ℕ, ◌≤◌, ◌<◌, ◌+◌, ◌*◌, length, get_or, set};
+ghost use Rattle.std.specs.Prelude.{◌≡◌, ◌≢◌, true, ℕ, ◌≤◌, ◌<◌, ◌+◌, length, get_or, set};
 ghost use Rattle.flow_routes.proofs.Coding.{Placed, Sized, Room};
 ghost use Rattle.flow_routes.proofs.Pathing.{LeastIs, SendsAll, Stepped};
 
-use crate::path::{LEFT, RIGHT, least, push, walk};
-use crate::search::none_at;
-use flow_routes::remains;
+use crate::give::Rest;
+use crate::path::{Labels, Path, least, push, walk};
+use flow_links::rows::Test;
+use flow_routes::{Step, Stop, remains};
 
-// What a step came to: whether it pushed, how much, and whether no path is left.
-#[derive(Clone, Copy)]
-pub struct Step {
-    pub pushed: bool,
-    pub cut: bool,
-    pub amount: f64,
-}
-
-// Target i rises above label g; gives whether none of the first n has that label then.
-fn rise(labels: &mut [usize], n: usize, i: usize, g: usize) -> bool
-    requires { (i < length labels.old) × (n ≤ length labels.old) × (g ≤ 8) }
-    ensures { (labels.new ≡ set labels.old i (g + 1)) × (result ≡ true → (j : ℕ) → j < n → get_or labels.new j 0 ≢ g) }
+// Target i rises above label g; gives whether none has that label then.
+fn rise(labels: &mut [usize], i: usize, g: usize) -> bool
+    requires { (i < length labels.old) × (g ≤ 8) }
+    ensures { (labels.new ≡ set labels.old i (g + 1)) × (result ≡ true → (j : ℕ) → j < length labels.old → get_or labels.new j 0 ≢ g) }
 {
     labels[i] = g + 1;
-    none_at(&labels[..n], g)
+    !labels.contains(&g)
 }
 
 // Pushes the least that is left on a whole path along it; gives how much.
-fn send(
-    lefts: &mut [f64],
-    rights: &mut [f64],
-    flows: &mut [f64],
-    rows: usize,
-    width: usize,
-    s: usize,
-    by_left: &[usize],
-    by_right: &[usize],
-) -> f64
-    requires { (rows ≤ 31) × (width ≤ 31) × (rows ≤ length lefts.old) × (width ≤ length rights.old) × (rows * width ≤ length flows.old) × (s ≤ 8) × Placed rows width s by_left.now by_right.now 1 0 × (length by_left.now ≡ 10) × (length by_right.now ≡ 10) }
-    ensures { LeastIs width lefts.old rights.old flows.old s by_left.now by_right.now result × Sized lefts.old rights.old flows.old lefts.new rights.new flows.new × SendsAll width lefts.old rights.old flows.old s by_left.now by_right.now result lefts.new rights.new flows.new }
+fn send(test: &Test, rest: &mut Rest, s: usize, path: &Path) -> f64
+    requires { Room test.now.left.targets.now test.now.right.targets.now test.now.states rest.old.lefts.now rest.old.rights.now rest.old.flows.now × (s ≤ 8) × Placed (length test.now.left.targets.now) (length test.now.right.targets.now) s path.now.lefts path.now.rights 1 0 }
+    ensures { LeastIs (length test.now.right.targets.now) rest.old.lefts.now rest.old.rights.now rest.old.flows.now s path.now.lefts path.now.rights result × Sized rest.old.lefts.now rest.old.rights.now rest.old.flows.now rest.new.lefts.now rest.new.rights.now rest.new.flows.now × SendsAll (length test.now.right.targets.now) rest.old.lefts.now rest.old.rights.now rest.old.flows.now s path.now.lefts path.now.rights result rest.new.lefts.now rest.new.rights.now rest.new.flows.now }
 {
-    let x = least(lefts, rights, flows, rows, width, s, by_left, by_right);
-    push(lefts, rights, flows, rows, width, s, by_left, by_right, x);
+    let x = least(test, rest, s, path);
+    push(test, rest, s, path, x);
     x
 }
 
 // One step from target `start` of s, which has the source's label s.
 pub(crate) fn one_step(
-    left_targets: &[u32],
-    right_targets: &[u32],
-    states: usize,
-    relation: &[u8],
-    lefts: &mut [f64],
-    rights: &mut [f64],
-    flows: &mut [f64],
-    left_labels: &mut [usize],
-    right_labels: &mut [usize],
+    test: &Test,
+    rest: &mut Rest,
+    labels: &mut Labels,
     s: usize,
     start: usize,
 ) -> Step
-    requires { Room left_targets.now right_targets.now states lefts.old rights.old flows.old × (length left_targets.now ≤ length left_labels.old) × (length right_targets.now ≤ length right_labels.old) × (1 ≤ s) × (s ≤ 8) × (start < length left_targets.now) }
-    ensures { Stepped left_targets.now right_targets.now states relation.now lefts.old rights.old flows.old left_labels.old right_labels.old s start lefts.new rights.new flows.new left_labels.new right_labels.new result.pushed result.cut result.amount }
+    requires { Room test.now.left.targets.now test.now.right.targets.now test.now.states rest.old.lefts.now rest.old.rights.now rest.old.flows.now × (length labels.old.lefts.now ≡ length test.now.left.targets.now) × (length labels.old.rights.now ≡ length test.now.right.targets.now) × (1 ≤ s) × (s ≤ 8) × (start < length test.now.left.targets.now) }
+    ensures { Stepped test.now.left.targets.now test.now.right.targets.now test.now.states test.now.relation.now rest.old.lefts.now rest.old.rights.now rest.old.flows.now labels.old.lefts.now labels.old.rights.now s start rest.new.lefts.now rest.new.rights.now rest.new.flows.now labels.new.lefts.now labels.new.rights.now result }
 {
-    let mut by_left = [0usize; 10];
-    let mut by_right = [0usize; 10];
-    let stop = walk(
-        left_targets,
-        right_targets,
-        states,
-        relation,
-        flows,
-        left_labels,
-        right_labels,
-        s,
-        start,
-        &mut by_left,
-        &mut by_right,
-    );
-    let g = stop.label;
-    if stop.side == LEFT {
-        let cut = rise(left_labels, left_targets.len(), by_left[g], g);
-        return Step {
-            pushed: false,
-            cut,
-            amount: 0.0,
-        };
-    }
-    let k = by_right[g];
-    if stop.side != RIGHT {
-        if remains(rights[k]) {
-            let rows = left_targets.len();
-            let width = right_targets.len();
-            let x = send(lefts, rights, flows, rows, width, s, &by_left, &by_right);
-            return Step {
-                pushed: true,
-                cut: false,
-                amount: x,
-            };
+    let mut path = Path {
+        lefts: [0; 10],
+        rights: [0; 10],
+    };
+    match walk(test, rest, labels, s, start, &mut path) {
+        Stop::Left(g) => {
+            if rise(labels.lefts, path.lefts[g], g) {
+                Step::Cut
+            } else {
+                Step::Risen
+            }
         }
-    }
-    right_labels[k] = g + 1;
-    Step {
-        pushed: false,
-        cut: false,
-        amount: 0.0,
+        Stop::Right(g) => {
+            labels.rights[path.rights[g]] = g + 1;
+            Step::Risen
+        }
+        Stop::Sink => {
+            let k = path.rights[1];
+            if remains(rest.rights[k]) {
+                Step::Pushed(send(test, rest, s, &path))
+            } else {
+                labels.rights[k] = 2;
+                Step::Risen
+            }
+        }
     }
 }

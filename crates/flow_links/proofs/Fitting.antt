@@ -1,7 +1,7 @@
 -- Two rows that fit a flow test: what the checks say, that their links have room, and what stands in both rows once they are written.
-use mathlib.Core.Path.{◌≡◌, refl, sym, ap, ◌∙◌}
+use mathlib.Core.Path.{◌≡◌, sym, ap, ◌∙◌}
 use Prim.Native.Nat.{ℕ, ◌+◌, ◌-◌, ◌*◌, ◌≤◌}
-use mathlib.Core.Bool.{Bool, true, false, ◌&&◌, cond}
+use mathlib.Core.Bool.{Bool, true, ◌&&◌, cond}
 use mathlib.Core.List.{List, ◌++◌}
 use native.Mathlib.Omega.{arith}
 use native.Mathlib.Nat.{mul-le-mul, mul_comm}
@@ -10,6 +10,7 @@ use lib.ListN.{length, take, drop, length-append, length-drop, take-append-drop}
 use lib.Seq.{take-append_seam}
 use lib.Ieee.{Float}
 use borrow.Author.Tests.{eqb-true, le-leb}
+use Rattle.std.specs.Prelude.{Option, Some, is_some}
 use Rattle.numbers.specs.Lists.{all, over}
 use Rattle.numbers.proofs.Bools.{t_of, and_t}
 use Rattle.epsdelta_theory.specs.Jumps.{jumps_of}
@@ -17,7 +18,9 @@ use Rattle.epsdelta_theory.specs.Relation.{relation_of}
 use Rattle.epsdelta_theory.specs.FlowTest.{Link, links_of, heads, caps}
 use Rattle.epsdelta_theory.proofs.FlowTests.{heads_length, caps_length}
 use Rattle.epsdelta_theory.proofs.LinkRows.{Added, Free, has_room, row_links}
+use Rattle.flow_links.specs.declared.rows.Test.{Test}
 use Rattle.flow_links.specs.Fits.{rate_fits, row_fits, fits}
+use Rattle.flow_links.specs.Lent.{places_if}
 use Rattle.flow_links.proofs.LinkWrites.{links_are, links_most}
 
 -- where the bits of a state start
@@ -53,6 +56,10 @@ module _ (us : List ℕ) (vs : List Float) (ts : List ℕ) (ws : List Float) (n 
   pub all_fit : n ≤ 2000 → row_fits us vs ≡ true → {b : Bool} → row_fits ts ws ≡ b → fits us vs ts ws n ≡ b
   all_fit states a d = ap (λ (b : Bool). b && (row_fits us vs && row_fits ts ws)) (le-leb n 2000 states) ∙ ap (λ (b : Bool). b && row_fits ts ws) a ∙ d
 
+-- of a test that is lent
+abbrev pub TestFit : Test → Type 0
+TestFit T = Fit T.left.targets.now T.left.rates.now T.right.targets.now T.right.rates.now T.states
+
 -- ---- room
 
 -- at most 1,023 links
@@ -84,42 +91,29 @@ module _ {us : List ℕ} {vs : List Float} {ts : List ℕ} {ws : List Float} {n 
 abbrev rooms : List ℕ → List ℕ → List ℕ → List Float → Bool
 rooms us ts h c = has_room (length us) (length ts) (length h) && has_room (length us) (length ts) (length c)
 
--- what `write_links` says: whether links were written, how many places they take, and both rows then
-abbrev pub Written : List ℕ → List Float → List ℕ → List Float → ℕ → List Bool → List ℕ → List Float → Bool → ℕ → List ℕ → List Float → Type 0
-Written us vs ts ws n R h c d k h' c' =
+-- what `write_links` says: how many places the links take, if they were written, and both rows then
+abbrev pub Written : List ℕ → List Float → List ℕ → List Float → ℕ → List Bool → List ℕ → List Float → Option ℕ → List ℕ → List Float → Type 0
+Written us vs ts ws n R h c o h' c' =
     let ls = links_of n R (jumps_of us vs) (jumps_of ts ws) in
-    (d ≡ (fits us vs ts ws n && rooms us ts h c)) × ((k ≡ cond d (length (heads ls)) 0) × ((h' ≡ cond d (over (heads ls) h) h) × (c' ≡ cond d (over (caps ls) c) c)))
+    (o ≡ places_if (fits us vs ts ws n && rooms us ts h c) (heads ls)) × (h' ≡ cond (is_some o) (over (heads ls) h) h) × (c' ≡ cond (is_some o) (over (caps ls) c) c)
 
 laid_over : {A : Type 0} (new old l : List A) (k : ℕ) → k ≡ length new → take k l ≡ new → drop k l ≡ drop k old → l ≡ over new old
 laid_over {A} new old l k z a b = sym (take-append-drop k l) ∙ ap (λ (x : List A). x ++ drop k l) a ∙ ap (λ (x : List A). new ++ x) (b ∙ ap (λ (i : ℕ). drop i old) z)
 
-module _ (us : List ℕ) (vs : List Float) (ts : List ℕ) (ws : List Float) (n : ℕ) (f : fits us vs ts ws n ≡ true) where
-  pub done_is : (store h : List ℕ) (c : List Float) → (has_room (length us) (length ts) (length h) && has_room (length us) (length ts) (length c)) ≡ true
-      → {k : ℕ} {h' : List ℕ} {c' : List Float} → Added (row_links store n us vs ts ws) h c 0 h' c' k → Written us vs ts ws n (relation_of store) h c true k h' c'
-  done_is store h c e {k} {h'} {c'} A =
-      let F = fit us vs ts ws n f in
-      let ls = links_of n (relation_of store) (jumps_of us vs) (jumps_of ts ws) in
-      let z : row_links store n us vs ts ws ≡ ls = links_are n store us vs ts ws F.left.rates F.right.rates in
-      let p : k ≡ length (heads ls) = A.count ∙ ap (λ (l : List Link). 0 + (length l + length l)) z ∙ let q = heads_length ls in omega arith in
-      (sym (ap (λ (b : Bool). b && rooms us ts h c) f ∙ e), (p, (laid_over (heads ls) h h' k p (A.heads_is ∙ ap heads z) A.heads_rest, laid_over (caps ls) c c' k (p ∙ sym (caps_length ls)) (A.caps_is ∙ ap caps z) A.caps_rest)))
-
-  pub no_room : (R : List Bool) (h : List ℕ) (c : List Float) → (has_room (length us) (length ts) (length h) && has_room (length us) (length ts) (length c)) ≡ false → Written us vs ts ws n R h c false 0 h c
-  no_room R h c e = (sym (ap (λ (b : Bool). b && rooms us ts h c) f ∙ e), (refl, (refl, refl)))
-
-pub no_fit : (us : List ℕ) (vs : List Float) (ts : List ℕ) (ws : List Float) (n : ℕ) (R : List Bool) (h : List ℕ) (c : List Float) → fits us vs ts ws n ≡ false → Written us vs ts ws n R h c false 0 h c
-no_fit us vs ts ws n R h c f = (sym (ap (λ (b : Bool). b && rooms us ts h c) f), (refl, (refl, refl)))
+-- rows that fit have their links written where there is room
+pub done_is : (us : List ℕ) (vs : List Float) (ts : List ℕ) (ws : List Float) (n : ℕ) → fits us vs ts ws n ≡ true → (store h : List ℕ) (c : List Float) → (has_room (length us) (length ts) (length h) && has_room (length us) (length ts) (length c)) ≡ true
+    → {k : ℕ} {h' : List ℕ} {c' : List Float} → Added (row_links store n us vs ts ws) h c 0 h' c' k → Written us vs ts ws n (relation_of store) h c (Some k) h' c'
+done_is us vs ts ws n f store h c e {k} {h'} {c'} A =
+    let F = fit us vs ts ws n f in
+    let ls = links_of n (relation_of store) (jumps_of us vs) (jumps_of ts ws) in
+    let z : row_links store n us vs ts ws ≡ ls = links_are n store us vs ts ws F.left.rates F.right.rates in
+    let p : k ≡ length (heads ls) = A.count ∙ ap (λ (l : List Link). 0 + (length l + length l)) z ∙ let q = heads_length ls in omega arith in (
+      ap (λ (x : ℕ). Some x) p ∙ ap (λ (b : Bool). places_if b (heads ls)) (sym (ap (λ (b : Bool). b && rooms us ts h c) f ∙ e)),
+      laid_over (heads ls) h h' k p (A.heads_is ∙ ap heads z) A.heads_rest,
+      laid_over (caps ls) c c' k (p ∙ sym (caps_length ls)) (A.caps_is ∙ ap caps z) A.caps_rest,
+    )
 
 -- ---- what the rows are for whoever asked
-
--- where rows fit, there is room
-abbrev pub Roomy : List ℕ → List Float → List ℕ → List Float → ℕ → List ℕ → List Float → Type 0
-Roomy us vs ts ws n h c = fits us vs ts ws n ≡ true → (has_room (length us) (length ts) (length h) && has_room (length us) (length ts) (length c)) ≡ true
-
--- there is room for at most m targets each way
-pub roomy : (m k : ℕ) → 2 * (m + m + m * m) ≤ k → (us : List ℕ) (vs : List Float) (ts : List ℕ) (ws : List Float) (n : ℕ) (h : List ℕ) (c : List Float) → length us ≤ m → length ts ≤ m → length h ≡ k → length c ≡ k → Roomy us vs ts ws n h c
-roomy m k l us vs ts ws n h c a b x y f =
-    let p = mul-le-mul a b in
-    rw (x, y, let q : leb (2 * (length us + length ts + length us * length ts)) k ≡ true = le-leb (2 * (length us + length ts + length us * length ts)) k (omega arith) in q)
 
 -- the links were written: the rows fit, and the links stand in front
 pub record Laid (us : List ℕ) (vs : List Float) (ts : List ℕ) (ws : List Float) (n : ℕ) (R : List Bool) (h : List ℕ) (k : ℕ) (h' : List ℕ) (c' : List Float) : Type 0 where
@@ -134,24 +128,26 @@ module _ (us : List ℕ) (vs : List Float) (ts : List ℕ) (ws : List Float) (n 
   abbrev links : List Link
   links = links_of n (relation_of store) (jumps_of us vs) (jumps_of ts ws)
 
-  pub laid : {d : Bool} {k : ℕ} {h' : List ℕ} {c' : List Float} → Written us vs ts ws n (relation_of store) h c d k h' c' → d ≡ true → Laid us vs ts ws n (relation_of store) h k h' c'
-  laid {d} {k} {h'} {c'} w t =
-      let (f, r) = and_t (fits us vs ts ws n) (rooms us ts h c) (sym w.0 ∙ t) in
+  pub laid : {o : Option ℕ} {h' : List ℕ} {c' : List Float} → Written us vs ts ws n (relation_of store) h c o h' c' → fits us vs ts ws n ≡ true → rooms us ts h c ≡ true → (o ≡ Some (length (heads links))) × Laid us vs ts ws n (relation_of store) h (length (heads links)) h' c'
+  laid {o} {h'} {c'} w f r =
       let F = fit us vs ts ws n f in
       let free = (room F store h c r).heads_room in
+      let more = (room F store h c r).caps_room in
       let m = ap length (links_are n store us vs ts ws F.left.rates F.right.rates) in
       let l = heads_length links in
-      let p : k ≡ length (heads links) = w.1.0 ∙ ap (λ (b : Bool). cond b (length (heads links)) 0) t in
-      let q : k ≡ length (caps links) = p ∙ sym (caps_length links) in
-      let hs : h' ≡ over (heads links) h = w.1.1.0 ∙ ap (λ (b : Bool). cond b (over (heads links) h) h) t in
-      let cs : c' ≡ over (caps links) c = w.1.1.1 ∙ ap (λ (b : Bool). cond b (over (caps links) c) c) t in
+      let q = caps_length links in
+      let d : o ≡ Some (length (heads links)) = w.0 ∙ ap (λ (b : Bool). places_if (b && rooms us ts h c) (heads links)) f ∙ ap (λ (b : Bool). places_if b (heads links)) r in
+      let hs : h' ≡ over (heads links) h = w.1 ∙ ap (λ (x : Option ℕ). cond (is_some x) (over (heads links) h) h) d in
+      let cs : c' ≡ over (caps links) c = w.2 ∙ ap (λ (x : Option ℕ). cond (is_some x) (over (caps links) c) c) d in
       let i : length h' ≡ length (heads links) + (length h - length (heads links)) = ap length hs ∙ length-append (heads links) (drop (length (heads links)) h) ∙ ap (λ (x : ℕ). length (heads links) + x) (length-drop (length (heads links)) h) in
-      let j = ap length cs ∙ length-append (caps links) (drop (length (caps links)) c) in
-      record {
-        fitting = f;
-        heads_is = ap (λ (x : ℕ). take x h') p ∙ ap (take (length (heads links))) hs ∙ take-append_seam (heads links) (drop (length (heads links)) h);
-        caps_is = ap (λ (x : ℕ). take x c') q ∙ ap (take (length (caps links))) cs ∙ take-append_seam (caps links) (drop (length (caps links)) c);
-        heads_in = omega arith;
-        caps_in = omega arith;
-        heads_size = omega arith;
-      }
+      let j = ap length cs ∙ length-append (caps links) (drop (length (caps links)) c) in (
+        d,
+        record {
+          fitting = f;
+          heads_is = ap (take (length (heads links))) hs ∙ take-append_seam (heads links) (drop (length (heads links)) h);
+          caps_is = ap (λ (x : ℕ). take x c') (sym q) ∙ ap (take (length (caps links))) cs ∙ take-append_seam (caps links) (drop (length (caps links)) c);
+          heads_in = omega arith;
+          caps_in = omega arith;
+          heads_size = omega arith;
+        },
+      )

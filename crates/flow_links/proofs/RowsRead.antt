@@ -11,6 +11,8 @@ use Rattle.numbers.specs.Bits.{packed}
 use Rattle.epsdelta_theory.specs.Relation.{relation_bytes}
 use Rattle.epsdelta_theory.specs.Jumps.{Jumps, Row, jumps_of}
 use Rattle.epsdelta_theory.specs.Epsdelta.{given_rows, epsdelta}
+use Rattle.epsdelta_theory.proofs.TasksIn.{RowsFit}
+use Rattle.flow_links.specs.declared.rows.Rows.{Rows}
 use Rattle.flow_links.specs.Fits.{row_fits}
 
 -- the entries of state s, from starts[s] up to starts[s + 1]
@@ -20,6 +22,10 @@ entries starts l s = slice (get_or starts s 0) (get_or starts (s + 1) 0) l
 -- its row
 abbrev pub row_at : List Float → List ℕ → List ℕ → List Float → ℕ → Row
 row_at exits starts targets probs s = record { exit = get_or exits s nan; prob = jumps_of (entries starts targets s) (entries starts probs s) }
+
+-- rows that a flow test takes, lent
+abbrev pub Fitting : Rows → Type 0
+Fitting R = RowsFit R.states R.starts.now R.targets.now R.probs.now
 
 -- the rows of n states
 unfoldable pub rows_in : ℕ → List Float → List ℕ → List ℕ → List Float → Jumps

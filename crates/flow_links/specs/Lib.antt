@@ -1,1 +1,3 @@
 pub mod Fits
+pub mod Lent
+pub mod Rows

@@ -1,8 +1,10 @@
 // Which rows fit a flow test.
 ghost use Rattle.std.specs.Prelude.{◌≡◌};
 ghost use Rattle.numbers.specs.Lists.{all};
-ghost use Rattle.flow_links.specs.Fits.{rate_fits, row_fits, fits};
+ghost use Rattle.flow_links.specs.Fits.{rate_fits, row_fits};
+ghost use Rattle.flow_links.specs.Lent.{test_fits};
 
+use crate::rows::{Row, Test};
 use numbers::GREATEST_WEIGHT;
 
 // A rate from 0 to 2^40.
@@ -19,22 +21,20 @@ fn rates_fit(rates: &[f64]) -> bool
     rates.iter().all(|w| rate_fits(*w))
 }
 
-// At most 31 targets, each with a rate from 0 to 2^40.
-pub fn row_fits(targets: &[u32], rates: &[f64]) -> bool
-    ensures { result ≡ row_fits targets.now rates.now }
-{
-    targets.len() <= 31 && rates.len() == targets.len() && rates_fit(rates)
+impl Row<'_> {
+    // At most 31 targets, each with a rate from 0 to 2^40.
+    pub fn fits(&self) -> bool
+        ensures { result ≡ row_fits self.now.targets.now self.now.rates.now }
+    {
+        self.targets.len() <= 31 && self.rates.len() == self.targets.len() && rates_fit(self.rates)
+    }
 }
 
-// Two rows, and a relation over at most 2,000 states.
-pub fn rows_fit(
-    left_targets: &[u32],
-    left_rates: &[f64],
-    right_targets: &[u32],
-    right_rates: &[f64],
-    states: usize,
-) -> bool
-    ensures { result ≡ fits left_targets.now left_rates.now right_targets.now right_rates.now states }
-{
-    states <= 2000 && row_fits(left_targets, left_rates) && row_fits(right_targets, right_rates)
+impl Test<'_> {
+    // Both rows fit, and the relation is over at most 2,000 states.
+    pub fn fits(&self) -> bool
+        ensures { result ≡ test_fits self.now }
+    {
+        self.states <= 2000 && self.left.fits() && self.right.fits()
+    }
 }

@@ -1,4 +1,4 @@
-// The rows of jumps that flow tests read, and a relation.
+// The rows of jumps that flow tests read.
 ghost use Rattle.std.specs.Prelude.{◌≡◌};
 
 // The rows of all states: the exit rate of each, and its jumps at starts[s]..starts[s + 1] of targets and probs.
@@ -18,28 +18,24 @@ pub struct Row<'a> {
     pub rates: &'a [f64],
 }
 
-// The two rows of a flow test, which goes from left to right.
+// A flow test between two rows against a relation over so many states: bit u * states + v of it says whether v is related with u.
 #[derive(Clone, Copy, Debug)]
-pub struct Pair<'a> {
+pub struct Test<'a> {
     pub left: Row<'a>,
     pub right: Row<'a>,
+    pub states: usize,
+    pub relation: &'a [u8],
 }
 
-impl<'a> Pair<'a> {
-    // The rows of the test back.
-    pub fn back(&self) -> Pair<'a>
-        ensures { (result.left ≡ self.now.right) × (result.right ≡ self.now.left) }
+impl<'a> Test<'a> {
+    // The test back, from the right row to the left one.
+    pub fn back(&self) -> Test<'a>
+        ensures { (result.left ≡ self.now.right) × (result.right ≡ self.now.left) × (result.states ≡ self.now.states) × (result.relation ≡ self.now.relation) }
     {
-        Pair {
+        Test {
             left: self.right,
             right: self.left,
+            ..*self
         }
     }
-}
-
-// A relation over so many states: bit u * states + v says whether v is related with u.
-#[derive(Clone, Copy, Debug)]
-pub struct Relation<'a> {
-    pub states: usize,
-    pub bits: &'a [u8],
 }

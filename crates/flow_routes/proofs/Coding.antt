@@ -3,12 +3,13 @@ use mathlib.Core.Path.{◌≡◌, refl, sym, ap, subst, subst⁻¹, ◌∙◌}
 use Prim.Native.Nat.{ℕ, suc, ◌≤◌, ◌<◌, ◌+◌, ◌-◌, ◌*◌}
 use mathlib.Core.Bool.{Bool, true, false, true≢false}
 use mathlib.Core.Logic.{◌≢◌, ◌⊎◌, inl, inr}
-use mathlib.Core.List.{List, ◌++◌}
+use mathlib.Core.List.{List}
 use native.Mathlib.Omega.{arith}
 use native.Mathlib.Nat.{mul-le-mul}
-use lib.ListN.{length, get_or, set, length-set, get_or-append}
+use lib.ListN.{length, get_or, set, length-set}
 use lib.Seq.{get_or-set_same, get_or-set_other}
 use lib.Ieee.{Float, nan, binary64, lt, add, sub}
+use Rattle.std.specs.Prelude.{Option, Some, None}
 use Rattle.numbers.specs.Real.{eps}
 use Rattle.numbers.specs.Bits.{bit_at}
 use Rattle.numbers.specs.Choice.{smaller}
@@ -29,8 +30,8 @@ pub record Room (us ts : List ℕ) (n : ℕ) (A B F : List Float) : Type 0 where
   pub states : n ≤ 2000
   pub lefts : length us ≤ 31
   pub rights : length ts ≤ 31
-  pub room_a : length us ≤ length A
-  pub room_b : length ts ≤ length B
+  pub size_a : length A ≡ length us
+  pub size_b : length B ≡ length ts
   pub room_f : length us * length ts ≤ length F
 
 -- the lists are as long as they were
@@ -51,11 +52,24 @@ pub record FirstOf (n r : ℕ) (P : ℕ → Type 0) : Type 0 where
   pub found : r < n → P r
   pub none : (j : ℕ) → j < r → P j → ⊥
 
+-- the same, if there is one
+abbrev pub Found : ℕ → (ℕ → Type 0) → Option ℕ → Type 0
+Found n P (Some r) = (r < n) × FirstOf n r P
+Found n P None = FirstOf n n P
+
 -- of the numbers from j on, r is the first below n of which P holds, or n
 pub record FirstFrom (n j r : ℕ) (P : ℕ → Type 0) : Type 0 where
   pub upto : r ≤ n
   pub found : r < n → P r
   pub none : (i : ℕ) → j ≤ i → i < r → P i → ⊥
+
+-- a search that has come to the first number: it found one, or none
+module _ {n j r : ℕ} {P : ℕ → Type 0} (I : FirstFrom n j r P) (e : j ≤ 0) where
+  pub found_one : r < n → Found n P (Some r)
+  found_one h = (h, record { upto = I.upto; found = I.found; none = λ i l x. I.none i (omega arith) l x })
+
+  pub found_none : n ≤ r → Found n P None
+  found_none h = record { upto = omega arith; found = λ l. absurd (omega arith); none = λ i l x. I.none i (omega arith) (omega arith) x }
 
 -- one number down: q is j where P holds of it, and else r
 pub from_down : {n j r : ℕ} {P : ℕ → Type 0} → FirstFrom n j r P → 0 < j → j ≤ n → {q : ℕ} → ((q ≡ j - 1) × P (j - 1)) ⊎ ((q ≡ r) × (P (j - 1) → ⊥)) → FirstFrom n (j - 1) q P
@@ -76,12 +90,6 @@ pub both_or_none : {j r q : ℕ} {X Y : Type 0} (one two : Bool) → (one ≡ tr
 both_or_none true true (a, b, c) f g h k = inl (a refl refl, (f refl, h refl))
 both_or_none true false (a, b, c) f g h k = inr (c refl, λ p. k refl p.1)
 both_or_none false two (a, b, c) f g h k = inr (b refl, λ p. g refl p.0)
-
--- ---- a copy
-
--- what was copied to the front stands there
-pub front : {s d : List Float} (rest : List Float) → d ≡ s → (i : ℕ) → i < length s → get_or (d ++ rest) i nan ≡ get_or s i nan
-front {s} rest e i h = rw e (get_or-append s rest nan i h)
 
 -- ---- the first pushes
 

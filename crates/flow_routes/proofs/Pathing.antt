@@ -1,21 +1,26 @@
 -- Words of private contracts: a whole path by labels, the least that is left on it, the push along it, and one step of the search for a flow that is enough.
 use mathlib.Core.Path.{◌≡◌, refl, sym, ap, subst, subst⁻¹, ◌∙◌}
 use Prim.Native.Nat.{ℕ, suc, ◌≤◌, ◌<◌, ◌+◌, ◌-◌, ◌*◌}
-use mathlib.Core.Bool.{Bool, true, false, true≢false, false≢true}
+use mathlib.Core.Bool.{Bool, true, false}
 use mathlib.Core.Logic.{◌≢◌, ◌⊎◌, inl, inr}
 use mathlib.Core.List.{List}
 use native.Mathlib.Omega.{arith}
 use lib.ListN.{length, get_or, set, length-set}
 use lib.Ieee.{Float, nan, inf, binary64, lt, le, add, sub}
+use Rattle.std.specs.Prelude.{Option, Some, IfSome}
 use Rattle.numbers.specs.Real.{eps}
 use Rattle.numbers.specs.Bits.{bit_at}
 use Rattle.numbers.specs.Choice.{smaller}
 use Rattle.numbers.proofs.Bools.{eq_or_ne}
 use Rattle.numbers.proofs.Floats.{Plain}
 use Rattle.flow_theory.specs.Augment.{least}
+use Rattle.flow_routes.specs.declared.Stop.{Stop}
+use Rattle.flow_routes.specs.declared.Stop.TheVariants as stops
+use Rattle.flow_routes.specs.declared.Step.{Step}
+use Rattle.flow_routes.specs.declared.Step.TheVariants as steps
 use Rattle.flow_routes.proofs.Standing.{Rows, flow_of, Standing, Labelled, enough, smaller_above, smaller_plain, raise_left, raise_right, raise_source}
 use Rattle.flow_routes.proofs.Ways.{Trace, way, whole_way, least_begins, least_falls, least_ends, Sending, Sent, plus, minus, sends_source, sends_hop, sends_last, sent_stands, gap_ends}
-use Rattle.flow_routes.proofs.Coding.{Reads, Sized, FirstOf, StartsAt, Walking}
+use Rattle.flow_routes.proofs.Coding.{Reads, Sized, StartsAt, Walking}
 
 -- ---- a whole path
 
@@ -98,77 +103,67 @@ turn_sized x n e f F F₁ F₂ z e₁ e₂ = ap length e₂ ∙ length-set F₁ 
 
 -- ---- where a walk ends
 
--- at a target of s (0) or of t (1) from where no link falls, or at a target of t with label 1 (2)
-pub record Stopped (us ts : List ℕ) (n : ℕ) (store : List ℕ) (F : List Float) (l r : List ℕ) (s start : ℕ) (Ls Rs : List ℕ) (g side : ℕ) : Type 0 where
-  pub left : side ≡ 0 → Walking us ts n store F l r s start Ls Rs g g × ((k : ℕ) → k < length ts → (get_or r k 0 ≡ g) × (bit_at store (get_or us (get_or Ls g 0) 0 * n + get_or ts k 0) ≡ true) → ⊥)
-  pub right : side ≡ 1 → Walking us ts n store F l r s start Ls Rs g (g - 1) × (1 < g) × ((i : ℕ) → i < length us → (get_or l i 0 ≡ g - 1) × (lt eps (get_or F (i * length ts + get_or Rs g 0) nan) ≡ true) → ⊥)
-  pub sink : side ≢ 0 → side ≢ 1 → Walking us ts n store F l r s start Ls Rs 1 0 × (g ≡ 1)
+-- at a target of s or of t from where no link falls, or at a target of t with label 1
+abbrev pub Stopped : List ℕ → List ℕ → ℕ → List ℕ → List Float → List ℕ → List ℕ → ℕ → ℕ → List ℕ → List ℕ → Stop → Type 0
+Stopped us ts n store F l r s start Ls Rs (stops.Left g) = Walking us ts n store F l r s start Ls Rs g g × ((k : ℕ) → k < length ts → (get_or r k 0 ≡ g) × (bit_at store (get_or us (get_or Ls g 0) 0 * n + get_or ts k 0) ≡ true) → ⊥)
+Stopped us ts n store F l r s start Ls Rs (stops.Right g) = Walking us ts n store F l r s start Ls Rs g (g - 1) × (1 < g) × ((i : ℕ) → i < length us → (get_or l i 0 ≡ g - 1) × (lt eps (get_or F (i * length ts + get_or Rs g 0) nan) ≡ true) → ⊥)
+Stopped us ts n store F l r s start Ls Rs stops.Sink = Walking us ts n store F l r s start Ls Rs 1 0
 
 module _ {us ts : List ℕ} {n : ℕ} {store : List ℕ} {F : List Float} {l r : List ℕ} {s start : ℕ} {Ls Rs : List ℕ} {g : ℕ} where
-  pub stops_right : Walking us ts n store F l r s start Ls Rs g (g - 1) → g ≢ 1 → {i : ℕ} → FirstOf (length us) i (λ j. (get_or l j 0 ≡ g - 1) × (lt eps (get_or F (j * length ts + get_or Rs g 0) nan) ≡ true)) → i ≡ length us
-      → Stopped us ts n store F l r s start Ls Rs g 1
-  stops_right W d I e = record { left = λ z. absurd (omega arith); right = λ _. (W, (let o = W.placed.some in omega arith), λ j h p. I.none j (omega arith) p); sink = λ a b. absurd (b refl) }
+  pub stops_right : Walking us ts n store F l r s start Ls Rs g (g - 1) → g ≢ 1 → ((i : ℕ) → i < length us → (get_or l i 0 ≡ g - 1) × (lt eps (get_or F (i * length ts + get_or Rs g 0) nan) ≡ true) → ⊥)
+      → Stopped us ts n store F l r s start Ls Rs (stops.Right g)
+  stops_right W d none = (W, (let o = W.placed.some in omega arith), none)
 
-  pub stops_sink : Walking us ts n store F l r s start Ls Rs g (g - 1) → g ≡ 1 → Stopped us ts n store F l r s start Ls Rs g 2
-  stops_sink W e = record { left = λ z. absurd (omega arith); right = λ z. absurd (omega arith); sink = λ a b. (subst (λ (y : ℕ). Walking us ts n store F l r s start Ls Rs y (y - 1)) e W, e) }
-
-  -- at a target of t
-  pub stopped_right : {side : ℕ} → Stopped us ts n store F l r s start Ls Rs g side → side ≢ 0
-      → Walking us ts n store F l r s start Ls Rs g (g - 1) × (g ≢ 1 → (i : ℕ) → i < length us → (get_or l i 0 ≡ g - 1) × (lt eps (get_or F (i * length ts + get_or Rs g 0) nan) ≡ true) → ⊥)
-  stopped_right {side} Q d = pick (eq_or_ne side 1)
-    where
-      pick : (side ≡ 1) ⊎ (side ≢ 1)
-          → Walking us ts n store F l r s start Ls Rs g (g - 1) × (g ≢ 1 → (i : ℕ) → i < length us → (get_or l i 0 ≡ g - 1) × (lt eps (get_or F (i * length ts + get_or Rs g 0) nan) ≡ true) → ⊥)
-      pick (inl e) = let (W, lo, none) = Q.right e in (W, λ _. none)
-      pick (inr m) = let (W, e) = Q.sink d m in (subst⁻¹ (λ (y : ℕ). Walking us ts n store F l r s start Ls Rs y (y - 1)) e W, λ f. absurd (f e))
+  pub stops_sink : Walking us ts n store F l r s start Ls Rs g (g - 1) → g ≡ 1 → Stopped us ts n store F l r s start Ls Rs stops.Sink
+  stops_sink W e = subst (λ (y : ℕ). Walking us ts n store F l r s start Ls Rs y (y - 1)) e W
 
 -- ---- one step: a label rises, or a push is made
 
--- what a step leaves of every flow test that the lists are of: its flow is t + x after a push of x, and t otherwise; after a cut t is the flow of the whole run
-pub record Stepped (us ts : List ℕ) (n : ℕ) (store : List ℕ) (A₀ B₀ F₀ : List Float) (l₀ r₀ : List ℕ) (s start : ℕ) (A B F : List Float) (l r : List ℕ) (pushed cut : Bool) (x : Float) : Type 0 where
+-- what a step leaves of a flow test: its flow is t + x after a push of x, and t otherwise; after a cut t is the flow of the whole run
+abbrev pub After : Rows → List Float → List Float → List Float → List ℕ → List ℕ → ℕ → Float → Step → Type 0
+After G A B F l r s t (steps.Pushed x) = Standing G A B F (add binary64 t x) × Labelled G A B F l r s
+After G A B F l r s t steps.Risen = Standing G A B F t × Labelled G A B F l r s
+After G A B F l r s t steps.Cut = Standing G A B F t × Labelled G A B F l r s × (t ≡ flow_of G)
+
+-- of every flow test that the lists are of
+pub record Stepped (us ts : List ℕ) (n : ℕ) (store : List ℕ) (A₀ B₀ F₀ : List Float) (l₀ r₀ : List ℕ) (s start : ℕ) (A B F : List Float) (l r : List ℕ) (step : Step) : Type 0 where
   pub sized : Sized A₀ B₀ F₀ A B F
   pub size_l : length l ≡ length l₀
   pub size_r : length r ≡ length r₀
-  pub push : pushed ≡ true → (G : Rows) → Reads G us ts n store → (t : Float) → Standing G A₀ B₀ F₀ t → Labelled G A₀ B₀ F₀ l₀ r₀ s → StartsAt A₀ l₀ s (length us) start
-      → Standing G A B F (add binary64 t x) × Labelled G A B F l r s
-  pub rise : pushed ≡ false → (G : Rows) → Reads G us ts n store → (t : Float) → Standing G A₀ B₀ F₀ t → Labelled G A₀ B₀ F₀ l₀ r₀ s → StartsAt A₀ l₀ s (length us) start
-      → Standing G A B F t × Labelled G A B F l r s
-  pub cuts : cut ≡ true → (G : Rows) → Reads G us ts n store → (t : Float) → Standing G A₀ B₀ F₀ t → Labelled G A₀ B₀ F₀ l₀ r₀ s → StartsAt A₀ l₀ s (length us) start → t ≡ flow_of G
+  pub after : (G : Rows) → Reads G us ts n store → (t : Float) → Standing G A₀ B₀ F₀ t → Labelled G A₀ B₀ F₀ l₀ r₀ s → StartsAt A₀ l₀ s (length us) start → After G A B F l r s t step
 
 module _ {us ts : List ℕ} {n : ℕ} {store : List ℕ} {A B F : List Float} {l r : List ℕ} {s start : ℕ} {Ls Rs : List ℕ} where
   -- the label of a target of s rises; where none has the old one, there is a cut
-  pub steps_left : {g : ℕ} → Walking us ts n store F l r s start Ls Rs g g → ((k : ℕ) → k < length ts → (get_or r k 0 ≡ g) × (bit_at store (get_or us (get_or Ls g 0) 0 * n + get_or ts k 0) ≡ true) → ⊥)
-      → length us ≤ length l → {l' : List ℕ} {cut : Bool} → l' ≡ set l (get_or Ls g 0) (g + 1) → (cut ≡ true → (j : ℕ) → j < length us → get_or l' j 0 ≢ g) → (x : Float)
-      → Stepped us ts n store A B F l r s start A B F l' r false cut x
-  steps_left {g} W none room {l'} {cut} e c x = record {
-    sized = record { size_a = refl; size_b = refl; size_f = refl };
-    size_l = ap length e ∙ length-set l (get_or Ls g 0) (g + 1);
-    size_r = refl;
-    push = λ z. absurd (false≢true z);
-    rise = λ z G R t S J I. (S, raised G R t S J I);
-    cuts = λ z G R t S J I. gap_ends S (raised G R t S J I) g W.placed.some W.placed.upto (λ i h. c z i (rw (← R.lefts) h));
-  }
-    where
-      raised : (G : Rows) → Reads G us ts n store → (t : Float) → Standing G A B F t → Labelled G A B F l r s → StartsAt A l s (length us) start → Labelled G A B F l' r s
-      raised G R t S J I =
-          let T = W.traced G R A B t S I in
-          let u = W.placed.upto in
-          let q = (T.left g (omega arith) u).label in
-          let k = W.placed.lefts g (omega arith) u in
-          subst⁻¹ (λ (y : List ℕ). Labelled G A B F y r s) (e ∙ ap (λ (y : ℕ). set l (get_or Ls g 0) (y + 1)) (sym q))
-          (raise_left J (get_or Ls g 0) (omega arith) (omega arith) (λ j h v z. none j (rw (← R.rights) h) (z ∙ q, R.bit (get_or Ls g 0) j ∙ v)))
+  module _ {g : ℕ} (W : Walking us ts n store F l r s start Ls Rs g g) (none : (k : ℕ) → k < length ts → (get_or r k 0 ≡ g) × (bit_at store (get_or us (get_or Ls g 0) 0 * n + get_or ts k 0) ≡ true) → ⊥) (room : length us ≤ length l) {l' : List ℕ} (e : l' ≡ set l (get_or Ls g 0) (g + 1)) where
+    raised_left : (G : Rows) → Reads G us ts n store → (t : Float) → Standing G A B F t → Labelled G A B F l r s → StartsAt A l s (length us) start → Labelled G A B F l' r s
+    raised_left G R t S J I =
+        let T = W.traced G R A B t S I in
+        let u = W.placed.upto in
+        let q = (T.left g (omega arith) u).label in
+        let k = W.placed.lefts g (omega arith) u in
+        subst⁻¹ (λ (y : List ℕ). Labelled G A B F y r s) (e ∙ ap (λ (y : ℕ). set l (get_or Ls g 0) (y + 1)) (sym q))
+        (raise_left J (get_or Ls g 0) (omega arith) (omega arith) (λ j h v z. none j (rw (← R.rights) h) (z ∙ q, R.bit (get_or Ls g 0) j ∙ v)))
+
+    pub steps_left : Stepped us ts n store A B F l r s start A B F l' r steps.Risen
+    steps_left = record { sized = record { size_a = refl; size_b = refl; size_f = refl }; size_l = ap length e ∙ length-set l (get_or Ls g 0) (g + 1); size_r = refl; after = λ G R t S J I. (S, raised_left G R t S J I) }
+
+    pub steps_cut : ((j : ℕ) → j < length us → get_or l' j 0 ≢ g) → Stepped us ts n store A B F l r s start A B F l' r steps.Cut
+    steps_cut c = record {
+      sized = record { size_a = refl; size_b = refl; size_f = refl };
+      size_l = ap length e ∙ length-set l (get_or Ls g 0) (g + 1);
+      size_r = refl;
+      after = λ G R t S J I. (S, raised_left G R t S J I, gap_ends S (raised_left G R t S J I) g W.placed.some W.placed.upto (λ i h. c i (rw (← R.lefts) h)));
+    }
 
   -- the label of a target of t rises: at label 1 nothing is left of it to the sink, above it no target of s with the label below takes back from it
   pub steps_right : {g : ℕ} → Walking us ts n store F l r s start Ls Rs g (g - 1) → (g ≡ 1 → lt eps (get_or B (get_or Rs g 0) nan) ≡ false)
       → (g ≢ 1 → (i : ℕ) → i < length us → (get_or l i 0 ≡ g - 1) × (lt eps (get_or F (i * length ts + get_or Rs g 0) nan) ≡ true) → ⊥)
-      → length ts ≤ length r → {r' : List ℕ} → r' ≡ set r (get_or Rs g 0) (g + 1) → (x : Float) → Stepped us ts n store A B F l r s start A B F l r' false false x
-  steps_right {g} W off none room {r'} e x = record {
+      → length ts ≤ length r → {r' : List ℕ} → r' ≡ set r (get_or Rs g 0) (g + 1) → Stepped us ts n store A B F l r s start A B F l r' steps.Risen
+  steps_right {g} W off none room {r'} e = record {
     sized = record { size_a = refl; size_b = refl; size_f = refl };
     size_l = refl;
     size_r = ap length e ∙ length-set r (get_or Rs g 0) (g + 1);
-    push = λ z. absurd (false≢true z);
-    rise = λ z G R t S J I. (S, raised G R t S J I);
-    cuts = λ z. absurd (false≢true z);
+    after = λ G R t S J I. (S, raised G R t S J I);
   }
     where
       shut : (G : Rows) → Labelled G A B F l r s → get_or Rs g 0 < length G.pt → get_or r (get_or Rs g 0) 0 ≡ g → (b : Bool) → lt eps (get_or B (get_or Rs g 0) nan) ≡ b → (g ≡ 1) ⊎ (g ≢ 1) → b ≡ false
@@ -193,15 +188,13 @@ module _ {us ts : List ℕ} {n : ℕ} {store : List ℕ} {A B F : List Float} {l
           (raise_right J (get_or Rs g 0) (omega arith) (shut G J Y.low q (lt eps (get_or B (get_or Rs g 0) nan)) refl (eq_or_ne g 1)) (λ i h v w z. none_back G R J q i h w z (eq_or_ne g 1)))
 
   -- a push along a whole path
-  pub steps_push : Walking us ts n store F l r s start Ls Rs 1 0 → {g : ℕ} → g ≡ 1 → lt eps (get_or B (get_or Rs g 0) nan) ≡ true → {x : Float} → LeastIs (length ts) A B F s Ls Rs x → {A' B' F' : List Float} → Sized A B F A' B' F'
-      → SendsAll (length ts) A B F s Ls Rs x A' B' F' → Stepped us ts n store A B F l r s start A' B' F' l r true false x
-  steps_push W e on {x} L Z Q = record {
+  pub steps_push : Walking us ts n store F l r s start Ls Rs 1 0 → lt eps (get_or B (get_or Rs 1 0) nan) ≡ true → {x : Float} → LeastIs (length ts) A B F s Ls Rs x → {A' B' F' : List Float} → Sized A B F A' B' F'
+      → SendsAll (length ts) A B F s Ls Rs x A' B' F' → Stepped us ts n store A B F l r s start A' B' F' l r (steps.Pushed x)
+  steps_push W on {x} L Z Q = record {
     sized = Z;
     size_l = refl;
     size_r = refl;
-    push = λ z G R t S J I. Q L G l r t (record { width = R.rights; standing = S; labelled = J; trace = W.traced G R A B t S I; spare = ap (λ (y : ℕ). lt eps (get_or B (get_or Rs y 0) nan)) (sym e) ∙ on });
-    rise = λ z. absurd (true≢false z);
-    cuts = λ z. absurd (false≢true z);
+    after = λ G R t S J I. Q L G l r t (record { width = R.rights; standing = S; labelled = J; trace = W.traced G R A B t S I; spare = on });
   }
 
 -- ---- the search for a flow that is enough
@@ -216,10 +209,10 @@ pub record Settling (us ts : List ℕ) (n : ℕ) (store : List ℕ) (need : Floa
   pub short : le need t₀ ≡ false → le need t ≡ false
   pub state : (G : Rows) → Reads G us ts n store → Standing G A₀ B₀ F₀ t₀ → Labelled G A₀ B₀ F₀ l₀ r₀ 2 → Standing G A B F t × Labelled G A B F l r s
 
--- what is known at its end
-abbrev pub Settled : List ℕ → List ℕ → ℕ → List ℕ → Float → List Float → List Float → List Float → List ℕ → List ℕ → Float → Bool → Bool → Type 0
-Settled us ts n store need A₀ B₀ F₀ l₀ r₀ t₀ known passes =
-    known ≡ true → le need t₀ ≡ false → (G : Rows) → Reads G us ts n store → Standing G A₀ B₀ F₀ t₀ → Labelled G A₀ B₀ F₀ l₀ r₀ 2 → passes ≡ le need (flow_of G)
+-- what is known at its end, if anything is
+abbrev pub Settled : List ℕ → List ℕ → ℕ → List ℕ → Float → List Float → List Float → List Float → List ℕ → List ℕ → Float → Option Bool → Type 0
+Settled us ts n store need A₀ B₀ F₀ l₀ r₀ t₀ known =
+    IfSome known (λ passes. le need t₀ ≡ false → (G : Rows) → Reads G us ts n store → Standing G A₀ B₀ F₀ t₀ → Labelled G A₀ B₀ F₀ l₀ r₀ 2 → passes ≡ le need (flow_of G))
 
 module _ {us ts : List ℕ} {n : ℕ} {store : List ℕ} {need : Float} {A₀ B₀ F₀ : List Float} {l₀ r₀ : List ℕ} {t₀ : Float} {A B F : List Float} {l r : List ℕ} {s : ℕ} {t : Float} (I : Settling us ts n store need A₀ B₀ F₀ l₀ r₀ t₀ A B F l r s t) where
   -- the source's label rises
@@ -234,41 +227,33 @@ module _ {us ts : List ℕ} {n : ℕ} {store : List ℕ} {need : Float} {A₀ B�
     state = λ G R S J. let (X, Y) = I.state G R S J in (X, raise_source Y (λ i g o z. Q.none i (let a = R.lefts in omega arith) (o, z)));
   }
 
-  module _ {start : ℕ} {A' B' F' : List Float} {l' r' : List ℕ} {pushed cut : Bool} {x : Float} (Q : Stepped us ts n store A B F l r s start A' B' F' l' r' pushed cut x) (P : StartsAt A l s (length us) start) where
-    size : Sized A₀ B₀ F₀ A' B' F'
-    size = record { size_a = Q.sized.size_a ∙ I.sized.size_a; size_b = Q.sized.size_b ∙ I.sized.size_b; size_f = Q.sized.size_f ∙ I.sized.size_f }
-
-    -- a step without a push
-    pub settling_stays : pushed ≡ false → Settling us ts n store need A₀ B₀ F₀ l₀ r₀ t₀ A' B' F' l' r' s t
-    settling_stays z = record {
-      sized = size;
+  -- a step: what it keeps
+  module _ {start : ℕ} {A' B' F' : List Float} {l' r' : List ℕ} {step : Step} (Q : Stepped us ts n store A B F l r s start A' B' F' l' r' step) where
+    next : {x : Float} → (le need t₀ ≡ false → le need x ≡ false) → ((G : Rows) → Reads G us ts n store → Standing G A₀ B₀ F₀ t₀ → Labelled G A₀ B₀ F₀ l₀ r₀ 2 → Standing G A' B' F' x × Labelled G A' B' F' l' r' s)
+        → Settling us ts n store need A₀ B₀ F₀ l₀ r₀ t₀ A' B' F' l' r' s x
+    next short state = record {
+      sized = record { size_a = Q.sized.size_a ∙ I.sized.size_a; size_b = Q.sized.size_b ∙ I.sized.size_b; size_f = Q.sized.size_f ∙ I.sized.size_f };
       size_l = Q.size_l ∙ I.size_l;
       size_r = Q.size_r ∙ I.size_r;
       some = I.some;
       few = I.few;
-      short = I.short;
-      state = λ G R S J. let (X, Y) = I.state G R S J in Q.rise z G R t X Y P;
+      short = short;
+      state = state;
     }
+
+  module _ {start : ℕ} {A' B' F' : List Float} {l' r' : List ℕ} (P : StartsAt A l s (length us) start) where
+    -- without a push
+    pub settling_stays : Stepped us ts n store A B F l r s start A' B' F' l' r' steps.Risen → Settling us ts n store need A₀ B₀ F₀ l₀ r₀ t₀ A' B' F' l' r' s t
+    settling_stays Q = next Q I.short (λ G R S J. let (X, Y) = I.state G R S J in Q.after G R t X Y P)
 
     -- a push that is not enough yet
-    pub settling_pushes : pushed ≡ true → le need (add binary64 t x) ≡ false → Settling us ts n store need A₀ B₀ F₀ l₀ r₀ t₀ A' B' F' l' r' s (add binary64 t x)
-    settling_pushes z d = record {
-      sized = size;
-      size_l = Q.size_l ∙ I.size_l;
-      size_r = Q.size_r ∙ I.size_r;
-      some = I.some;
-      few = I.few;
-      short = λ _. d;
-      state = λ G R S J. let (X, Y) = I.state G R S J in Q.push z G R t X Y P;
-    }
+    pub settling_pushes : {x : Float} → Stepped us ts n store A B F l r s start A' B' F' l' r' (steps.Pushed x) → le need (add binary64 t x) ≡ false → Settling us ts n store need A₀ B₀ F₀ l₀ r₀ t₀ A' B' F' l' r' s (add binary64 t x)
+    settling_pushes Q d = next Q (λ _. d) (λ G R S J. let (X, Y) = I.state G R S J in Q.after G R t X Y P)
 
     -- a push that is
-    pub settled_yes : pushed ≡ true → le need (add binary64 t x) ≡ true → Settled us ts n store need A₀ B₀ F₀ l₀ r₀ t₀ true true
-    settled_yes z d _ _ G R S J = let (X, Y) = I.state G R S J in sym (enough (Q.push z G R t X Y P).0 need d)
+    pub settled_yes : {x : Float} → Stepped us ts n store A B F l r s start A' B' F' l' r' (steps.Pushed x) → le need (add binary64 t x) ≡ true → Settled us ts n store need A₀ B₀ F₀ l₀ r₀ t₀ (Some true)
+    settled_yes Q d _ G R S J = let (X, Y) = I.state G R S J in sym (enough (Q.after G R t X Y P).0 need d)
 
     -- a cut: the flow is that of the whole run
-    pub settled_no : cut ≡ true → Settled us ts n store need A₀ B₀ F₀ l₀ r₀ t₀ true false
-    settled_no z _ h G R S J = let (X, Y) = I.state G R S J in sym (ap (le need) (sym (Q.cuts z G R t X Y P)) ∙ I.short h)
-
-pub settled_unknown : (us ts : List ℕ) (n : ℕ) (store : List ℕ) (need : Float) (A₀ B₀ F₀ : List Float) (l₀ r₀ : List ℕ) (t₀ : Float) → Settled us ts n store need A₀ B₀ F₀ l₀ r₀ t₀ false false
-settled_unknown us ts n store need A₀ B₀ F₀ l₀ r₀ t₀ h = absurd (false≢true h)
+    pub settled_no : Stepped us ts n store A B F l r s start A' B' F' l' r' steps.Cut → Settled us ts n store need A₀ B₀ F₀ l₀ r₀ t₀ (Some false)
+    settled_no Q h G R S J = let (X, Y) = I.state G R S J in sym (ap (le need) (sym (Q.after G R t X Y P).2) ∙ I.short h)

@@ -1,15 +1,21 @@
 -- Words of private contracts: one try of the search for a flow that is enough, its first labels, and its start from the rates of two rows.
 use mathlib.Core.Path.{◌≡◌, refl, sym, subst⁻¹, ◌∙◌}
 use Prim.Native.Nat.{ℕ, ◌≤◌, ◌<◌, ◌*◌}
-use mathlib.Core.Bool.{Bool, true, false, cond, not, true≢false, false≢true}
+use mathlib.Core.Bool.{Bool, true, false, cond}
 use mathlib.Core.List.{List}
 use native.Mathlib.Omega.{arith}
 use lib.ListN.{length, get_or}
 use lib.Ieee.{Float, nan, binary64, lt, le, add}
+use Rattle.std.specs.Prelude.{Option, Some, IfSome}
+use Rattle.std.proofs.lemmas.Option.{IfSome_then}
 use Rattle.numbers.specs.Real.{nought, eps}
 use Rattle.flow_theory.proofs.Accepted.{Accepted}
 use Rattle.flow_theory.proofs.Theorem.{accepted_good, accepted_caps}
 use Rattle.epsdelta_theory.specs.FlowTest.{links_of, caps}
+use Rattle.flow_routes.specs.declared.Step.{Step}
+use Rattle.flow_routes.specs.declared.Step.TheVariants as steps
+use Rattle.flow_routes.specs.declared.Attempt.{Attempt}
+use Rattle.flow_routes.specs.declared.Attempt.TheVariants as tries
 use Rattle.flow_routes.proofs.Rising.{out_rising}
 use Rattle.flow_routes.proofs.Underway.{run_underway}
 use Rattle.flow_routes.proofs.Growth.{flow_starts}
@@ -18,32 +24,39 @@ use Rattle.flow_routes.proofs.Labelled.{mapped_first}
 use Rattle.flow_routes.proofs.Standing.{Rows, net, holding, flow_of, Standing, Labelled, enough}
 use Rattle.flow_routes.proofs.Giving.{Cursor, cursor_starts}
 use Rattle.flow_routes.proofs.Coding.{Reads, Room, StartsAt, Giving}
-use Rattle.flow_routes.proofs.Pathing.{Stepped, Settling, Settled, settling_pushes, settled_yes}
+use Rattle.flow_routes.proofs.Pathing.{Stepped, Settling, Settled, settling_stays, settling_pushes, settled_yes, settled_no}
 
 -- ---- one try
 
 -- a try leads on, or to an end of which something is known or not
-pub record Tried (us ts : List ℕ) (n : ℕ) (store : List ℕ) (need : Float) (A B F : List Float) (l r : List ℕ) (s : ℕ) (t : Float) (A' B' F' : List Float) (l' r' : List ℕ) (s' : ℕ) (t' : Float) (on known passes : Bool) : Type 0 where
-  pub keeps : {A₀ B₀ F₀ : List Float} {l₀ r₀ : List ℕ} {t₀ : Float} → on ≡ true → Settling us ts n store need A₀ B₀ F₀ l₀ r₀ t₀ A B F l r s t → Settling us ts n store need A₀ B₀ F₀ l₀ r₀ t₀ A' B' F' l' r' s' t'
-  pub ends : {A₀ B₀ F₀ : List Float} {l₀ r₀ : List ℕ} {t₀ : Float} → on ≡ false → Settling us ts n store need A₀ B₀ F₀ l₀ r₀ t₀ A B F l r s t → Settled us ts n store need A₀ B₀ F₀ l₀ r₀ t₀ known passes
+abbrev pub Tried : List ℕ → List ℕ → ℕ → List ℕ → Float → List Float → List Float → List Float → List ℕ → List ℕ → ℕ → Float → List Float → List Float → List Float → List ℕ → List ℕ → Attempt → Type 0
+Tried us ts n store need A B F l r s t A' B' F' l' r' (tries.On s' t') =
+    (A₀ B₀ F₀ : List Float) (l₀ r₀ : List ℕ) (t₀ : Float) → Settling us ts n store need A₀ B₀ F₀ l₀ r₀ t₀ A B F l r s t → Settling us ts n store need A₀ B₀ F₀ l₀ r₀ t₀ A' B' F' l' r' s' t'
+Tried us ts n store need A B F l r s t A' B' F' l' r' (tries.Ended known) =
+    (A₀ B₀ F₀ : List Float) (l₀ r₀ : List ℕ) (t₀ : Float) → Settling us ts n store need A₀ B₀ F₀ l₀ r₀ t₀ A B F l r s t → Settled us ts n store need A₀ B₀ F₀ l₀ r₀ t₀ known
 
-module _ {us ts : List ℕ} {n : ℕ} {store : List ℕ} {need : Float} {A B F : List Float} {l r : List ℕ} {s : ℕ} {t : Float} where
-  module _ {start : ℕ} {A' B' F' : List Float} {l' r' : List ℕ} {pushed cut : Bool} {x : Float} (P : StartsAt A l s (length us) start) (Q : Stepped us ts n store A B F l r s start A' B' F' l' r' pushed cut x) where
-    tried_enough : pushed ≡ true → le need (add binary64 t x) ≡ true → Tried us ts n store need A B F l r s t A' B' F' l' r' s (add binary64 t x) false true true
-    tried_enough z d = record { keeps = λ y. absurd (false≢true y); ends = λ _ I. settled_yes I Q P z d }
+-- what a step leads to, whatever the lists are
+abbrev pub Judged : Float → ℕ → Float → Step → Attempt → Type 0
+Judged need s t step attempt =
+    (us ts : List ℕ) (n : ℕ) (store : List ℕ) (A B F : List Float) (l r : List ℕ) (start : ℕ) (A' B' F' : List Float) (l' r' : List ℕ) → StartsAt A l s (length us) start → Stepped us ts n store A B F l r s start A' B' F' l' r' step
+    → Tried us ts n store need A B F l r s t A' B' F' l' r' attempt
 
-    tried_pushes : pushed ≡ true → le need (add binary64 t x) ≡ false → Tried us ts n store need A B F l r s t A' B' F' l' r' s (add binary64 t x) true false false
-    tried_pushes z d = record { keeps = λ _ I. settling_pushes I Q P z d; ends = λ y. absurd (true≢false y) }
+module _ {need : Float} {s : ℕ} {t : Float} where
+  -- no flow more after a cut
+  pub judged_cut : Judged need s t steps.Cut (tries.Ended (Some false))
+  judged_cut us ts n store A B F l r start A' B' F' l' r' P Q A₀ B₀ F₀ l₀ r₀ t₀ I = settled_no I P Q
 
-    -- a push, and whether it is enough
-    pub tried_push : pushed ≡ true → (b : Bool) → le need (add binary64 t x) ≡ b → Tried us ts n store need A B F l r s t A' B' F' l' r' s (add binary64 t x) (not b) b b
-    tried_push z true d = tried_enough z d
-    tried_push z false d = tried_pushes z d
+  -- the rise of a label
+  pub judged_rise : Judged need s t steps.Risen (tries.On s t)
+  judged_rise us ts n store A B F l r start A' B' F' l' r' P Q A₀ B₀ F₀ l₀ r₀ t₀ I = settling_stays I P Q
 
--- what a step of pushed, cut and x leads to, whatever the lists are
-pub record Judged (need : Float) (s : ℕ) (t : Float) (pushed cut : Bool) (x : Float) (s' : ℕ) (t' : Float) (on known passes : Bool) : Type 0 where
-  pub tried : {us ts : List ℕ} {n : ℕ} {store : List ℕ} {A B F : List Float} {l r : List ℕ} {start : ℕ} {A' B' F' : List Float} {l' r' : List ℕ} → StartsAt A l s (length us) start → Stepped us ts n store A B F l r s start A' B' F' l' r' pushed cut x
-      → Tried us ts n store need A B F l r s t A' B' F' l' r' s' t' on known passes
+  -- a push that is enough
+  pub judged_enough : {x : Float} → le need (add binary64 t x) ≡ true → Judged need s t (steps.Pushed x) (tries.Ended (Some true))
+  judged_enough d us ts n store A B F l r start A' B' F' l' r' P Q A₀ B₀ F₀ l₀ r₀ t₀ I = settled_yes I P Q d
+
+  -- one that is not yet
+  pub judged_pushed : {x : Float} → le need (add binary64 t x) ≡ false → Judged need s t (steps.Pushed x) (tries.On s (add binary64 t x))
+  judged_pushed d us ts n store A B F l r start A' B' F' l' r' P Q A₀ B₀ F₀ l₀ r₀ t₀ I = settling_pushes I P Q d
 
 -- ---- the first labels: 2 for a target of s with rate left and for a target of t with none, else 1
 
@@ -92,13 +105,13 @@ first_labelled {G} {us} {ts} R {A} {B} K done F l r hl hr one two = record {
     forth i k h g t false e = let f : label_of 2 1 (get_or A i nan) ≡ 1 = rw e in let a = one i (rw (← R.lefts) h) in let b = right k g in omega arith
 
 -- what the search from the first labels says of every flow test that the lists are of, whose first pushes are made, and whose flow t is not enough yet
-abbrev pub Searched : List ℕ → List ℕ → ℕ → List ℕ → Float → List Float → List Float → List Float → Float → Bool → Bool → Type 0
-Searched us ts n store need A B F t known passes =
-    known ≡ true → le need t ≡ false → (G : Rows) → Reads G us ts n store → Standing G A B F t → (i : ℕ) → Cursor G A B i 0 → length us ≤ i → passes ≡ le need (flow_of G)
+abbrev pub Searched : List ℕ → List ℕ → ℕ → List ℕ → Float → List Float → List Float → List Float → Float → Option Bool → Type 0
+Searched us ts n store need A B F t known =
+    IfSome known (λ passes. le need t ≡ false → (G : Rows) → Reads G us ts n store → Standing G A B F t → (i : ℕ) → Cursor G A B i 0 → length us ≤ i → passes ≡ le need (flow_of G))
 
-pub searched : {us ts : List ℕ} {n : ℕ} {store : List ℕ} (need : Float) {A B F : List Float} {l r : List ℕ} {t : Float} {known passes : Bool} → length us ≤ length l → length ts ≤ length r → ((i : ℕ) → i < length us → get_or l i 0 ≡ label_of 2 1 (get_or A i nan))
-    → ((k : ℕ) → k < length ts → get_or r k 0 ≡ label_of 1 2 (get_or B k nan)) → Settled us ts n store need A B F l r t known passes → Searched us ts n store need A B F t known passes
-searched need {F = F} {l = l} {r = r} hl hr one two D z h G R S i K done = D z h G R S (first_labelled R K done F l r hl hr one two)
+pub searched : (us ts : List ℕ) (n : ℕ) (store : List ℕ) (need : Float) (A B F : List Float) (l r : List ℕ) (t : Float) (known : Option Bool) → length us ≤ length l → length ts ≤ length r → ((i : ℕ) → i < length us → get_or l i 0 ≡ label_of 2 1 (get_or A i nan))
+    → ((k : ℕ) → k < length ts → get_or r k 0 ≡ label_of 1 2 (get_or B k nan)) → Settled us ts n store need A B F l r t known → Searched us ts n store need A B F t known
+searched us ts n store need A B F l r t known hl hr one two D = IfSome_then known D (λ _ E h G R S i K done. E h G R S (first_labelled R K done F l r hl hr one two))
 
 -- ---- from the rates of both rows, with nothing pushed
 
@@ -109,9 +122,9 @@ pub record Begins (G : Rows) (us : List ℕ) (vs : List Float) (ts : List ℕ) (
   pub left : (i : ℕ) → rate_at G.ps i ≡ get_or vs i nan
   pub right : (k : ℕ) → rate_at G.pt k ≡ get_or ws k nan
 
--- what is said of it
-abbrev pub Told : List ℕ → List Float → List ℕ → List Float → ℕ → List ℕ → Float → Bool → Bool → Type 0
-Told us vs ts ws n store need known passes = known ≡ true → (G : Rows) → Begins G us vs ts ws n store → passes ≡ le need (flow_of G)
+-- what is said of it, if anything is known
+abbrev pub Told : List ℕ → List Float → List ℕ → List Float → ℕ → List ℕ → Float → Option Bool → Type 0
+Told us vs ts ws n store need known = IfSome known (λ passes. (G : Rows) → Begins G us vs ts ws n store → passes ≡ le need (flow_of G))
 
 module _ {us : List ℕ} (vs : List Float) {ts : List ℕ} (ws : List Float) {n : ℕ} {A B F : List Float} (R : Room us ts n A B F) (ev : length vs ≡ length us) (ew : length ws ≡ length ts) (fa : (i : ℕ) → i < length vs → get_or A i nan ≡ get_or vs i nan)
     (fb : (k : ℕ) → k < length ws → get_or B k nan ≡ get_or ws k nan) (ff : (j : ℕ) → j < length F → get_or F j nan ≡ nought) where
@@ -122,8 +135,8 @@ module _ {us : List ℕ} (vs : List Float) {ts : List ℕ} (ws : List Float) {n 
       let good = accepted_good (net G) c m K.accepted in
       let a = K.reads.lefts in
       let b = K.reads.rights in
-      let ra = R.room_a in
-      let rb = R.room_b in
+      let ra = R.size_a in
+      let rb = R.size_b in
       let rf : length G.ps * length G.pt ≤ length F = rw (a, b) R.room_f in
       record {
         good = good;
@@ -136,9 +149,9 @@ module _ {us : List ℕ} (vs : List Float) {ts : List ℕ} (ws : List Float) {n 
 
   module _ {store : List ℕ} {A' B' F' : List Float} {t : Float} {i : ℕ} (I : Giving us ts n store A B F nought 0 A' B' F' t i 0) (need : Float) where
     -- the first pushes are enough
-    pub told_first : le need t ≡ true → Told us vs ts ws n store need true true
-    told_first h _ G K = sym (enough (I.state G K.reads (first_standing K) cursor_starts).0 need h)
+    pub told_first : le need t ≡ true → Told us vs ts ws n store need (Some true)
+    told_first h G K = sym (enough (I.state G K.reads (first_standing K) cursor_starts).0 need h)
 
     -- all first pushes are made, and the search says whether
-    pub told_search : le need t ≡ false → (le need t ≡ false → length us ≤ i) → {known passes : Bool} → Searched us ts n store need A' B' F' t known passes → Told us vs ts ws n store need known passes
-    told_search h done D z G K = let (X, Y) = I.state G K.reads (first_standing K) cursor_starts in D z h G K.reads X i Y (done h)
+    pub told_search : le need t ≡ false → (le need t ≡ false → length us ≤ i) → (known : Option Bool) → Searched us ts n store need A' B' F' t known → Told us vs ts ws n store need known
+    told_search h done known D = IfSome_then known D (λ _ E G K. let (X, Y) = I.state G K.reads (first_standing K) cursor_starts in E h G K.reads X i Y (done h))

@@ -13,3 +13,26 @@ pub fn remains(x: f64) -> bool
 {
     x > EPS
 }
+
+// Where a walk by labels ends: at a target of s or of t with this label from where no link falls, or at a target of t with label 1.
+#[derive(Clone, Copy, Debug, PartialEq, Eq)]
+pub enum Stop {
+    Left(usize),
+    Right(usize),
+    Sink,
+}
+
+// What one step of the search comes to: a push of so much, the rise of a target's label, or a rise after which no path is left.
+#[derive(Clone, Copy, Debug, PartialEq)]
+pub enum Step {
+    Pushed(f64),
+    Risen,
+    Cut,
+}
+
+// What one try comes to: the search goes on with this label of the source and this flow, or it ends, and says whether the flow is enough if that is known.
+#[derive(Clone, Copy, Debug, PartialEq)]
+pub enum Attempt {
+    On { label: usize, flow: f64 },
+    Ended(Option<bool>),
+}

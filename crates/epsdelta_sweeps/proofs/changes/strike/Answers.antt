@@ -5,4 +5,4 @@ use Rattle.numbers.specs.Bits.{cleared}
 use Rattle.epsdelta_sweeps.proofs.changes.strike.Goals as goal
 
 pub returns : goal.returns
-returns c = (c.clear_bit-2.ensures ∙ ap (λ (l : List ℕ). cleared l (c.args.t * c.args.states + c.args.s)) c.clear_bit.ensures, refl)
+returns c = (c.clear_bit-2.ensures ∙ ap (λ (l : List ℕ). cleared l (c.args.t * c.args.states + c.args.s)) c.clear_bit.ensures, refl, refl)

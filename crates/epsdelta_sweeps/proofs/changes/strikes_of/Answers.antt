@@ -8,6 +8,6 @@ loop-u-preserved c =
     let a = c.args in
     let l = c.loop-u in
     let u = get_or a.row.now l.u-index 0 in
-    let x = get_or a.changed.now (2 * u) 0 in
+    let x = get_or a.memory.now.changed.now (2 * u) 0 in
     let w = c.not_below-before.result in
-    below_more (λ j. Told a.states a.changed.now a.s (get_or a.row.now j 0) (bit_or l.recent x) (bit_or l.before w)) l.u-index (λ j h. told_more a.states a.changed.now a.s (get_or a.row.now j 0) l.recent l.before x w (l.invariant j h)) (told_this a.states a.changed.now a.s u l.recent l.before w c.if-states-u.false c.not_below-before.ensures)
+    below_more (λ j. Told a.states a.memory.now.changed.now a.s (get_or a.row.now j 0) (bit_or l.recent x) (bit_or l.before w)) l.u-index (λ j h. told_more a.states a.memory.now.changed.now a.s (get_or a.row.now j 0) l.recent l.before x w (l.invariant j h)) (told_this a.states a.memory.now.changed.now a.s u l.recent l.before w c.if-states-u.false c.not_below-before.ensures)

@@ -4,4 +4,4 @@ use Rattle.epsdelta_theory.proofs.Unchanged.{Told}
 use Rattle.epsdelta_sweeps.proofs.changes.strikes_of.Given as goal
 
 abbrev pub invariant-loop-u : goal.invariant-loop-u
-invariant-loop-u l = (j : ℕ) → j < l.u-index → Told l.states l.changed l.s (get_or l.row j 0) l.recent l.before
+invariant-loop-u l = (j : ℕ) → j < l.u-index → Told l.states l.memory.changed.now l.s (get_or l.row j 0) l.recent l.before

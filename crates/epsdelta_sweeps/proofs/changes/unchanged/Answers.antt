@@ -13,10 +13,10 @@ returns-in-Some c = λ e.
     let a = c.args in
     let m = c.in-Some.m in
     let p = c.requires in
-    let us = c.part-us.result.now in
-    let vs = c.part-vs.result.now in
+    let us = c.row.result.targets.now in
+    let vs = c.row-2.result.targets.now in
     let x = positive _ (sym c.is_empty.ensures ∙ c.if-is_empty.false) in
     let y = positive _ (sym c.is_empty-else-is_empty.ensures ∙ c.if-is_empty-2.false) in
-    let n = c.if-changed-states-eq0.false in
-    quiet_parts a.starts.now a.targets.now a.s a.t c.part-us.ensures c.part-vs.ensures p.6 p.7 x y
-    (λ i k h l. told_missed a.states a.changed.now a.s (get_or us i 0) (get_or vs k 0) m.recent m.before (omega arith) (c.in-Some.ensures i h) (c.untouched.ensures e k l))
+    let n = c.if-memory-rows-eq0.false in
+    quiet_parts a.rows.now.starts.now a.rows.now.targets.now a.s a.t c.row.ensures.0 c.row-2.ensures.0 (p.0.targets_long a.s p.2) (p.0.targets_long a.t p.3) x y
+    (λ i k h l. told_missed a.rows.now.states a.memory.now.changed.now a.s (get_or us i 0) (get_or vs k 0) m.recent m.before (omega arith) (c.in-Some.ensures i h) (c.untouched.ensures e k l))

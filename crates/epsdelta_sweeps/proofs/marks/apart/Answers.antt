@@ -6,4 +6,4 @@ use Rattle.epsdelta_sweeps.proofs.marks.apart.Goals as goal
 pub returns : goal.returns
 returns c =
     let a = c.args in
-    λ e E rho Q M. apart_byte Q a.states a.s a.t M c.if-states-s.false (omega arith) (not_among a.classes.now (get_or a.classes.now a.s 0) a.t c.contains.ensures.value e (omega arith))
+    λ e E rho Q M. apart_byte Q a.of.now.states a.s a.t M c.if-of-s.false (omega arith) (not_among a.of.now.classes.now (get_or a.of.now.classes.now a.s 0) a.t c.contains.ensures.value e (omega arith))

@@ -8,4 +8,4 @@ use Rattle.epsdelta_theory.specs.Sweeps.{marks}
 use Rattle.epsdelta_sweeps.proofs.marks.byte_at.Goals as goal
 
 pub returns-then-apart : goal.returns-then-apart
-returns-then-apart c = let a = c.args in λ Q M. c.apart.ensures c.if-apart.true a.exits.now a.rho Q M ∙ ap (λ (x : ℕ). bits (take 8 (drop x (marks Q)))) (div-add-mod' a.first a.states)
+returns-then-apart c = let a = c.args in λ Q M. c.apart.ensures c.if-apart.true a.of.now.exits.now a.of.now.rho Q M ∙ ap (λ (x : ℕ). bits (take 8 (drop x (marks Q)))) (div-add-mod' a.first a.of.now.states)

@@ -12,7 +12,7 @@ use Rattle.epsdelta_sweeps.proofs.marks.byte_of.Goals as goal
 pub loop-init : goal.loop-init
 loop-init c =
     let a = c.args in
-    (omega arith, mod-lt (a.first + 8) c.requires.0, div-add-mod' (a.first + 8) a.states, λ Q M. byte_start a.first (marks Q))
+    (omega arith, mod-lt (a.first + 8) c.requires.0, div-add-mod' (a.first + 8) a.of.now.states, λ Q M. byte_start a.first (marks Q))
 
 pub overflow_mul-byte : goal.overflow_mul-byte
 overflow_mul-byte c = let l = c.loop in let h = room_low (8 - l.counter) (8 - (l.counter + 1)) l.byte (omega arith) l.invariant.0 in omega arith
@@ -35,7 +35,7 @@ loop-preserved c =
     let j = 8 - (l.counter + 1) in
     let s : i ≡ suc j = omega arith in
     let z : c.from.result ≡ one_if b = c.from.ensures ∙ bit_as_number b in
-    let g : r.0 * a.states + r.1 ≡ a.first + j = omega arith in (
+    let g : r.0 * a.of.now.states + r.1 ≡ a.first + j = omega arith in (
       subst⁻¹ (λ (x : ℕ). (2 * l.byte + x + 1) * 2 ^ j ≤ 256) z (room_bit i j l.byte b s l.invariant.0),
       c.before-in-loop.ensures.1,
       g,

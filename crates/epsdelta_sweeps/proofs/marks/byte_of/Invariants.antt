@@ -8,4 +8,4 @@ use Rattle.epsdelta_sweeps.proofs.marks.byte_of.Given as goal
 abbrev pub invariant-loop : goal.invariant-loop
 invariant-loop l =
     let j = 8 - l.counter in
-    ((l.byte + 1) * 2 ^ j ≤ 256) × (l.t < l.states) × (l.s * l.states + l.t ≡ l.first + j) × ((Q : Task) → MarksIn Q l.states l.classes l.exits l.rho → l.byte ≡ bits (drop j (take 8 (drop l.first (marks Q)))))
+    ((l.byte + 1) * 2 ^ j ≤ 256) × (l.t < l.of.states) × (l.s * l.of.states + l.t ≡ l.first + j) × ((Q : Task) → MarksIn Q l.of.states l.of.classes.now l.of.exits.now l.of.rho → l.byte ≡ bits (drop j (take 8 (drop l.first (marks Q)))))

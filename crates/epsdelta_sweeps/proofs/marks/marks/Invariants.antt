@@ -8,4 +8,4 @@ use Rattle.epsdelta_theory.proofs.TasksIn.{MarksIn}
 use Rattle.epsdelta_sweeps.proofs.marks.marks.Given as goal
 
 abbrev pub invariant-loop-k : goal.invariant-loop-k
-invariant-loop-k l = (Q : Task) → MarksIn Q l.states l.classes l.exits l.rho → l.relation ≡ over (packed (definition.marks Q)) l.k l.initial.relation
+invariant-loop-k l = (Q : Task) → MarksIn Q l.of.states l.of.classes.now l.of.exits.now l.of.rho → l.relation ≡ over (packed (definition.marks Q)) l.k l.initial.relation

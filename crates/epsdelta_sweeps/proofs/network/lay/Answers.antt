@@ -3,5 +3,5 @@ use mathlib.Core.Path.{sym, ◌∙◌}
 use mathlib.Core.Bool.{true≢false}
 use Rattle.epsdelta_sweeps.proofs.network.lay.Goals as goal
 
-pub returns-then-p : goal.returns-then-p
-returns-then-p c = λ x i j y k need R e. (λ q. absurd (true≢false (sym c.if-p.true ∙ q)), λ _. c.lay_links.ensures x i j y k need R e)
+pub returns-then-back : goal.returns-then-back
+returns-then-back c = λ x i j y k need R e. (λ q. absurd (true≢false (sym c.if-back.true ∙ c.back.ensures ∙ q)), λ _. c.lay_links.ensures x i j y k need R e)

@@ -10,6 +10,6 @@ use Rattle.epsdelta_sweeps.proofs.relate.relate.Goals as goal
 pub make-requires : goal.make-requires
 make-requires c =
     let a = c.args in
-    let k = lengths_known a.states (length a.classes.now) (length a.exits.now) (length a.starts.now) (length a.relation.now) (sym c.long_enough.ensures ∙ c.if-not-long_enough.false) in
-    let e : c.div_ceil-bytes.result ≡ relation_bytes a.states = omega (arith, c.div_ceil-bytes.ensures) in
-    (rows_known a.states a.starts.now a.targets.now a.probs.now k.0 k.3 (sym c.all_stand.ensures ∙ c.if-not-all_stand.false), k.2, k.1, length-take-le _ _ (omega arith) ∙ e)
+    let k = lengths_known a.rows.now.states (length a.classes.now) (length a.rows.now.exits.now) (length a.rows.now.starts.now) (length a.relation.now) (sym c.long_enough.ensures ∙ c.if-not-long_enough.false) in
+    let e : c.div_ceil-bytes.result ≡ relation_bytes a.rows.now.states = omega (arith, c.div_ceil-bytes.ensures) in
+    (rows_known a.rows.now.states a.rows.now.starts.now a.rows.now.targets.now a.rows.now.probs.now k.0 k.3 (sym c.all_stand.ensures ∙ c.if-not-all_stand.false), k.2, k.1, length-take-le _ _ (omega arith) ∙ e)

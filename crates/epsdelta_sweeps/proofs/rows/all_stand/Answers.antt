@@ -9,4 +9,4 @@ use Rattle.epsdelta_sweeps.proofs.rows.all_stand.Goals as goal
 pub returns : goal.returns
 returns c =
     let a = c.args in
-    all_from_yields_List (row_stands a.starts.now a.targets.now a.probs.now) _ _ _ c.all.ensures.ran (YieldsList-from_range 0 a.states a.states refl (omega arith)) (λ x b q k. search (rules, tests)) ∙ every_of_range _ _
+    all_from_yields_List (row_stands a.rows.now.starts.now a.rows.now.targets.now a.rows.now.probs.now) _ _ _ c.all.ensures.ran (YieldsList-from_range 0 a.rows.now.states a.rows.now.states refl (omega arith)) (λ x b q k. search (rules, tests)) ∙ every_of_range _ _

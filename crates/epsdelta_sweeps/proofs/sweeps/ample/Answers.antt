@@ -7,6 +7,6 @@ use Rattle.epsdelta_sweeps.proofs.sweeps.ample.Goals as goal
 
 pub returns : goal.returns
 returns c =
-    let a = c.args in
-    let S = a.starts.now in
-    λ e. ample_is (get_or S a.s 0) (get_or S (a.s + 1) 0) (get_or S a.t 0) (get_or S (a.t + 1) 0) a.plenty c.plenty_between.result a.answer c.plenty_between.ensures (sym c.enough.ensures ∙ e)
+    let s = c.args.at.s in
+    let t = c.args.at.t in
+    λ e. ample_is (get_or c.args.terms.now.rows.starts.now s 0) (get_or c.args.terms.now.rows.starts.now (s + 1) 0) (get_or c.args.terms.now.rows.starts.now t 0) (get_or c.args.terms.now.rows.starts.now (t + 1) 0) c.args.terms.now.plenty c.plenty_between.result c.args.answer c.plenty_between.ensures (sym c.enough.ensures ∙ e)

@@ -3,4 +3,4 @@ use Rattle.flow_routes.proofs.Coding.{Shut}
 use Rattle.flow_direct.proofs.give.first_open.Given as goal
 
 abbrev pub invariant-loop-k : goal.invariant-loop-k
-invariant-loop-k l = Shut l.k l.rights
+invariant-loop-k l = Shut l.k l.rest.rights.now

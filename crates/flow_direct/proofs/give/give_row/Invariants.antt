@@ -4,4 +4,4 @@ use Rattle.flow_routes.proofs.Coding.{Shut, Giving}
 use Rattle.flow_direct.proofs.give.give_row.Given as goal
 
 abbrev pub invariant-loop-k : goal.invariant-loop-k
-invariant-loop-k l = Giving l.left_targets l.right_targets l.states l.relation l.initial.lefts l.initial.rights l.initial.flows l.before l.i l.lefts l.rights l.flows l.total l.i l.k × (l.from ≤ l.k) × Shut l.from l.rights
+invariant-loop-k l = Giving l.test.left.targets.now l.test.right.targets.now l.test.states l.test.relation.now l.initial.rest.lefts.now l.initial.rest.rights.now l.initial.rest.flows.now l.before l.i l.rest.lefts.now l.rest.rights.now l.rest.flows.now l.total l.i l.k × (l.from ≤ l.k) × Shut l.from l.rest.rights.now

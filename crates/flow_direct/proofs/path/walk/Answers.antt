@@ -1,16 +1,26 @@
-use mathlib.Core.Path.{◌∙◌}
-use Prim.Native.Nat.{◌-◌}
+-- `path::walk` meets its contract: a link forth, a link back, and where one is missing (Coding, Pathing).
+use Rattle.std.proofs.Common.{rules}
+use Prim.Native.Nat.{◌<◌, ◌≤◌}
 use native.Mathlib.Omega.{arith}
-use lib.ListN.{length, length-set}
+use lib.ListN.{length}
 use Rattle.flow_routes.proofs.Coding.{first_here, walking_low, walking_forth, walking_back}
 use Rattle.flow_routes.proofs.Pathing.{stops_right, stops_sink}
 use Rattle.flow_direct.proofs.path.walk.Goals as goal
 
 pub returns-then-g-eq1 : goal.returns-then-g-eq1
-returns-then-g-eq1 c = (stops_sink (walking_forth c.loop-states.invariant.0 (let (o, u, v) = walking_low c.loop-states.invariant.0 c.requires.7 in let a = c.loop-states.invariant.1 in let b = c.loop-states.invariant.2 in omega arith) (let a = c.first_right-k.ensures.upto in let b = c.if-k-right_targets.false in omega arith) c.first_right-k.ensures) c.if-g-eq1.true, c.loop-states.invariant.1, length-set c.loop-states.by_right c.loop-states.g c.first_right-k.result ∙ c.loop-states.invariant.2)
+returns-then-g-eq1 c =
+    let h : c.loop-k.g < length c.loop-k.path.rights = search rules in
+    stops_sink (walking_forth c.loop-k.invariant h c.in-Some.ensures.0 c.in-Some.ensures.1) c.if-g-eq1.true
 
-pub returns-then-j-left_targets : goal.returns-then-j-left_targets
-returns-then-j-left_targets c = (stops_right (walking_forth c.loop-states.invariant.0 (let (o, u, v) = walking_low c.loop-states.invariant.0 c.requires.7 in let a = c.loop-states.invariant.1 in let b = c.loop-states.invariant.2 in omega arith) (let a = c.first_right-k.ensures.upto in let b = c.if-k-right_targets.false in omega arith) c.first_right-k.ensures) c.if-g-eq1.false (first_here c.args.flows.now (length c.args.right_targets.now) c.loop-states.by_right c.loop-states.g c.first_right-k.result (let (o, u, v) = walking_low c.loop-states.invariant.0 c.requires.7 in let a = c.loop-states.invariant.1 in let b = c.loop-states.invariant.2 in omega arith) c.first_back-j.ensures) c.if-j-left_targets.true, c.loop-states.invariant.1, length-set c.loop-states.by_right c.loop-states.g c.first_right-k.result ∙ c.loop-states.invariant.2)
+pub returns-in_default-first_back : goal.returns-in_default-first_back
+returns-in_default-first_back c =
+    let h : c.loop-k.g < length c.loop-k.path.rights = search rules in
+    stops_right (walking_forth c.loop-k.invariant h c.in-Some.ensures.0 c.in-Some.ensures.1) c.if-g-eq1.false (λ j m p. (first_here c.args.rest.now.flows.now (length c.args.test.now.right.targets.now) c.loop-k.path.rights c.loop-k.g c.in-Some.k h c.in_default-first_back.ensures).none j (rw c.requires.3 m) p)
 
-pub loop-states-preserved : goal.loop-states-preserved
-loop-states-preserved c = (walking_back (walking_forth c.loop-states.invariant.0 (let (o, u, v) = walking_low c.loop-states.invariant.0 c.requires.7 in let a = c.loop-states.invariant.1 in let b = c.loop-states.invariant.2 in omega arith) (let a = c.first_right-k.ensures.upto in let b = c.if-k-right_targets.false in omega arith) c.first_right-k.ensures) (let (o, u, v) = walking_low c.loop-states.invariant.0 c.requires.7 in let a = c.loop-states.invariant.1 in let b = c.loop-states.invariant.2 in let d = c.if-g-eq1.false in omega arith) (let (o, u, v) = walking_low c.loop-states.invariant.0 c.requires.7 in let a = c.loop-states.invariant.1 in let b = c.loop-states.invariant.2 in omega arith) (let x = c.first_back-j.ensures.upto in let y = c.if-j-left_targets.false in omega arith) (first_here c.args.flows.now (length c.args.right_targets.now) c.loop-states.by_right c.loop-states.g c.first_right-k.result (let (o, u, v) = walking_low c.loop-states.invariant.0 c.requires.7 in let a = c.loop-states.invariant.1 in let b = c.loop-states.invariant.2 in omega arith) c.first_back-j.ensures), length-set c.loop-states.by_left (c.loop-states.g - 1) c.first_back-j.result ∙ c.loop-states.invariant.1, length-set c.loop-states.by_right c.loop-states.g c.first_right-k.result ∙ c.loop-states.invariant.2)
+pub loop-k-preserved : goal.loop-k-preserved
+loop-k-preserved c =
+    let h : c.loop-k.g < length c.loop-k.path.rights = search rules in
+    let l : c.loop-k.g ≤ length c.loop-k.path.lefts = search rules in
+    let (o, u, v) = walking_low c.loop-k.invariant c.requires.7 in
+    let d = c.if-g-eq1.false in
+    walking_back (walking_forth c.loop-k.invariant h c.in-Some.ensures.0 c.in-Some.ensures.1) (omega arith) l (let q = c.in-Some-first_back.ensures.0 in omega arith) (rw (← c.requires.3) (first_here c.args.rest.now.flows.now (length c.args.test.now.right.targets.now) c.loop-k.path.rights c.loop-k.g c.in-Some.k h c.in-Some-first_back.ensures.1))

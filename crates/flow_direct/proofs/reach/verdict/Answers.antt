@@ -4,4 +4,4 @@ use Rattle.flow_direct.proofs.Beginning.{known_reaches}
 use Rattle.flow_direct.proofs.reach.verdict.Goals as goal
 
 pub returns : goal.returns
-returns c = λ z. known_reaches c.args.left_targets.now c.args.left_rates.now c.args.right_targets.now c.args.right_rates.now c.args.states c.args.relation.now (sym c.rows_fit.ensures ∙ c.if-not-rows_fit.false) c.args.need c.reach.ensures z
+returns c = known_reaches c.args.test.now.left.targets.now c.args.test.now.left.rates.now c.args.test.now.right.targets.now c.args.test.now.right.rates.now c.args.test.now.states c.args.test.now.relation.now (sym c.fits.ensures ∙ c.if-not-fits.false) c.args.need _ c.reach.ensures

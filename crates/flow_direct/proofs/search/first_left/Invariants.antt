@@ -2,11 +2,11 @@
 use mathlib.Core.Path.{◌≡◌}
 use Prim.Native.Nat.{◌≤◌}
 use mathlib.Core.Bool.{true}
-use lib.ListN.{get_or}
+use lib.ListN.{length, get_or}
 use lib.Ieee.{lt, nan}
 use Rattle.numbers.specs.Real.{eps}
 use Rattle.flow_routes.proofs.Coding.{FirstFrom}
 use Rattle.flow_direct.proofs.search.first_left.Given as goal
 
 abbrev pub invariant-loop-j : goal.invariant-loop-j
-invariant-loop-j l = (l.j ≤ l.n) × FirstFrom l.n l.j l.r (λ i. (lt eps (get_or l.lefts i nan) ≡ true) × (get_or l.labels i 0 ≡ l.want))
+invariant-loop-j l = (l.j ≤ length l.rest.lefts.now) × FirstFrom (length l.rest.lefts.now) l.j l.r (λ i. (lt eps (get_or l.rest.lefts.now i nan) ≡ true) × (get_or l.labels.lefts.now i 0 ≡ l.want))

@@ -1,7 +1,9 @@
--- `settle::after_step` meets its contract, test by test (Reaching).
-use mathlib.Core.Path.{refl}
-use Rattle.flow_routes.proofs.Reaching.{tried_push}
+-- `settle::after_step` meets its contract after a push (Reaching).
+use Rattle.flow_routes.proofs.Reaching.{judged_enough, judged_pushed}
 use Rattle.flow_direct.proofs.settle.after_step.Goals as goal
 
-pub returns-then-step-2 : goal.returns-then-step-2
-returns-then-step-2 c = record { tried = λ P Q. tried_push P Q c.if-step-2.true _ refl }
+pub returns-then-need-after : goal.returns-then-need-after
+returns-then-need-after c = rw c.in-Pushed.is (judged_enough c.if-need-after.true)
+
+pub returns-else-need-after : goal.returns-else-need-after
+returns-else-need-after c = rw c.in-Pushed.is (judged_pushed c.if-need-after.false)

@@ -3,4 +3,4 @@ use Rattle.flow_routes.proofs.Pathing.{Settling}
 use Rattle.flow_direct.proofs.settle.settle.Given as goal
 
 abbrev pub invariant-loop : goal.invariant-loop
-invariant-loop l = Settling l.left_targets l.right_targets l.states l.relation l.need l.initial.lefts l.initial.rights l.initial.flows l.initial.left_labels l.initial.right_labels l.before l.lefts l.rights l.flows l.left_labels l.right_labels l.s l.total
+invariant-loop l = Settling l.test.left.targets.now l.test.right.targets.now l.test.states l.test.relation.now l.need l.initial.rest.lefts.now l.initial.rest.rights.now l.initial.rest.flows.now l.initial.labels.lefts.now l.initial.labels.rights.now l.before l.rest.lefts.now l.rest.rights.now l.rest.flows.now l.labels.lefts.now l.labels.rights.now l.s l.total

@@ -2,5 +2,5 @@
 use Rattle.flow_links.proofs.LinkWrites.{added_join}
 use Rattle.flow_links.proofs.links.put_links.Goals as goal
 
-pub returns : goal.returns
-returns c = added_join c.add_sources-first.ensures (added_join c.add_sinks-second.ensures c.add_crosses.ensures)
+pub returns-clause-added : goal.returns-clause-added
+returns-clause-added c = added_join c.add_sources.ensures.added (added_join c.add_sinks.ensures.added c.add_crosses.ensures.added)
