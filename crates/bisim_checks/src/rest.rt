@@ -1,14 +1,16 @@
 // The checks that concern no model or chain.
 ghost use Rattle.std.specs.Prelude.{◌≡◌, [], ◌∷◌};
+ghost use Rattle.numbers.specs.Refuse.{code};
 ghost use Rattle.chain_theory.specs.Check.{discount_outside};
-ghost use Rattle.distance_theory.specs.Refusal;
+ghost use Rattle.distance_theory.specs.Refusal.{short};
 ghost use Rattle.bisim_checks.specs.Sides.{rest_refusal};
 
 use distance_theory::{MetricOptions, excessive};
 use numbers::ONE;
+use numbers::refusal::Refusal;
 
-// The arguments of `bisim_distance` that concern no model: the discount, the options, how long the lists of pairs are, and how many contribution records there are.
-#[derive(Clone, Copy)]
+// The arguments of `distance` and `bisim_distance` that concern no model or chain: the discount, the options, how long the lists of pairs are, and how many contribution records there are.
+#[derive(Clone, Copy, Debug, PartialEq)]
 pub struct Rest {
     pub gamma: f64,
     pub options: MetricOptions,
@@ -18,45 +20,33 @@ pub struct Rest {
     pub records: usize,
 }
 
-// Whether a list of pairs has under 4,096 entries, or there are under 64 contribution records; by their lengths.
-fn short(lefts: usize, rights: usize, codes: usize, records: usize) -> bool
-    ensures { result ≡ Refusal.short (lefts ∷ rights ∷ codes ∷ []) records }
+// Whether a list of pairs has under 4,096 entries, or there are under 64 contribution records.
+fn short(rest: Rest) -> bool
+    ensures { result ≡ short (rest.lefts ∷ rest.rights ∷ rest.codes ∷ []) rest.records }
 {
-    if lefts < 4096 {
-        return true;
-    }
-    if rights < 4096 {
-        return true;
-    }
-    if codes < 4096 {
-        return true;
-    }
-    records < 64
+    let lists = [rest.lefts, rest.rights, rest.codes];
+    !lists.iter().all(|n| *n >= 4096) || rest.records < 64
 }
 
 // Whether the discount is not above 0 and below 1.
 fn discount_outside(gamma: f64) -> bool
     ensures { result ≡ discount_outside gamma }
 {
-    if 0.0 < gamma {
-        return !(gamma < ONE);
-    }
-    true
+    !(0.0 < gamma && gamma < ONE)
 }
 
-// The first of these checks that fails, 0 if none does.
-pub fn rest_refusal(rest: Rest) -> u32
-    ensures { result ≡ rest_refusal rest.gamma rest.options (rest.lefts ∷ rest.rights ∷ rest.codes ∷ []) rest.records }
+// Turned back with the first of these checks that fails.
+pub fn rest_refusal(rest: Rest) -> Result<(), Refusal>
+    ensures { code result ≡ rest_refusal rest.gamma rest.options (rest.lefts ∷ rest.rights ∷ rest.codes ∷ []) rest.records }
 {
-    if short(rest.lefts, rest.rights, rest.codes, rest.records) {
-        return 7;
+    if short(rest) {
+        return Err(Refusal::Store);
     }
     if discount_outside(rest.gamma) {
-        return 11;
+        return Err(Refusal::DiscountOrRate);
     }
-    let options = rest.options;
-    if excessive(options) {
-        return 14;
+    if excessive(rest.options) {
+        return Err(Refusal::TopOrRounds);
     }
-    0
+    Ok(())
 }

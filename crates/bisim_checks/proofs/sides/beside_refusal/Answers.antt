@@ -13,8 +13,8 @@ returns-then-cramped c = sym (check_hit 7 _ _ (sym c.cramped.ensures ∙ c.if-cr
 pub returns-then-absent : goal.returns-then-absent
 returns-then-absent c = sym (check_skip 7 _ _ _ (sym c.cramped.ensures ∙ c.if-cramped.false) (check_hit 8 _ _ (sym c.absent.ensures ∙ c.if-absent.true)))
 
-pub returns-then-not-all_within : goal.returns-then-not-all_within
-returns-then-not-all_within c = sym (check_skip 7 _ _ _ (sym c.cramped.ensures ∙ c.if-cramped.false) (check_skip 8 _ _ _ (sym c.absent.ensures ∙ c.if-absent.false) (check_hit 12 _ _ (outside _ _ (sym c.all_within.ensures) ∙ (ap not c.if-not-all_within.true)))))
+pub returns-then-not-hold_all : goal.returns-then-not-hold_all
+returns-then-not-hold_all c = sym (check_skip 7 _ _ _ (sym c.cramped.ensures ∙ c.if-cramped.false) (check_skip 8 _ _ _ (sym c.absent.ensures ∙ c.if-absent.false) (check_hit 12 _ _ (outside _ _ (sym c.hold_all.ensures) ∙ (ap not c.if-not-hold_all.true)))))
 
 pub returns : goal.returns
-returns c = sym (check_skip 7 _ _ _ (sym c.cramped.ensures ∙ c.if-cramped.false) (check_skip 8 _ _ _ (sym c.absent.ensures ∙ c.if-absent.false) (check_skip 12 _ _ _ (outside _ _ (sym c.all_within.ensures) ∙ (ap not c.if-not-all_within.false)) refl)))
+returns c = sym (check_skip 7 _ _ _ (sym c.cramped.ensures ∙ c.if-cramped.false) (check_skip 8 _ _ _ (sym c.absent.ensures ∙ c.if-absent.false) (check_skip 12 _ _ _ (outside _ _ (sym c.hold_all.ensures) ∙ (ap not c.if-not-hold_all.false)) refl)))

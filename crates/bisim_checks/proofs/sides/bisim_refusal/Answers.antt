@@ -1,15 +1,15 @@
 -- The earliest of what each side and the rest are refused for.
-use Rattle.bisim_core.specs.Data.{columns, columns_of}
-use Rattle.chain_theory.specs.Columns.{chain_columns}
 use mathlib.Core.List.{[], ◌∷◌}
+use Rattle.bisim_core.specs.Data.{columns_of}
+use Rattle.chain_theory.specs.Lent.{of_store}
 use Rattle.bisim_checks.proofs.Together.{total}
 use Rattle.bisim_checks.proofs.sides.bisim_refusal.Goals as goal
 
 pub returns : goal.returns
 returns c =
-    let a = c.args in
-    let r = a.rest in
-    total a.left.now.shape (columns_of a.left.now) a.left_state.0 a.left_observations.now (chain_columns a.left_chain_offsets.now a.left_chain_targets.now a.left_chain_probs.now a.left_chain_seen.now)
-    a.right.now.shape (columns_of a.right.now) a.right_state.0 a.right_observations.now (chain_columns a.right_chain_offsets.now a.right_chain_targets.now a.right_chain_probs.now a.right_chain_seen.now)
+    let l = c.args.left.now in
+    let k = c.args.right.now in
+    let r = c.args.rest in
+    total l.model.shape (columns_of l.model) l.state.0 l.observations.now (of_store c.args.left_store.now) k.model.shape (columns_of k.model) k.state.0 k.observations.now (of_store c.args.right_store.now)
     r.gamma r.options (r.lefts ∷ r.rights ∷ r.codes ∷ []) r.records _ _ _ _ _
     c.side_refusal-of_left.ensures c.side_refusal-of_right.ensures c.rest_refusal-of_rest.ensures c.earlier.ensures c.earlier-2.ensures
