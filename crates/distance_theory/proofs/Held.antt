@@ -14,6 +14,7 @@ use Rattle.numbers.proofs.Bools.{lt_or_ge}
 use Rattle.numbers.proofs.Spans.{span_length}
 use Rattle.epsdelta_theory.proofs.Rows.{at_map_span}
 use Rattle.distance_theory.specs.Couplings.{Share, share}
+use Rattle.distance_theory.specs.declared.lent.Store.{Store}
 use Rattle.distance_theory.proofs.Turns.{share_at, coupling_at}
 
 -- places and masses, side by side
@@ -34,6 +35,9 @@ coupling starts lengths places masses k = let a = get_or starts k 0 in shares_in
 abbrev pub policy_in : List ℕ → List ℕ → List ℕ → List Float → ℕ → List (List Share)
 policy_in starts lengths places masses n = map (coupling starts lengths places masses) (span 0 n)
 
+abbrev pub policy_of : Store → ℕ → List (List Share)
+policy_of S n = policy_in S.starts.now S.lengths.now S.places.now S.masses.now n
+
 -- ---- what the loops over it need
 
 -- the shares from a to b are in the store, and each leads to one of n pairs
@@ -52,6 +56,9 @@ pub record Holds (starts lengths places : List ℕ) (masses : List Float) (n : �
   pub in_starts : n ≤ length starts
   pub in_lengths : n ≤ length lengths
   pub each : (k : ℕ) → k < n → Lies places masses n (get_or starts k 0) (get_or starts k 0 + get_or lengths k 0)
+
+abbrev pub StoreHolds : Store → ℕ → Type 0
+StoreHolds S n = Holds S.starts.now S.lengths.now S.places.now S.masses.now n
 
 -- ---- laws
 

@@ -4,6 +4,8 @@ ghost use Rattle.std.proofs.Math.Seq.{slice};
 ghost use Rattle.numbers.specs.Lists.{all};
 ghost use Rattle.distance_words.proofs.Readable;
 
+use distance_theory::lent::Store;
+
 // Whether each of these places is below n.
 fn all_below(places: &[u32], n: usize) -> bool
     ensures { result ≡ all (Readable.below n) places.now }
@@ -12,26 +14,18 @@ fn all_below(places: &[u32], n: usize) -> bool
 }
 
 // Whether the coupling of pair k is in the store, and leads to some of n pairs.
-fn lies(starts: &[u32], lengths: &[u32], places: &[u32], masses: &[f64], n: usize, k: usize) -> bool
-    requires { (k < length starts.now) × (k < length lengths.now) }
-    ensures { result ≡ Readable.lies starts.now lengths.now places.now masses.now n k }
+fn lies(store: &Store, n: usize, k: usize) -> bool
+    requires { (k < length store.now.starts.now) × (k < length store.now.lengths.now) }
+    ensures { result ≡ Readable.lies store.now.starts.now store.now.lengths.now store.now.places.now store.now.masses.now n k }
 {
-    let from = starts[k] as usize;
-    let to = from + lengths[k] as usize;
-    to <= places.len() && to <= masses.len() && all_below(&places[from..to], n)
+    let from = store.starts[k] as usize;
+    let to = from + store.lengths[k] as usize;
+    to <= store.places.len() && to <= store.masses.len() && all_below(&store.places[from..to], n)
 }
 
 // Whether the coupling of each of n pairs is in the store, and leads to some of them.
-pub(crate) fn held(
-    starts: &[u32],
-    lengths: &[u32],
-    places: &[u32],
-    masses: &[f64],
-    n: usize,
-) -> bool
-    ensures { result ≡ Readable.held starts.now lengths.now places.now masses.now n }
+pub(crate) fn held(store: &Store, n: usize) -> bool
+    ensures { result ≡ Readable.held store.now.starts.now store.now.lengths.now store.now.places.now store.now.masses.now n }
 {
-    n <= starts.len()
-        && n <= lengths.len()
-        && (0..n).all(|k| lies(starts, lengths, places, masses, n, k))
+    n <= store.starts.len() && n <= store.lengths.len() && (0..n).all(|k| lies(store, n, k))
 }

@@ -2,11 +2,12 @@
 ghost use Rattle.std.specs.Prelude.{◌≡◌, ◌≤◌, length};
 ghost use Rattle.distance_theory.specs.Couplings;
 ghost use Rattle.distance_theory.specs.Rounds;
-ghost use Rattle.distance_theory.proofs.Held.{shares_of, policy_in, Leads, Holds};
+ghost use Rattle.distance_theory.proofs.Held.{shares_of, policy_of, Leads, StoreHolds};
 ghost use Rattle.distance_theory.proofs.ValueRows.{Swept};
 ghost use Rattle.distance_words.proofs.Valuing.{priced, valued, evaluated};
 
 use crate::store;
+use distance_theory::lent::Store;
 use numbers::{apart, larger};
 
 // The sum of mass × value over the shares.
@@ -22,24 +23,16 @@ fn expected(places: &[u32], masses: &[f64], value: &[f64]) -> f64
 }
 
 // A sweep: each pair in turn gets cost + γ × what its coupling expects. Gives by how much a value has moved at most.
-fn sweep(
-    starts: &[u32],
-    lengths: &[u32],
-    places: &[u32],
-    masses: &[f64],
-    cost: &[f64],
-    gamma: f64,
-    value: &mut [f64],
-) -> f64
-    requires holds { Holds starts.now lengths.now places.now masses.now (length value.old) }
+fn sweep(store: &Store, cost: &[f64], gamma: f64, value: &mut [f64]) -> f64
+    requires holds { StoreHolds store.now (length value.old) }
     requires value_in_bounds { length value.old ≤ length cost.now }
-    ensures { Swept (Rounds.swept (priced gamma cost.now) (policy_in starts.now lengths.now places.now masses.now (length value.old)) value.old) value.new result }
+    ensures { Swept (Rounds.swept (priced gamma cost.now) (policy_of store.now (length value.old)) value.old) value.new result }
 {
     let mut delta = 0.0;
     for k in 0..value.len() {
-        let from = starts[k] as usize;
-        let to = from + lengths[k] as usize;
-        let x = cost[k] + gamma * expected(&places[from..to], &masses[from..to], value);
+        let from = store.starts[k] as usize;
+        let to = from + store.lengths[k] as usize;
+        let x = cost[k] + gamma * expected(&store.places[from..to], &store.masses[from..to], value);
         delta = larger(delta, apart(x, value[k]));
         value[k] = x;
     }
@@ -47,59 +40,34 @@ fn sweep(
 }
 
 // Sweeps up to one that moves no value by more than tol, at most `limit`.
-fn sweeps_in(
-    limit: usize,
-    starts: &[u32],
-    lengths: &[u32],
-    places: &[u32],
-    masses: &[f64],
-    cost: &[f64],
-    gamma: f64,
-    tol: f64,
-    value: &mut [f64],
-)
-    requires holds { Holds starts.now lengths.now places.now masses.now (length value.old) }
+fn sweeps_in(limit: usize, store: &Store, cost: &[f64], gamma: f64, tol: f64, value: &mut [f64])
+    requires holds { StoreHolds store.now (length value.old) }
     requires value_in_bounds { length value.old ≤ length cost.now }
-    ensures { value.new ≡ Rounds.sweeps (priced gamma cost.now) (policy_in starts.now lengths.now places.now masses.now (length value.old)) tol limit value.old }
+    ensures { value.new ≡ Rounds.sweeps (priced gamma cost.now) (policy_of store.now (length value.old)) tol limit value.old }
 {
     for _ in 0..limit {
-        if sweep(starts, lengths, places, masses, cost, gamma, value) <= tol {
+        if sweep(store, cost, gamma, value) <= tol {
             return;
         }
     }
 }
 
-// The values of the first n pairs, each with its cost and its coupling, after at most `limit` sweeps; gives whether these could be read. If not, nothing changes.
+// The values of the pairs, each with its cost and its coupling, after at most `limit` sweeps; gives whether these could be read. If not, nothing changes.
 pub fn sweeps(
     limit: usize,
-    n: usize,
-    starts: &[u32],
-    lengths: &[u32],
-    places: &[u32],
-    masses: &[f64],
+    store: &Store,
     cost: &[f64],
     gamma: f64,
     tol: f64,
     value: &mut [f64],
 ) -> bool
-    ensures { valued result value.new ≡ evaluated limit starts.now lengths.now places.now masses.now cost.now gamma tol value.old n }
+    ensures { valued result value.new ≡ evaluated limit store.now.starts.now store.now.lengths.now store.now.places.now store.now.masses.now cost.now gamma tol value.old (length value.old) }
 {
+    let n = value.len();
     if n <= cost.len() {
-        if n <= value.len() {
-            if store::held(starts, lengths, places, masses, n) {
-                sweeps_in(
-                    limit,
-                    starts,
-                    lengths,
-                    places,
-                    masses,
-                    &cost[..n],
-                    gamma,
-                    tol,
-                    &mut value[..n],
-                );
-                return true;
-            }
+        if store::held(store, n) {
+            sweeps_in(limit, store, &cost[..n], gamma, tol, value);
+            return true;
         }
     }
     false

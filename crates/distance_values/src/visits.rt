@@ -3,11 +3,12 @@ ghost use Rattle.std.specs.Prelude.{◌≡◌, ◌≤◌, length, replicate};
 ghost use Rattle.numbers.specs.Real.{nought};
 ghost use Rattle.distance_theory.specs.Pairs.{most};
 ghost use Rattle.distance_theory.specs.Contributions;
-ghost use Rattle.distance_theory.proofs.Held.{shares_of, policy_in, Leads, Holds};
+ghost use Rattle.distance_theory.proofs.Held.{shares_of, policy_of, Leads, StoreHolds};
 ghost use Rattle.distance_theory.proofs.ValueRows.{staying, Stayed, Advanced, visiting, Rested};
-ghost use Rattle.distance_words.proofs.Valuing.{occupied, visited};
+ghost use Rattle.distance_words.proofs.Valuing.{occupied_as, visited};
 
 use crate::store;
+use distance_theory::lent::Store;
 use numbers::{EPS, ONE, Real};
 
 // x × mass more for each pair that the shares lead to.
@@ -21,26 +22,22 @@ fn pour(places: &[u32], masses: &[f64], x: f64, next: &mut [f64])
 }
 
 // The mass that is in a pair counts as time spent there, and goes on to the pairs that follow.
-fn stay_all(
-    starts: &[u32],
-    lengths: &[u32],
-    places: &[u32],
-    masses: &[f64],
-    gamma: f64,
-    current: &[f64],
-    next: &mut [f64],
-    spent: &mut [f64],
-)
-    requires holds { Holds starts.now lengths.now places.now masses.now (length current.now) }
+fn stay_all(store: &Store, gamma: f64, current: &[f64], next: &mut [f64], spent: &mut [f64])
+    requires holds { StoreHolds store.now (length current.now) }
     requires next_len { (length next.old ≡ length current.now) × (length spent.old ≡ length current.now) }
-    ensures { Stayed (Contributions.stay_all gamma current.now 0 (policy_in starts.now lengths.now places.now masses.now (length current.now)) (staying spent.old next.old)) spent.new next.new }
+    ensures { Stayed (Contributions.stay_all gamma current.now 0 (policy_of store.now (length current.now)) (staying spent.old next.old)) spent.new next.new }
 {
     for (k, p) in current.iter().enumerate() {
         if *p != 0.0 {
             spent[k] += *p;
-            let from = starts[k] as usize;
-            let to = from + lengths[k] as usize;
-            pour(&places[from..to], &masses[from..to], gamma * *p, next);
+            let from = store.starts[k] as usize;
+            let to = from + store.lengths[k] as usize;
+            pour(
+                &store.places[from..to],
+                &store.masses[from..to],
+                gamma * *p,
+                next,
+            );
         }
     }
 }
@@ -58,44 +55,33 @@ fn advance(current: &mut [f64], next: &mut [f64]) -> f64
 // Rounds while the mass is above 1e-12, at most `limit`; gives the mass that is left.
 fn rounds(
     limit: usize,
-    starts: &[u32],
-    lengths: &[u32],
-    places: &[u32],
-    masses: &[f64],
+    store: &Store,
     gamma: f64,
     mass: f64,
     current: &mut [f64],
     next: &mut [f64],
     spent: &mut [f64],
 ) -> f64
-    requires holds { Holds starts.now lengths.now places.now masses.now (length current.old) }
+    requires holds { StoreHolds store.now (length current.old) }
     requires next_value { (next.old ≡ replicate (length current.old) nought) × (length spent.old ≡ length current.old) }
-    ensures { Rested (Contributions.visits gamma (policy_in starts.now lengths.now places.now masses.now (length current.old)) limit (visiting spent.old current.old mass)) result spent.new }
+    ensures { Rested (Contributions.visits gamma (policy_of store.now (length current.old)) limit (visiting spent.old current.old mass)) result spent.new }
 {
     let mut left = mass;
     for _ in 0..limit {
         if !(left > EPS) {
             return left;
         }
-        stay_all(starts, lengths, places, masses, gamma, current, next, spent);
+        stay_all(store, gamma, current, next, spent);
         left = advance(current, next);
     }
     left
 }
 
 // The time spent in each of at most 4,096 pairs, from the first on; gives the mass that is left.
-fn visits_in(
-    limit: usize,
-    starts: &[u32],
-    lengths: &[u32],
-    places: &[u32],
-    masses: &[f64],
-    gamma: f64,
-    spent: &mut [f64],
-) -> f64
-    requires holds { Holds starts.now lengths.now places.now masses.now (length spent.old) }
+fn visits_in(limit: usize, store: &Store, gamma: f64, spent: &mut [f64]) -> f64
+    requires holds { StoreHolds store.now (length spent.old) }
     requires spent_len_bound { length spent.old ≤ most }
-    ensures { Rested (Contributions.visits gamma (policy_in starts.now lengths.now places.now masses.now (length spent.old)) limit (Contributions.depart gamma (length spent.old))) result spent.new }
+    ensures { Rested (Contributions.visits gamma (policy_of store.now (length spent.old)) limit (Contributions.depart gamma (length spent.old))) result spent.new }
 {
     let n = spent.len();
     let p = ONE - gamma;
@@ -105,10 +91,7 @@ fn visits_in(
     spent.fill(0.0);
     rounds(
         limit,
-        starts,
-        lengths,
-        places,
-        masses,
+        store,
         gamma,
         p,
         &mut current[..n],
@@ -117,44 +100,15 @@ fn visits_in(
     )
 }
 
-// Whether the couplings could be read, and the mass that is left.
-#[derive(Clone, Copy)]
-pub struct Left {
-    pub done: bool,
-    pub mass: f64,
-}
-
-// The time spent in the first n pairs, at most 4,096, each with its coupling, in at most `limit` rounds from the first pair on; nothing changes where these cannot be read.
-pub fn visits(
-    limit: usize,
-    n: usize,
-    starts: &[u32],
-    lengths: &[u32],
-    places: &[u32],
-    masses: &[f64],
-    gamma: f64,
-    spent: &mut [f64],
-) -> Left
-    ensures { occupied result.done result.mass spent.new ≡ visited limit starts.now lengths.now places.now masses.now gamma spent.old n }
+// The time spent in each of at most 4,096 pairs, each with its coupling, in at most `limit` rounds from the first pair on; gives the mass that is left. None, and nothing changes, where the couplings cannot be read.
+pub fn visits(limit: usize, store: &Store, gamma: f64, spent: &mut [f64]) -> Option<f64>
+    ensures { occupied_as result spent.new ≡ visited limit store.now.starts.now store.now.lengths.now store.now.places.now store.now.masses.now gamma spent.old (length spent.old) }
 {
+    let n = spent.len();
     if n <= 4096 {
-        if n <= spent.len() {
-            if store::held(starts, lengths, places, masses, n) {
-                let mass = visits_in(
-                    limit,
-                    starts,
-                    lengths,
-                    places,
-                    masses,
-                    gamma,
-                    &mut spent[..n],
-                );
-                return Left { done: true, mass };
-            }
+        if store::held(store, n) {
+            return Some(visits_in(limit, store, gamma, spent));
         }
     }
-    Left {
-        done: false,
-        mass: 0.0,
-    }
+    None
 }

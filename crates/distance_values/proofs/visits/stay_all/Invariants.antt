@@ -3,4 +3,4 @@ use Rattle.distance_values.proofs.Visiting.{Stays}
 use Rattle.distance_values.proofs.visits.stay_all.Given as goal
 
 abbrev pub invariant-loop-k : goal.invariant-loop-k
-invariant-loop-k l = Stays l.starts l.lengths l.places l.masses l.gamma l.current l.initial.next l.initial.spent l.next l.spent l.k
+invariant-loop-k l = Stays l.store.starts.now l.store.lengths.now l.store.places.now l.store.masses.now l.gamma l.current l.initial.next l.initial.spent l.next l.spent l.k
