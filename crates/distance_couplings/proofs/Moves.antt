@@ -24,12 +24,9 @@ use Rattle.transport.specs.declared.plan.Plan.{Plan}
 use Rattle.epsdelta_theory.specs.Jumps.{Jump, jumps_of}
 use Rattle.epsdelta_theory.proofs.RowReads.{jumps_length}
 use Rattle.distance_theory.specs.Couplings.{Share, expected, fitted, point_mass}
-use Rattle.chain_theory.specs.Columns.{chain_columns}
-use Rattle.chain_check.proofs.Checks.{part_is}
-use Rattle.distance_theory.proofs.PairRows.{RowRead, lay_read, best_read}
 use Rattle.distance_theory.proofs.Held.{shares_of}
 use Rattle.distance_theory.proofs.Stored.{shares_front}
-use Rattle.distance_theory.proofs.Bests.{Look, ats, parts, independent_by, best_by, Laid, laid, lay_if, lay_on, Bested, bested, best_if, best_on, Beside, Movable, moved_on, places_by, freely_length, costs_by, costs_length, fitted_is, moved_is, moved_celled, moved_few, cells_read, places_shares}
+use Rattle.distance_theory.proofs.Bests.{Look, ats, parts, independent_by, best_by, laid, lay_if, Bested, bested, best_if, Beside, Movable, moved_on, places_by, freely_length, costs_by, costs_length, fitted_is, moved_is, moved_celled, moved_few, cells_read, places_shares}
 
 abbrev plan_of : Result Plan ℕ → Plan
 plan_of (Ok p) = p
@@ -178,7 +175,7 @@ module _ (look : Look) (xs : List ℕ) (ps : List Float) (ys : List ℕ) (qs : L
     pub with_several : (length xs ≡ 1 → ⊥) → (length ys ≡ 1 → ⊥) → b ≡ chosen false → b ≡ chosen (point_mass es fs)
     with_several g h e = e ∙ ap chosen (sym (several g h))
 
--- ---- shares that were laid, and rows that were read
+-- ---- shares that were laid
 
 pub laid_all : (look : Look) (xs : List ℕ) (ps : List Float) (ys : List ℕ) (qs : List Float) (codes : ℕ) (R : Beside xs ps ys qs codes) (p p₀ : List ℕ) (m m₀ : List Float)
     → p ≡ over (ats (independent_by look (jumps_of xs ps) (jumps_of ys qs))) p₀ → m ≡ over (parts (independent_by look (jumps_of xs ps) (jumps_of ys qs))) m₀
@@ -186,19 +183,3 @@ pub laid_all : (look : Look) (xs : List ℕ) (ps : List Float) (ys : List ℕ) (
 laid_all look xs ps ys qs codes R p p₀ m m₀ ep em =
     let cs : List Share = independent_by look (jumps_of xs ps) (jumps_of ys qs) in
     ap (λ (n : ℕ). laid true n p m) (sym (freely_length look xs ps ys qs codes R)) ∙ ap₂ (λ (u : List ℕ) (w : List Float). laid true (length cs) u w) ep em
-
-module _ (O T : List ℕ) (P : List Float) (U S : List ℕ) (Q : List Float) (x y : ℕ) (RL : RowRead O T P x) (RR : RowRead U S Q y) (look : Look) (codes : ℕ) (p : List ℕ) (m : List Float) where
-  abbrev part : {A : Type 0} → List ℕ → ℕ → List A → List A
-  part O x l = take (get_or O (x + 1) 0 - get_or O x 0) (drop (get_or O x 0) l)
-
-  pub read_laid : {r : Laid} → r ≡ lay_on look (part O x T) (part O x P) (part U y S) (part U y Q) codes p m → r ≡ lay_read look (chain_columns O T P []) (chain_columns U S Q []) codes x y p m
-  read_laid e =
-      let q₁ = part_is _ _ T RL.rises in let q₂ = part_is _ _ P RL.rises in
-      let q₃ = part_is _ _ S RR.rises in let q₄ = part_is _ _ Q RR.rises in
-      e ∙ (λ i. lay_on look (q₁ i) (q₂ i) (q₃ i) (q₄ i) codes p m)
-
-  pub read_bested : (v : List Float) {r : Bested} → r ≡ best_on look (part O x T) (part O x P) (part U y S) (part U y Q) codes p m v → r ≡ best_read look (chain_columns O T P []) (chain_columns U S Q []) codes x y v p m
-  read_bested v e =
-      let q₁ = part_is _ _ T RL.rises in let q₂ = part_is _ _ P RL.rises in
-      let q₃ = part_is _ _ S RR.rises in let q₄ = part_is _ _ Q RR.rises in
-      e ∙ (λ i. best_on look (q₁ i) (q₂ i) (q₃ i) (q₄ i) codes p m v)

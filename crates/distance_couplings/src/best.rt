@@ -5,14 +5,15 @@ ghost use Rattle.std.specs.Float.Ieee.{mul, div};
 ghost use Rattle.numbers.specs.Lists.{over};
 ghost use Rattle.numbers.specs.Real.{sum};
 ghost use Rattle.distance_theory.proofs.Index.{look_up};
-ghost use Rattle.epsdelta_theory.specs.Jumps.{jumps_of};
 ghost use Rattle.transport_theory.specs.Transport.{transport};
 ghost use Rattle.distance_theory.specs.Couplings.{point_mass};
-ghost use Rattle.distance_theory.proofs.Bests.{Beside, costs_by, places_by, Movable, moved_on, best_by, bested, best_if, best_on};
+ghost use Rattle.distance_theory.proofs.PairRows.{row_jumps};
+ghost use Rattle.distance_theory.proofs.Bests.{Beside, costs_by, places_by, Movable, moved_on, best_by, bested, bested_as, best_if, best_on};
 
 use crate::shares::{cells_fit, expected_part, lay_shares, place, rows_fit, value_at};
 use bisim_core::ids::StateId;
 use distance_pairs::index::place_of;
+use distance_theory::lent::{Best, Row};
 use numbers::Real;
 use transport::entry::transport_sized;
 use transport::plan::PlanRows;
@@ -66,13 +67,6 @@ fn lay_planned(
     }
 }
 
-// What a coupling comes to, Σ mass × value, and its number of shares.
-#[derive(Clone, Copy)]
-pub struct Best {
-    pub value: f64,
-    pub cells: usize,
-}
-
 // The transport of masses a to masses b under the costs: its shares, with the places of the pairs of xs and ys.
 fn move_masses(
     a: &[f64],
@@ -83,9 +77,9 @@ fn move_masses(
     codes: &[u64],
     places: &mut [u32],
     masses: &mut [f64],
-) -> Best
+) -> Option<Best>
     requires { Movable a.now b.now costs.now xs.now ys.now (length codes.now) (length places.old) (length masses.old) }
-    ensures { bested result.value result.cells places.new masses.new ≡ moved_on (look_up codes.now) xs.now ys.now (transport a.now b.now costs.now) places.old masses.old }
+    ensures { bested_as result places.new masses.new ≡ moved_on (look_up codes.now) xs.now ys.now (transport a.now b.now costs.now) places.old masses.old }
 {
     let mut rows = [0u32; 1024];
     let mut columns = [0u32; 1024];
@@ -102,45 +96,40 @@ fn move_masses(
     match transport_sized(&of, &mut plan) {
         Ok(moved) => {
             lay_planned(xs, ys, codes, &plan, moved.cells, places);
-            Best {
+            Some(Best {
                 value: moved.total,
                 cells: moved.cells,
-            }
+            })
         }
-        Err(_) => Best {
-            value: 0.0,
-            cells: 0,
-        },
+        Err(_) => None,
     }
 }
 
 // Rows of several entries each: by transport of one to the other, the values as costs.
 fn best_moved(
-    xs: &[u32],
-    ps: &[f64],
-    ys: &[u32],
-    qs: &[f64],
+    xs: &Row,
+    ys: &Row,
     codes: &[u64],
     values: &[f64],
     places: &mut [u32],
     masses: &mut [f64],
-) -> Best
-    requires beside { Beside xs.now ps.now ys.now qs.now (length codes.now) }
-    requires ys_in_bounds { (length xs.now * length ys.now ≤ length places.old) × (length xs.now * length ys.now ≤ length masses.old) }
-    ensures { bested result.value result.cells places.new masses.new ≡ best_if true (best_by false (look_up codes.now) values.now (jumps_of xs.now ps.now) (jumps_of ys.now qs.now)) places.old masses.old }
+) -> Option<Best>
+    requires beside { Beside xs.now.targets.now xs.now.probs.now ys.now.targets.now ys.now.probs.now (length codes.now) }
+    requires ys_in_bounds { (length xs.now.targets.now * length ys.now.targets.now ≤ length places.old) × (length xs.now.targets.now * length ys.now.targets.now ≤ length masses.old) }
+    ensures { bested_as result places.new masses.new ≡ best_if true (best_by false (look_up codes.now) values.now (row_jumps xs.now) (row_jumps ys.now)) places.old masses.old }
 {
     let mut costs = [0.0f64; 1024];
     let mut fitted = [0.0f64; 32];
-    lay_values(xs, ys, codes, values, &mut costs);
-    fit(ps, qs, &mut fitted);
-    let n = ys.len();
-    let cells = xs.len() * n;
+    lay_values(xs.targets, ys.targets, codes, values, &mut costs);
+    fit(xs.probs, ys.probs, &mut fitted);
+    let n = ys.targets.len();
+    let cells = xs.targets.len() * n;
     move_masses(
-        ps,
+        xs.probs,
         &fitted[..n],
         &costs[..cells],
-        xs,
-        ys,
+        xs.targets,
+        ys.targets,
         codes,
         places,
         masses,
@@ -149,73 +138,63 @@ fn best_moved(
 
 // A row of one entry: only one coupling exists.
 fn best_alone(
-    xs: &[u32],
-    ps: &[f64],
-    ys: &[u32],
-    qs: &[f64],
+    xs: &Row,
+    ys: &Row,
     codes: &[u64],
     values: &[f64],
     places: &mut [u32],
     masses: &mut [f64],
 ) -> Best
-    requires beside { Beside xs.now ps.now ys.now qs.now (length codes.now) }
-    requires ys_in_bounds { (length xs.now * length ys.now ≤ length places.old) × (length xs.now * length ys.now ≤ length masses.old) }
-    ensures { bested result.value result.cells places.new masses.new ≡ best_if true (best_by true (look_up codes.now) values.now (jumps_of xs.now ps.now) (jumps_of ys.now qs.now)) places.old masses.old }
+    requires beside { Beside xs.now.targets.now xs.now.probs.now ys.now.targets.now ys.now.probs.now (length codes.now) }
+    requires ys_in_bounds { (length xs.now.targets.now * length ys.now.targets.now ≤ length places.old) × (length xs.now.targets.now * length ys.now.targets.now ≤ length masses.old) }
+    ensures { bested result.value result.cells places.new masses.new ≡ best_if true (best_by true (look_up codes.now) values.now (row_jumps xs.now) (row_jumps ys.now)) places.old masses.old }
 {
-    let cells = xs.len() * ys.len();
-    lay_shares(xs, ps, ys, qs, codes, places, masses);
+    let cells = xs.targets.len() * ys.targets.len();
+    lay_shares(xs, ys, codes, places, masses);
     let value = expected_part(values, places, masses, 0, cells);
     Best { value, cells }
 }
 
 // One coupling alone where a row has one entry; else the one that transport gives.
 fn cheapest(
-    xs: &[u32],
-    ps: &[f64],
-    ys: &[u32],
-    qs: &[f64],
+    xs: &Row,
+    ys: &Row,
     codes: &[u64],
     values: &[f64],
     places: &mut [u32],
     masses: &mut [f64],
-) -> Best
-    requires beside { Beside xs.now ps.now ys.now qs.now (length codes.now) }
-    requires ys_in_bounds { (length xs.now * length ys.now ≤ length places.old) × (length xs.now * length ys.now ≤ length masses.old) }
-    ensures { bested result.value result.cells places.new masses.new ≡ best_if true (best_by (point_mass (jumps_of xs.now ps.now) (jumps_of ys.now qs.now)) (look_up codes.now) values.now (jumps_of xs.now ps.now) (jumps_of ys.now qs.now)) places.old masses.old }
+) -> Option<Best>
+    requires beside { Beside xs.now.targets.now xs.now.probs.now ys.now.targets.now ys.now.probs.now (length codes.now) }
+    requires ys_in_bounds { (length xs.now.targets.now * length ys.now.targets.now ≤ length places.old) × (length xs.now.targets.now * length ys.now.targets.now ≤ length masses.old) }
+    ensures { bested_as result places.new masses.new ≡ best_if true (best_by (point_mass (row_jumps xs.now) (row_jumps ys.now)) (look_up codes.now) values.now (row_jumps xs.now) (row_jumps ys.now)) places.old masses.old }
 {
-    if xs.len() == 1 {
-        return best_alone(xs, ps, ys, qs, codes, values, places, masses);
+    if xs.targets.len() == 1 {
+        return Some(best_alone(xs, ys, codes, values, places, masses));
     }
-    if ys.len() == 1 {
-        return best_alone(xs, ps, ys, qs, codes, values, places, masses);
+    if ys.targets.len() == 1 {
+        return Some(best_alone(xs, ys, codes, values, places, masses));
     }
-    best_moved(xs, ps, ys, qs, codes, values, places, masses)
+    best_moved(xs, ys, codes, values, places, masses)
 }
 
-// The cheapest coupling of two rows, targets xs and ys beside probabilities ps and qs, over the front of two lists. Value 0 and no share where the rows have over 32 entries or are no rows, there are over 4,096 codes, or a list is short: the lists are then as they were.
+// The cheapest coupling of two rows, over the front of two lists. None where the rows have over 32 entries or are no rows, there are over 4,096 codes, or a list is short: the lists are then as they were.
 pub(crate) fn best_coupling(
-    xs: &[u32],
-    ps: &[f64],
-    ys: &[u32],
-    qs: &[f64],
+    xs: &Row,
+    ys: &Row,
     codes: &[u64],
     values: &[f64],
     places: &mut [u32],
     masses: &mut [f64],
-) -> Best
-    ensures { bested result.value result.cells places.new masses.new ≡ best_on (look_up codes.now) xs.now ps.now ys.now qs.now (length codes.now) places.old masses.old values.now }
+) -> Option<Best>
+    ensures { bested_as result places.new masses.new ≡ best_on (look_up codes.now) xs.now.targets.now xs.now.probs.now ys.now.targets.now ys.now.probs.now (length codes.now) places.old masses.old values.now }
 {
-    if !rows_fit(xs.len(), ps.len(), ys.len(), qs.len(), codes.len()) {
-        return Best {
-            value: 0.0,
-            cells: 0,
-        };
+    let m = xs.targets.len();
+    let n = ys.targets.len();
+    if !rows_fit(m, xs.probs.len(), n, ys.probs.len(), codes.len()) {
+        return None;
     }
-    if !cells_fit(xs.len(), ys.len(), places.len(), masses.len()) {
-        return Best {
-            value: 0.0,
-            cells: 0,
-        };
+    if !cells_fit(m, n, places.len(), masses.len()) {
+        return None;
     }
-    cheapest(xs, ps, ys, qs, codes, values, places, masses)
+    cheapest(xs, ys, codes, values, places, masses)
 }

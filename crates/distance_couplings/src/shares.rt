@@ -3,15 +3,16 @@ ghost use Rattle.std.specs.Prelude.{◌≡◌, ◌*◌, ◌≤◌, length, get_o
 ghost use Rattle.std.specs.Float.{nan};
 ghost use Rattle.std.proofs.Math.Seq.{slice};
 ghost use Rattle.numbers.specs.Lists.{over};
-ghost use Rattle.epsdelta_theory.specs.Jumps.{jumps_of};
 ghost use Rattle.distance_theory.specs.Pairs.{pair};
 ghost use Rattle.distance_theory.specs.Couplings.{expected};
 ghost use Rattle.distance_theory.proofs.Index.{look_up};
 ghost use Rattle.distance_theory.proofs.Held.{shares_of};
-ghost use Rattle.distance_theory.proofs.Bests.{ats, parts, independent_by, Beside, rows_fit, cells_fit, laid, lay_on};
+ghost use Rattle.distance_theory.proofs.PairRows.{row_jumps};
+ghost use Rattle.distance_theory.proofs.Bests.{ats, parts, independent_by, Beside, rows_fit, cells_fit, laid_as, lay_on};
 
 use bisim_core::ids::StateId;
 use distance_pairs::index::place_of;
+use distance_theory::lent::Row;
 
 // The value at a place; NaN past the last.
 pub fn value_at(values: &[f64], i: usize) -> f64
@@ -43,27 +44,19 @@ pub(crate) fn place(codes: &[u64], x: u32, y: u32) -> u32
 }
 
 // The independent coupling of two rows over the front of two lists: each entry with each, the probabilities multiplied.
-pub(crate) fn lay_shares(
-    xs: &[u32],
-    ps: &[f64],
-    ys: &[u32],
-    qs: &[f64],
-    codes: &[u64],
-    places: &mut [u32],
-    masses: &mut [f64],
-)
-    requires beside { Beside xs.now ps.now ys.now qs.now (length codes.now) }
-    requires ys_in_bounds { (length xs.now * length ys.now ≤ length places.old) × (length xs.now * length ys.now ≤ length masses.old) }
-    ensures { (places.new ≡ over (ats (independent_by (look_up codes.now) (jumps_of xs.now ps.now) (jumps_of ys.now qs.now))) places.old)
-        × (masses.new ≡ over (parts (independent_by (look_up codes.now) (jumps_of xs.now ps.now) (jumps_of ys.now qs.now))) masses.old) }
+pub(crate) fn lay_shares(xs: &Row, ys: &Row, codes: &[u64], places: &mut [u32], masses: &mut [f64])
+    requires beside { Beside xs.now.targets.now xs.now.probs.now ys.now.targets.now ys.now.probs.now (length codes.now) }
+    requires ys_in_bounds { (length xs.now.targets.now * length ys.now.targets.now ≤ length places.old) × (length xs.now.targets.now * length ys.now.targets.now ≤ length masses.old) }
+    ensures { (places.new ≡ over (ats (independent_by (look_up codes.now) (row_jumps xs.now) (row_jumps ys.now))) places.old)
+        × (masses.new ≡ over (parts (independent_by (look_up codes.now) (row_jumps xs.now) (row_jumps ys.now))) masses.old) }
 {
-    let n = ys.len();
-    let cells = xs.len() * n;
+    let n = ys.targets.len();
+    let cells = xs.targets.len() * n;
     for k in 0..cells {
         let i = k / n;
         let j = k % n;
-        places[k] = place(codes, xs[i], ys[j]);
-        masses[k] = ps[i] * qs[j];
+        places[k] = place(codes, xs.targets[i], ys.targets[j]);
+        masses[k] = xs.probs[i] * ys.probs[j];
     }
 }
 
@@ -91,40 +84,24 @@ pub(crate) fn cells_fit(m: usize, n: usize, places: usize, masses: usize) -> boo
     m * n <= places && m * n <= masses
 }
 
-// Whether shares were laid, and how many.
-#[derive(Clone, Copy)]
-pub struct Part {
-    pub done: bool,
-    pub cells: usize,
-}
-
-// The independent coupling of two rows, targets xs and ys beside probabilities ps and qs, over the front of two lists. Not done where the rows have over 32 entries or are no rows, there are over 4,096 codes, or a list is short: the lists are then as they were.
+// The independent coupling of two rows, over the front of two lists. None where the rows have over 32 entries or are no rows, there are over 4,096 codes, or a list is short: the lists are then as they were.
 pub fn lay_independent(
-    xs: &[u32],
-    ps: &[f64],
-    ys: &[u32],
-    qs: &[f64],
+    xs: &Row,
+    ys: &Row,
     codes: &[u64],
     places: &mut [u32],
     masses: &mut [f64],
-) -> Part
-    ensures { laid result.done result.cells places.new masses.new ≡ lay_on (look_up codes.now) xs.now ps.now ys.now qs.now (length codes.now) places.old masses.old }
+) -> Option<usize>
+    ensures { laid_as result places.new masses.new ≡ lay_on (look_up codes.now) xs.now.targets.now xs.now.probs.now ys.now.targets.now ys.now.probs.now (length codes.now) places.old masses.old }
 {
-    if !rows_fit(xs.len(), ps.len(), ys.len(), qs.len(), codes.len()) {
-        return Part {
-            done: false,
-            cells: 0,
-        };
+    let m = xs.targets.len();
+    let n = ys.targets.len();
+    if !rows_fit(m, xs.probs.len(), n, ys.probs.len(), codes.len()) {
+        return None;
     }
-    if !cells_fit(xs.len(), ys.len(), places.len(), masses.len()) {
-        return Part {
-            done: false,
-            cells: 0,
-        };
+    if !cells_fit(m, n, places.len(), masses.len()) {
+        return None;
     }
-    lay_shares(xs, ps, ys, qs, codes, places, masses);
-    Part {
-        done: true,
-        cells: xs.len() * ys.len(),
-    }
+    lay_shares(xs, ys, codes, places, masses);
+    Some(m * n)
 }

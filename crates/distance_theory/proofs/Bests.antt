@@ -24,6 +24,8 @@ use Rattle.transport_theory.specs.Transport.{Cell, Transport, transport}
 use Rattle.transport_theory.proofs.Networks.{columns_some}
 use Rattle.distance_theory.specs.Pairs.{Pair, pair, place, cross, target_pair}
 use Rattle.distance_theory.specs.Couplings.{Share, share, expected, independent, Best, fitted, point_mass, best_of}
+use Rattle.std.specs.Prelude.{Option, Some, None}
+use Rattle.distance_theory.specs.declared.lent.Best.{Best as Chosen}
 use Rattle.distance_theory.proofs.Crossings.{map_at, cross_length, cross_at}
 use Rattle.distance_theory.proofs.Store.{Celled, transport_celled, transport_length}
 use Rattle.distance_theory.proofs.Turns.{share_at}
@@ -88,6 +90,11 @@ pub record Laid : Type 0 where
 abbrev pub laid : Bool → ℕ → List ℕ → List Float → Laid
 laid b n p m = record { done = b; cells = n; places = p; masses = m }
 
+-- of what is answered: how many, or none
+abbrev pub laid_as : Option ℕ → List ℕ → List Float → Laid
+laid_as (Some n) p m = laid true n p m
+laid_as None p m = laid false 0 p m
+
 abbrev pub lay_if : Bool → List Share → List ℕ → List Float → Laid
 lay_if true cs p m = laid true (length cs) (over (ats cs) p) (over (parts cs) m)
 lay_if false cs p m = laid false 0 p m
@@ -101,6 +108,10 @@ pub record Bested : Type 0 where
 
 abbrev pub bested : Float → ℕ → List ℕ → List Float → Bested
 bested x n p m = record { value = x; cells = n; places = p; masses = m }
+
+abbrev pub bested_as : Option Chosen → List ℕ → List Float → Bested
+bested_as (Some b) p m = bested b.value b.cells p m
+bested_as None p m = bested nought 0 p m
 
 abbrev pub best_if : Bool → Best → List ℕ → List Float → Bested
 best_if true b p m = bested b.value (length b.coupling) (over (ats b.coupling) p) (over (parts b.coupling) m)

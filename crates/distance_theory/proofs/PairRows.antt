@@ -1,19 +1,22 @@
 -- The couplings of two states as the code makes them: their rows are read from the columns of two chains, if these can be read.
-use mathlib.Core.Path.{◌≡◌, refl, sym, ap, ◌∙◌}
+use Rattle.std.specs.Prelude.{Option, Some, None, slice_range}
+use Rattle.distance_theory.specs.declared.lent.Row.{Row}
+use mathlib.Core.Path.{◌≡◌, refl, sym, ap, ap₂, ◌∙◌}
 use Prim.Native.Nat.{ℕ, ◌≤◌, ◌<◌, ◌+◌}
-use mathlib.Core.Bool.{Bool, true, false, not, ◌&&◌, true≢false}
-use mathlib.Core.List.{List, []}
+use mathlib.Core.Bool.{Bool, true, false, ◌&&◌, true≢false}
+use mathlib.Core.List.{List}
 use native.Mathlib.Omega.{arith}
 use lib.Dec.{ltb, leb}
-use lib.ListN.{length, get_or}
+use lib.ListN.{length}
 use lib.Seq.{slice}
 use lib.Ieee.{Float}
-use borrow.Author.Tests.{ltb-true, leb-true, le-ltb, lt-ltb, le-leb, lt-leb, not-true, not-false}
+use borrow.Author.Tests.{lt-ltb, le-leb}
 use Rattle.numbers.specs.Real.{nought}
-use Rattle.numbers.proofs.Bools.{and_t, and_first, and_second}
-use Rattle.chain_theory.specs.Columns.{ChainColumns, chain_columns, begins}
-use Rattle.epsdelta_theory.specs.Jumps.{jumps_of}
+use Rattle.numbers.proofs.Bools.{and_t}
+use Rattle.chain_theory.specs.Columns.{ChainColumns, begins}
+use Rattle.epsdelta_theory.specs.Jumps.{Jump, jumps_of}
 use Rattle.distance_theory.specs.Couplings.{Share}
+use Rattle.distance_theory.proofs.Held.{part_is}
 use Rattle.distance_theory.proofs.Bests.{Look, independent_by, rows_fit, fitting, Laid, laid, lay_if, lay_on, Bested, bested, best_on, cells_room, beside, cells_few, freely_length}
 
 -- the targets and the probabilities of state x
@@ -22,6 +25,10 @@ row_targets C x = slice (begins C x) (begins C (x + 1)) C.targets
 
 abbrev pub row_rates : ChainColumns → ℕ → List Float
 row_rates C x = slice (begins C x) (begins C (x + 1)) C.probabilities
+
+-- the entries of a row that is lent
+abbrev pub row_jumps : Row → List Jump
+row_jumps R = jumps_of R.targets.now R.probs.now
 
 -- they can be read
 abbrev pub reads_row : ChainColumns → ℕ → Bool
@@ -50,68 +57,47 @@ module _ (look : Look) (C D : ChainColumns) (codes x y : ℕ) where
   abbrev pub best_pair : List Float → List ℕ → List Float → Bested
   best_pair v p m = bested_when (reads_row C x && reads_row D y) (best_read v p m) p m
 
--- ---- the check of a row
+-- ---- what reading a row answers
 
-pub record RowRead (O T : List ℕ) (P : List Float) (x : ℕ) : Type 0 where
-  pub ends : x + 1 < length O
-  pub rises : get_or O x 0 ≤ get_or O (x + 1) 0
-  pub in_targets : get_or O (x + 1) 0 ≤ length T
-  pub in_probabilities : get_or O (x + 1) 0 ≤ length P
+abbrev pub RowRead : Option Row → ChainColumns → ℕ → Type 0
+RowRead (Some R) C x = (reads_row C x ≡ true) × (R.targets.now ≡ row_targets C x) × (R.probs.now ≡ row_rates C x)
+RowRead None C x = reads_row C x ≡ false
 
-pub row_read : (O T : List ℕ) (P : List Float) (x : ℕ) (b : Bool) → b ≡ reads_row (chain_columns O T P []) x → not b ≡ false → RowRead O T P x
-row_read O T P x b e h =
-    let (a₁, r₁) = and_t (ltb (x + 1) (length O)) _ (sym e ∙ not-false b h) in
-    let (a₂, r₂) = and_t (leb (get_or O x 0) (get_or O (x + 1) 0)) _ r₁ in
-    let (a₃, a₄) = and_t (leb (get_or O (x + 1) 0) (length T)) _ r₂ in
-    record { ends = ltb-true (x + 1) (length O) a₁; rises = leb-true (get_or O x 0) (get_or O (x + 1) 0) a₂; in_targets = leb-true (get_or O (x + 1) 0) (length T) a₃; in_probabilities = leb-true (get_or O (x + 1) 0) (length P) a₄ }
+-- its parts from f to t
+pub row_is : (C : ChainColumns) (x f t : ℕ) (ts : List ℕ) (ps : List Float) → x + 1 < length C.offsets → f ≡ begins C x → t ≡ begins C (x + 1) → f ≤ t → t ≤ length C.targets → t ≤ length C.probabilities
+    → ts ≡ slice_range C.targets f t → ps ≡ slice_range C.probabilities f t → (reads_row C x ≡ true) × (ts ≡ row_targets C x) × (ps ≡ row_rates C x)
+row_is C x f t ts ps h ef et k l m es ep =
+    let a : begins C x ≤ begins C (x + 1) = rw (sym ef, sym et) k in
+    let b : begins C (x + 1) ≤ length C.targets = rw (sym et) l in
+    let d : begins C (x + 1) ≤ length C.probabilities = rw (sym et) m in (
+      rw (lt-ltb (x + 1) (length C.offsets) h, le-leb (begins C x) (begins C (x + 1)) a, le-leb (begins C (x + 1)) (length C.targets) b, le-leb (begins C (x + 1)) (length C.probabilities) d),
+      es ∙ ap₂ (slice_range C.targets) ef et ∙ part_is (begins C x) (begins C (x + 1)) C.targets a,
+      ep ∙ ap₂ (slice_range C.probabilities) ef et ∙ part_is (begins C x) (begins C (x + 1)) C.probabilities a,
+    )
 
-module _ (O T : List ℕ) (P : List Float) (x : ℕ) where
-  pub row_past : length O ≤ x + 1 → false ≡ reads_row (chain_columns O T P []) x
-  row_past h = let e = le-ltb (x + 1) (length O) h in sym e ∙ and_first _ _ e
+module _ (look : Look) (C D : ChainColumns) (codes x y : ℕ) where
+  pub left_unlaid : reads_row C x ≡ false → (p : List ℕ) (m : List Float) → laid false 0 p m ≡ lay_pair look C D codes x y p m
+  left_unlaid h p m = ap (λ (b : Bool). laid_when (b && reads_row D y) (lay_read look C D codes x y p m) p m) (sym h)
 
-  module _ (h : x + 1 < length O) (f t : ℕ) (ef : f ≡ get_or O x 0) (et : t ≡ get_or O (x + 1) 0) where
-    pub row_falls : t < f → false ≡ reads_row (chain_columns O T P []) x
-    row_falls k = let e = lt-leb (get_or O x 0) (get_or O (x + 1) 0) (omega arith) in and_second _ _ _ (lt-ltb (x + 1) (length O) h) (sym e ∙ and_first _ _ e)
+  pub left_unbested : reads_row C x ≡ false → (v : List Float) (p : List ℕ) (m : List Float) → bested nought 0 p m ≡ best_pair look C D codes x y v p m
+  left_unbested h v p m = ap (λ (b : Bool). bested_when (b && reads_row D y) (best_read look C D codes x y v p m) p m) (sym h)
 
-    module _ (k : f ≤ t) where
-      pub row_targets_lem : length T < t → false ≡ reads_row (chain_columns O T P []) x
-      row_targets_lem l =
-          let e = lt-leb (get_or O (x + 1) 0) (length T) (omega arith) in
-          and_second _ _ _ (lt-ltb (x + 1) (length O) h) (and_second _ _ _ (le-leb (get_or O x 0) (get_or O (x + 1) 0) (omega arith)) (sym e ∙ and_first _ _ e))
+  pub right_unlaid : reads_row C x ≡ true → reads_row D y ≡ false → (p : List ℕ) (m : List Float) → laid false 0 p m ≡ lay_pair look C D codes x y p m
+  right_unlaid h k p m = ap₂ (λ (a b : Bool). laid_when (a && b) (lay_read look C D codes x y p m) p m) (sym h) (sym k)
 
-      pub row_last : t ≤ length T → (r : Bool) → r ≡ leb t (length P) → r ≡ reads_row (chain_columns O T P []) x
-      row_last l r e =
-          and_second _ _ _ (lt-ltb (x + 1) (length O) h)
-          (and_second _ _ _ (le-leb (get_or O x 0) (get_or O (x + 1) 0) (omega arith))
-          (and_second _ _ _ (le-leb (get_or O (x + 1) 0) (length T) (omega arith)) (e ∙ ap (λ (n : ℕ). leb n (length P)) et)))
+  pub right_unbested : reads_row C x ≡ true → reads_row D y ≡ false → (v : List Float) (p : List ℕ) (m : List Float) → bested nought 0 p m ≡ best_pair look C D codes x y v p m
+  right_unbested h k v p m = ap₂ (λ (a b : Bool). bested_when (a && b) (best_read look C D codes x y v p m) p m) (sym h) (sym k)
 
--- ---- the checks of both
+  module _ (R S : Row) (RL : RowRead (Some R) C x) (RR : RowRead (Some S) D y) where
+    pub pair_laid : (p : List ℕ) (m : List Float) (r : Laid) → r ≡ lay_on look R.targets.now R.probs.now S.targets.now S.probs.now codes p m → r ≡ lay_pair look C D codes x y p m
+    pair_laid p m r e =
+        e ∙ (λ i. lay_on look (RL.1 i) (RL.2 i) (RR.1 i) (RR.2 i) codes p m)
+        ∙ ap₂ (λ (a b : Bool). laid_when (a && b) (lay_read look C D codes x y p m) p m) (sym RL.0) (sym RR.0)
 
-module _ (look : Look) (C D : ChainColumns) (codes x y : ℕ) (u : Bool) (eu : u ≡ reads_row C x) where
-  unread : (u ≡ false) → false ≡ (reads_row C x && reads_row D y)
-  unread h = let e : reads_row C x ≡ false = sym eu ∙ h in sym e ∙ and_first _ _ e
-
-  pub left_unlaid : not u ≡ true → (p : List ℕ) (m : List Float) → laid false 0 p m ≡ lay_pair look C D codes x y p m
-  left_unlaid h p m = ap (λ (b : Bool). laid_when b (lay_read look C D codes x y p m) p m) (unread (not-true u h))
-
-  pub left_unbested : not u ≡ true → (v : List Float) (p : List ℕ) (m : List Float) → bested nought 0 p m ≡ best_pair look C D codes x y v p m
-  left_unbested h v p m = ap (λ (b : Bool). bested_when b (best_read look C D codes x y v p m) p m) (unread (not-true u h))
-
-  module _ (hu : not u ≡ false) (w : Bool) (ew : w ≡ reads_row D y) where
-    both : (b : Bool) → w ≡ b → b ≡ (reads_row C x && reads_row D y)
-    both b h = and_second _ _ _ (sym eu ∙ not-false u hu) (sym h ∙ ew)
-
-    pub right_unlaid : not w ≡ true → (p : List ℕ) (m : List Float) → laid false 0 p m ≡ lay_pair look C D codes x y p m
-    right_unlaid h p m = ap (λ (b : Bool). laid_when b (lay_read look C D codes x y p m) p m) (both false (not-true w h))
-
-    pub right_unbested : not w ≡ true → (v : List Float) (p : List ℕ) (m : List Float) → bested nought 0 p m ≡ best_pair look C D codes x y v p m
-    right_unbested h v p m = ap (λ (b : Bool). bested_when b (best_read look C D codes x y v p m) p m) (both false (not-true w h))
-
-    pub pair_laid : not w ≡ false → (p : List ℕ) (m : List Float) (r : Laid) → r ≡ lay_read look C D codes x y p m → r ≡ lay_pair look C D codes x y p m
-    pair_laid h p m r e = e ∙ ap (λ (b : Bool). laid_when b (lay_read look C D codes x y p m) p m) (both true (not-false w h))
-
-    pub pair_bested : not w ≡ false → (v : List Float) (p : List ℕ) (m : List Float) (r : Bested) → r ≡ best_read look C D codes x y v p m → r ≡ best_pair look C D codes x y v p m
-    pair_bested h v p m r e = e ∙ ap (λ (b : Bool). bested_when b (best_read look C D codes x y v p m) p m) (both true (not-false w h))
+    pub pair_bested : (v : List Float) (p : List ℕ) (m : List Float) (r : Bested) → r ≡ best_on look R.targets.now R.probs.now S.targets.now S.probs.now codes p m v → r ≡ best_pair look C D codes x y v p m
+    pair_bested v p m r e =
+        e ∙ (λ i. best_on look (RL.1 i) (RL.2 i) (RR.1 i) (RR.2 i) codes p m v)
+        ∙ ap₂ (λ (a b : Bool). bested_when (a && b) (best_read look C D codes x y v p m) p m) (sym RL.0) (sym RR.0)
 
 -- ---- what was laid
 

@@ -8,6 +8,13 @@ pub struct Row<'a> {
     pub probs: &'a [f64],
 }
 
+// What a coupling comes to, Σ mass × value, and its number of shares.
+#[derive(Clone, Copy, Debug, PartialEq)]
+pub struct Best {
+    pub value: f64,
+    pub cells: usize,
+}
+
 // Pairs of states, in the order of their discovery: the left and the right state of each, and the codes that they are looked up by.
 #[derive(Clone, Copy, Debug)]
 pub struct Pairs<'a> {

@@ -5,4 +5,4 @@ use Rattle.distance_couplings.proofs.Moves.{alone_best}
 use Rattle.distance_couplings.proofs.best.best_alone.Goals as goal
 
 pub returns : goal.returns
-returns c = alone_best (look_up c.args.codes.now) c.args.xs.now c.args.ps.now c.args.ys.now c.args.qs.now (length c.args.codes.now) c.requires.beside c.args.values.now _ _ c.args.places.now _ c.args.masses.now c.lay_shares.ensures.0 c.lay_shares.ensures.1 c.expected_part-value.ensures
+returns c = alone_best (look_up c.args.codes.now) c.args.xs.now.targets.now c.args.xs.now.probs.now c.args.ys.now.targets.now c.args.ys.now.probs.now (length c.args.codes.now) c.requires.beside c.args.values.now _ _ c.args.places.now _ c.args.masses.now c.lay_shares.ensures.0 c.lay_shares.ensures.1 c.expected_part-value.ensures

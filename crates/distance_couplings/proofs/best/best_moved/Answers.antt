@@ -6,4 +6,4 @@ use Rattle.distance_couplings.proofs.Moves.{moved_best}
 use Rattle.distance_couplings.proofs.best.best_moved.Goals as goal
 
 pub returns : goal.returns
-returns c = moved_best (look_up c.args.codes.now) c.args.xs.now c.args.ps.now c.args.ys.now c.args.qs.now (length c.args.codes.now) c.requires.beside c.args.values.now _ (replicate 32 nought) _ (replicate 1024 nought) c.fit.ensures (c.lay_values.ensures c.args.ps.now c.args.qs.now c.requires.beside) c.args.places.now c.args.masses.now _ c.move_masses.ensures
+returns c = moved_best (look_up c.args.codes.now) c.args.xs.now.targets.now c.args.xs.now.probs.now c.args.ys.now.targets.now c.args.ys.now.probs.now (length c.args.codes.now) c.requires.beside c.args.values.now _ (replicate 32 nought) _ (replicate 1024 nought) c.fit.ensures (c.lay_values.ensures c.args.xs.now.probs.now c.args.ys.now.probs.now c.requires.beside) c.args.places.now c.args.masses.now _ c.move_masses.ensures

@@ -15,12 +15,12 @@ pub loop-k-preserved : goal.loop-k-preserved
 loop-k-preserved c =
     let I = c.loop-k.invariant in
     let h = c.loop-k-test.true in
-    let n = freely_length (look_up c.args.codes.now) c.args.xs.now c.args.ps.now c.args.ys.now c.args.qs.now (length c.args.codes.now) c.requires.beside in (
+    let n = freely_length (look_up c.args.codes.now) c.args.xs.now.targets.now c.args.xs.now.probs.now c.args.ys.now.targets.now c.args.ys.now.probs.now (length c.args.codes.now) c.requires.beside in (
       omega arith,
       length-set c.loop-k.places c.loop-k.k _ ∙ I.1,
       length-set c.loop-k.masses c.loop-k.k _ ∙ I.2,
-      laying_next I.3 _ _ (c.place.ensures ∙ sym (freely_place (look_up c.args.codes.now) c.args.xs.now c.args.ps.now c.args.ys.now c.args.qs.now (length c.args.codes.now) c.requires.beside c.loop-k.k h)) (sym (freely_mass (look_up c.args.codes.now) c.args.xs.now c.args.ps.now c.args.ys.now c.args.qs.now (length c.args.codes.now) c.requires.beside c.loop-k.k h)) (omega arith) (let r = c.requires.ys_in_bounds.0 in omega arith) (let r = c.requires.ys_in_bounds.1 in omega arith),
+      laying_next I.3 _ _ (c.place.ensures ∙ sym (freely_place (look_up c.args.codes.now) c.args.xs.now.targets.now c.args.xs.now.probs.now c.args.ys.now.targets.now c.args.ys.now.probs.now (length c.args.codes.now) c.requires.beside c.loop-k.k h)) (sym (freely_mass (look_up c.args.codes.now) c.args.xs.now.targets.now c.args.xs.now.probs.now c.args.ys.now.targets.now c.args.ys.now.probs.now (length c.args.codes.now) c.requires.beside c.loop-k.k h)) (omega arith) (let r = c.requires.ys_in_bounds.0 in omega arith) (let r = c.requires.ys_in_bounds.1 in omega arith),
     )
 
 pub returns : goal.returns
-returns c = let n = freely_length (look_up c.args.codes.now) c.args.xs.now c.args.ps.now c.args.ys.now c.args.qs.now (length c.args.codes.now) c.requires.beside in let h = c.loop-k-test.false in let l = c.loop-k.invariant.0 in laying_done c.loop-k.invariant.3 (omega arith)
+returns c = let n = freely_length (look_up c.args.codes.now) c.args.xs.now.targets.now c.args.xs.now.probs.now c.args.ys.now.targets.now c.args.ys.now.probs.now (length c.args.codes.now) c.requires.beside in let h = c.loop-k-test.false in let l = c.loop-k.invariant.0 in laying_done c.loop-k.invariant.3 (omega arith)
