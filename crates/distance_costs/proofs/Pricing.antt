@@ -45,11 +45,11 @@ module _ (l r : List ℕ) (u w : List Float) (γ : Float) (n : ℕ) where
 -- ---- the check of the counts
 
 module _ (n lefts rights cost : ℕ) (b : Bool) (e : b ≡ counted n lefts rights cost) where
-  pub counts_known : not b ≡ false → (n ≤ lefts) × (n ≤ rights) × (n ≤ cost)
+  pub counts_known : not b ≡ false → (n ≤ rights) × (n ≤ cost)
   counts_known h =
       let (a₁, r₁) = and_t (leb n lefts) _ (sym e ∙ not-false b h) in
       let (a₂, a₃) = and_t (leb n rights) _ r₁ in
-      (leb-true n lefts a₁, leb-true n rights a₂, leb-true n cost a₃)
+      (leb-true n rights a₂, leb-true n cost a₃)
 
   pub uncounted : not b ≡ true → (new old : List Float) → priced false old ≡ priced_if (counted n lefts rights cost) new old
   uncounted h new old = ap (λ (t : Bool). priced_if t new old) (sym (not-true b h) ∙ e)

@@ -6,57 +6,41 @@ ghost use Rattle.numbers.specs.Lists.{over};
 ghost use Rattle.distance_words.proofs.Costs.{costs, priced, pricing};
 ghost use Rattle.distance_words.proofs.Costs;
 
+use chain_theory::Chain;
 use distance_couplings::shares::value_at;
+use distance_theory::lent::Pairs;
 use numbers::{ONE, apart};
 
 // An entry for each of n pairs.
-fn counted(n: usize, lefts: usize, rights: usize, cost: usize) -> bool
-    ensures { result ≡ Costs.counted n lefts rights cost }
+fn counted(n: usize, rights: usize, cost: usize) -> bool
+    ensures { result ≡ Costs.counted n n rights cost }
 {
-    if n <= lefts {
-        if n <= rights {
-            return n <= cost;
-        }
+    if n <= rights {
+        return n <= cost;
     }
     false
 }
 
 // Pair after pair: (1 - γ) × how far apart its observations are.
-fn price_each(
-    n: usize,
-    lefts: &[u32],
-    rights: &[u32],
-    left_seen: &[f64],
-    right_seen: &[f64],
-    gamma: f64,
-    cost: &mut [f64],
-)
-    requires { (n ≤ length lefts.now) × (n ≤ length rights.now) × (n ≤ length cost.old) }
-    ensures { cost.new ≡ over (costs lefts.now rights.now left_seen.now right_seen.now gamma n) cost.old }
+fn price_each(pairs: &Pairs, left: &Chain, right: &Chain, gamma: f64, cost: &mut [f64])
+    requires { (length pairs.now.lefts.now ≤ length pairs.now.rights.now) × (length pairs.now.lefts.now ≤ length cost.old) }
+    ensures { cost.new ≡ over (costs pairs.now.lefts.now pairs.now.rights.now left.now.observations.now right.now.observations.now gamma (length pairs.now.lefts.now)) cost.old }
 {
     let weight = ONE - gamma;
-    for k in 0..n {
-        let x = value_at(left_seen, lefts[k] as usize);
-        let y = value_at(right_seen, rights[k] as usize);
+    for k in 0..pairs.lefts.len() {
+        let x = value_at(left.observations, pairs.lefts[k] as usize);
+        let y = value_at(right.observations, pairs.rights[k] as usize);
         cost[k] = weight * apart(x, y);
     }
 }
 
-// The costs of the first n pairs, states lefts[k] and rights[k], over the front of a list. False, and nothing is written, where a list is short.
-pub fn price(
-    n: usize,
-    lefts: &[u32],
-    rights: &[u32],
-    left_seen: &[f64],
-    right_seen: &[f64],
-    gamma: f64,
-    cost: &mut [f64],
-) -> bool
-    ensures { priced result cost.new ≡ pricing n lefts.now rights.now left_seen.now right_seen.now gamma cost.old }
+// The costs of the pairs of two chains, over the front of a list. False, and nothing is written, where a list is short.
+pub fn price(pairs: &Pairs, left: &Chain, right: &Chain, gamma: f64, cost: &mut [f64]) -> bool
+    ensures { priced result cost.new ≡ pricing (length pairs.now.lefts.now) pairs.now.lefts.now pairs.now.rights.now left.now.observations.now right.now.observations.now gamma cost.old }
 {
-    if !counted(n, lefts.len(), rights.len(), cost.len()) {
+    if !counted(pairs.lefts.len(), pairs.rights.len(), cost.len()) {
         return false;
     }
-    price_each(n, lefts, rights, left_seen, right_seen, gamma, cost);
+    price_each(pairs, left, right, gamma, cost);
     true
 }

@@ -1,11 +1,13 @@
 -- The parts of the check of refusal 16, and that of a run it is the definition's.
+use Rattle.std.specs.Prelude.{Some}
+use Rattle.distance_theory.specs.declared.lent.Row.{Row}
 use mathlib.Core.Path.{◌≡◌, refl, sym, ap, ap₂, ◌∙◌}
-use Prim.Native.Nat.{ℕ, zero, suc, ◌+◌, ◌-◌, ◌≤◌, ◌<◌}
+use Prim.Native.Nat.{ℕ, zero, suc, ◌+◌, ◌≤◌, ◌<◌}
 use mathlib.Core.Bool.{Bool, true, false, not, ◌&&◌, ◌||◌, true≢false}
-use mathlib.Core.List.{List, [], map}
+use mathlib.Core.List.{List, map}
 use native.Mathlib.Omega.{arith}
 use lib.Dec.{eqb}
-use lib.ListN.{length, get_or, take, drop, length-map}
+use lib.ListN.{length, get_or, drop, length-map}
 use lib.Ieee.{Float, nan, binary64, add, mul, lt}
 use borrow.Author.Tests.{eq-eqb, ne_eqb, le-leb, lt-leb, not-true, not-false}
 use Rattle.numbers.specs.Real.{nought, one, slack, sum, sum_from}
@@ -16,13 +18,12 @@ use Rattle.numbers.proofs.Bools.{and_first, and_second}
 use Rattle.numbers.proofs.Alls.{all_at, all_of, every_at, every_of, every_not, every_next}
 use Rattle.epsdelta_theory.specs.Jumps.{Jump, rates}
 use Rattle.epsdelta_theory.proofs.RowReads.{jumps_rates}
-use Rattle.chain_theory.specs.Columns.{ChainColumns, chain_columns}
+use Rattle.chain_theory.specs.Columns.{ChainColumns}
 use Rattle.transport_theory.specs.Refusal.{unequal}
 use Rattle.distance_theory.specs.Pairs.{pair, pair_at}
 use Rattle.distance_theory.specs.Couplings.{Metric, row_l, row_r, fitted, even}
 use Rattle.distance_theory.proofs.Crossings.{map_at}
 use Rattle.distance_theory.proofs.PairRows.{RowRead, row_targets, row_rates, reads_row}
-use Rattle.chain_check.proofs.Checks.{part_is}
 use Rattle.distance_store.proofs.Kept.{Ready, beside_rows}
 use Rattle.distance_words.proofs.Even.{fitted_by, even_rows, even_when, even_pair, even_pairs, all_even}
 
@@ -61,27 +62,18 @@ module _ (ps qs : List Float) where
 
 -- ---- read from columns
 
-pub read_even : (O T : List ℕ) (P : List Float) (U S : List ℕ) (Q : List Float) (x y : ℕ) → RowRead O T P x → RowRead U S Q y
-    → {r : Bool} → r ≡ even_rows (take (get_or O (x + 1) 0 - get_or O x 0) (drop (get_or O x 0) P)) (take (get_or U (y + 1) 0 - get_or U y 0) (drop (get_or U y 0) Q))
-    → r ≡ even_rows (row_rates (chain_columns O T P []) x) (row_rates (chain_columns U S Q []) y)
-read_even O T P U S Q x y RL RR e = e ∙ ap₂ even_rows (part_is _ _ P RL.rises) (part_is _ _ Q RR.rises)
-
-module _ (C D : ChainColumns) (x y : ℕ) (u : Bool) (eu : u ≡ reads_row C x) where
+module _ (C D : ChainColumns) (x y : ℕ) where
   abbrev rows : Bool
   rows = even_rows (row_rates C x) (row_rates D y)
 
-  pub left_unread : not u ≡ true → true ≡ even_pair C D x y
-  left_unread h = let e : reads_row C x ≡ false = sym eu ∙ not-true u h in ap (λ (b : Bool). even_when b rows) (sym e ∙ and_first _ _ e)
+  pub left_unread : reads_row C x ≡ false → true ≡ even_pair C D x y
+  left_unread h = ap (λ (b : Bool). even_when (b && reads_row D y) rows) (sym h)
 
-  module _ (hu : not u ≡ false) (w : Bool) (ew : w ≡ reads_row D y) where
-    both : (b : Bool) → w ≡ b → b ≡ (reads_row C x && reads_row D y)
-    both b h = and_second _ _ _ (sym eu ∙ not-false u hu) (sym h ∙ ew)
+  pub right_unread : reads_row C x ≡ true → reads_row D y ≡ false → true ≡ even_pair C D x y
+  right_unread h k = ap₂ (λ (a b : Bool). even_when (a && b) rows) (sym h) (sym k)
 
-    pub right_unread : not w ≡ true → true ≡ even_pair C D x y
-    right_unread h = ap (λ (b : Bool). even_when b rows) (both false (not-true w h))
-
-    pub pair_even : not w ≡ false → (r : Bool) → r ≡ rows → r ≡ even_pair C D x y
-    pair_even h r e = e ∙ ap (λ (b : Bool). even_when b rows) (both true (not-false w h))
+  pub pair_even : (R S : Row) → RowRead (Some R) C x → RowRead (Some S) D y → (r : Bool) → r ≡ even_rows R.probs.now S.probs.now → r ≡ even_pair C D x y
+  pair_even R S RL RR r e = e ∙ ap₂ even_rows RL.2 RR.2 ∙ ap₂ (λ (a b : Bool). even_when (a && b) rows) (sym RL.0) (sym RR.0)
 
 -- ---- all pairs
 

@@ -120,13 +120,13 @@ module _ (lefts rights codes : List ℕ) (C D : ChainColumns) {n : ℕ} {s₀ l�
 -- ---- the check of the counts
 
 module _ (n lefts rights starts lengths : ℕ) (b : Bool) (e : b ≡ counted n lefts rights starts lengths) where
-  pub counts_known : not b ≡ false → (n ≤ 4096) × (n ≤ lefts) × (n ≤ rights) × (n ≤ starts) × (n ≤ lengths)
+  pub counts_known : not b ≡ false → (n ≤ 4096) × (n ≤ rights) × (n ≤ starts) × (n ≤ lengths)
   counts_known h =
       let (a₁, r₁) = and_t (leb n most) _ (sym e ∙ not-false b h) in
       let (a₂, r₂) = and_t (leb n lefts) _ r₁ in
       let (a₃, r₃) = and_t (leb n rights) _ r₂ in
       let (a₄, a₅) = and_t (leb n starts) _ r₃ in
-      (leb-true n 4096 a₁, leb-true n lefts a₂, leb-true n rights a₃, leb-true n starts a₄, leb-true n lengths a₅)
+      (leb-true n 4096 a₁, leb-true n rights a₃, leb-true n starts a₄, leb-true n lengths a₅)
 
   pub uncounted : not b ≡ true → (r : Filled) (s l p : List ℕ) (m : List Float) → filled false s l p m ≡ fill_if (counted n lefts rights starts lengths) r s l p m
   uncounted h r s l p m = ap (λ (t : Bool). fill_if t r s l p m) (sym (not-true b h) ∙ e)

@@ -95,6 +95,12 @@ abbrev pub laid_as : Option ℕ → List ℕ → List Float → Laid
 laid_as (Some n) p m = laid true n p m
 laid_as None p m = laid false 0 p m
 
+pub laid_some : {r : Option ℕ} {n : ℕ} {p : List ℕ} {m : List Float} {R : Laid} → r ≡ Some n → laid_as r p m ≡ R → laid true n p m ≡ R
+laid_some {r} {n} {p} {m} {R} h e = sym (ap (λ (o : Option ℕ). laid_as o p m) h) ∙ e
+
+pub laid_none : {r : Option ℕ} {p : List ℕ} {m : List Float} {R : Laid} → r ≡ None → laid_as r p m ≡ R → laid false 0 p m ≡ R
+laid_none {r} {p} {m} {R} h e = sym (ap (λ (o : Option ℕ). laid_as o p m) h) ∙ e
+
 abbrev pub lay_if : Bool → List Share → List ℕ → List Float → Laid
 lay_if true cs p m = laid true (length cs) (over (ats cs) p) (over (parts cs) m)
 lay_if false cs p m = laid false 0 p m

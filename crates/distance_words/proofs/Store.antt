@@ -6,6 +6,9 @@ use lib.Dec.{leb}
 use lib.ListN.{length, get_or, set, take, drop}
 use lib.Ieee.{Float}
 use Rattle.chain_theory.specs.Columns.{ChainColumns}
+use Rattle.chain_theory.specs.Lent.{of_chain}
+use Rattle.distance_theory.specs.declared.lent.StoreMut.{StoreMut}
+use Rattle.distance_theory.specs.declared.lent.Task.{Task}
 use Rattle.distance_theory.specs.Pairs.{most}
 use Rattle.distance_theory.proofs.Index.{look_up}
 use Rattle.distance_theory.proofs.Bests.{Laid}
@@ -37,6 +40,9 @@ fill_from part (suc j) k at s l p m =
 abbrev pub laying_of : List ℕ → List ℕ → List ℕ → ChainColumns → ChainColumns → Laying
 laying_of lefts rights codes C D k p m = lay_pair (look_up codes) C D (length codes) (get_or lefts k 0) (get_or rights k 0) p m
 
+abbrev pub laying_in : Task → Laying
+laying_in T = laying_of T.pairs.lefts.now T.pairs.rights.now T.pairs.codes.now (of_chain T.left) (of_chain T.right)
+
 -- at most 4,096 pairs, and an entry for each
 abbrev pub counted : ℕ → ℕ → ℕ → ℕ → ℕ → Bool
 counted n lefts rights starts lengths = leb n most && (leb n lefts && (leb n rights && (leb n starts && leb n lengths)))
@@ -49,3 +55,10 @@ fill_if false r s l p m = filled false s l p m
 abbrev pub fill : ℕ → List ℕ → List ℕ → List ℕ → ChainColumns → ChainColumns → List ℕ → List ℕ → List ℕ → List Float → Filled
 fill n lefts rights codes C D s l p m =
     fill_if (counted n (length lefts) (length rights) (length s) (length l)) (fill_from (laying_of lefts rights codes C D) n 0 0 s l p m) s l p m
+
+-- the same of a task's pairs, in the lists that are lent
+abbrev pub filled_as : Bool → StoreMut → Filled
+filled_as b S = filled b S.starts.now S.lengths.now S.places.now S.masses.now
+
+abbrev pub fill_in : Task → StoreMut → Filled
+fill_in T S = fill (length T.pairs.lefts.now) T.pairs.lefts.now T.pairs.rights.now T.pairs.codes.now (of_chain T.left) (of_chain T.right) S.starts.now S.lengths.now S.places.now S.masses.now

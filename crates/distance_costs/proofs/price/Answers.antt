@@ -7,10 +7,10 @@ use Rattle.distance_costs.proofs.Pricing.{counts_known, uncounted, counting}
 use Rattle.distance_costs.proofs.price.Goals as goal
 
 pub returns-then-not-counted : goal.returns-then-not-counted
-returns-then-not-counted c = uncounted c.args.n (length c.args.lefts.now) (length c.args.rights.now) (length c.args.cost.now) c.counted.result c.counted.ensures (ap not c.if-not-counted.true) (costs c.args.lefts.now c.args.rights.now c.args.left_seen.now c.args.right_seen.now c.args.gamma c.args.n) c.args.cost.now
+returns-then-not-counted c = uncounted (length c.args.pairs.now.lefts.now) (length c.args.pairs.now.lefts.now) (length c.args.pairs.now.rights.now) (length c.args.cost.now) c.counted.result c.counted.ensures (ap not c.if-not-counted.true) (costs c.args.pairs.now.lefts.now c.args.pairs.now.rights.now c.args.left.now.observations.now c.args.right.now.observations.now c.args.gamma (length c.args.pairs.now.lefts.now)) c.args.cost.now
 
 pub price_each-requires : goal.price_each-requires
-price_each-requires c = counts_known c.args.n (length c.args.lefts.now) (length c.args.rights.now) (length c.args.cost.now) c.counted.result c.counted.ensures (ap not c.if-not-counted.false)
+price_each-requires c = counts_known (length c.args.pairs.now.lefts.now) (length c.args.pairs.now.lefts.now) (length c.args.pairs.now.rights.now) (length c.args.cost.now) c.counted.result c.counted.ensures (ap not c.if-not-counted.false)
 
 pub returns : goal.returns
-returns c = counting c.args.n (length c.args.lefts.now) (length c.args.rights.now) (length c.args.cost.now) c.counted.result c.counted.ensures (ap not c.if-not-counted.false) _ (costs c.args.lefts.now c.args.rights.now c.args.left_seen.now c.args.right_seen.now c.args.gamma c.args.n) c.args.cost.now c.price_each.ensures
+returns c = counting (length c.args.pairs.now.lefts.now) (length c.args.pairs.now.lefts.now) (length c.args.pairs.now.rights.now) (length c.args.cost.now) c.counted.result c.counted.ensures (ap not c.if-not-counted.false) _ (costs c.args.pairs.now.lefts.now c.args.pairs.now.rights.now c.args.left.now.observations.now c.args.right.now.observations.now c.args.gamma (length c.args.pairs.now.lefts.now)) c.args.cost.now c.price_each.ensures

@@ -1,6 +1,6 @@
 use mathlib.Core.Path.{refl, ◌∙◌}
 use native.Mathlib.Omega.{arith}
-use lib.ListN.{length-set}
+use lib.ListN.{length, length-set}
 use Rattle.distance_costs.proofs.Pricing.{cost_next, cost_done}
 use Rattle.distance_costs.proofs.price_each.Goals as goal
 
@@ -8,7 +8,7 @@ pub loop-k-init : goal.loop-k-init
 loop-k-init c = (omega arith, refl, refl)
 
 pub loop-k-preserved : goal.loop-k-preserved
-loop-k-preserved c = let h = c.loop-k-test.true in (omega arith, length-set c.loop-k.cost c.loop-k.k _ ∙ c.loop-k.invariant.1, cost_next c.args.lefts.now c.args.rights.now c.args.left_seen.now c.args.right_seen.now c.args.gamma c.args.n c.args.cost.now c.loop-k.cost c.loop-k.k c.loop-k.invariant.2 _ _ _ _ _ refl refl c.value_at-x.ensures c.value_at-y.ensures c.apart.ensures h c.requires.2)
+loop-k-preserved c = let h = c.loop-k-test.true in (omega arith, length-set c.loop-k.cost c.loop-k.k _ ∙ c.loop-k.invariant.1, cost_next c.args.pairs.now.lefts.now c.args.pairs.now.rights.now c.args.left.now.observations.now c.args.right.now.observations.now c.args.gamma (length c.args.pairs.now.lefts.now) c.args.cost.now c.loop-k.cost c.loop-k.k c.loop-k.invariant.2 _ _ _ _ _ refl refl c.value_at-x.ensures c.value_at-y.ensures c.apart.ensures h c.requires.1)
 
 pub returns : goal.returns
-returns c = let h = c.loop-k-test.false in let b = c.loop-k.invariant.0 in cost_done c.args.lefts.now c.args.rights.now c.args.left_seen.now c.args.right_seen.now c.args.gamma c.args.n c.args.cost.now c.loop-k.cost c.loop-k.k c.loop-k.invariant.2 (omega arith)
+returns c = let h = c.loop-k-test.false in let b = c.loop-k.invariant.0 in cost_done c.args.pairs.now.lefts.now c.args.pairs.now.rights.now c.args.left.now.observations.now c.args.right.now.observations.now c.args.gamma (length c.args.pairs.now.lefts.now) c.args.cost.now c.loop-k.cost c.loop-k.k c.loop-k.invariant.2 (omega arith)

@@ -2,11 +2,11 @@
 use mathlib.Core.Path.{◌≡◌}
 use Prim.Native.Nat.{◌≤◌}
 use mathlib.Core.Bool.{true}
-use mathlib.Core.List.{[]}
+use lib.ListN.{length}
 use Rattle.numbers.specs.Lists.{every}
-use Rattle.chain_theory.specs.Columns.{chain_columns}
+use Rattle.chain_theory.specs.Lent.{of_chain}
 use Rattle.distance_words.proofs.Even.{even_pairs}
 use Rattle.distance_even.proofs.all_even.Given as goal
 
 abbrev pub invariant-loop-k : goal.invariant-loop-k
-invariant-loop-k l = (l.k ≤ l.n) × (every (even_pairs l.lefts l.rights (chain_columns l.left_offsets l.left_targets l.left_probs []) (chain_columns l.right_offsets l.right_targets l.right_probs [])) l.k ≡ true)
+invariant-loop-k l = (l.k ≤ length l.task.pairs.lefts.now) × (every (even_pairs l.task.pairs.lefts.now l.task.pairs.rights.now (of_chain l.task.left) (of_chain l.task.right)) l.k ≡ true)

@@ -5,11 +5,11 @@ use lib.ListN.{length}
 use Rattle.distance_store.proofs.Filling.{counts_known, uncounted, counting}
 use Rattle.distance_store.proofs.store.lay_store.Goals as goal
 
-pub returns-then-not-counted : goal.returns-then-not-counted
-returns-then-not-counted c = uncounted c.args.n (length c.args.lefts.now) (length c.args.rights.now) (length c.args.starts.now) (length c.args.lengths.now) c.counted.result c.counted.ensures (ap not c.if-not-counted.true) _ c.args.starts.now c.args.lengths.now c.args.places.now c.args.masses.now
+pub returns-then-not-counted-clause-filled : goal.returns-then-not-counted-clause-filled
+returns-then-not-counted-clause-filled c = let P = c.args.task.now.pairs in let S = c.args.store.now in uncounted (length P.lefts.now) (length P.lefts.now) (length P.rights.now) (length S.starts.now) (length S.lengths.now) c.counted.result c.counted.ensures (ap not c.if-not-counted.true) _ S.starts.now S.lengths.now S.places.now S.masses.now
 
 pub fill_each-requires : goal.fill_each-requires
-fill_each-requires c = counts_known c.args.n (length c.args.lefts.now) (length c.args.rights.now) (length c.args.starts.now) (length c.args.lengths.now) c.counted.result c.counted.ensures (ap not c.if-not-counted.false)
+fill_each-requires c = let P = c.args.task.now.pairs in let S = c.args.store.now in (counts_known (length P.lefts.now) (length P.lefts.now) (length P.rights.now) (length S.starts.now) (length S.lengths.now) c.counted.result c.counted.ensures (ap not c.if-not-counted.false))
 
-pub returns : goal.returns
-returns c = counting c.args.n (length c.args.lefts.now) (length c.args.rights.now) (length c.args.starts.now) (length c.args.lengths.now) c.counted.result c.counted.ensures (ap not c.if-not-counted.false) _ _ c.args.starts.now c.args.lengths.now c.args.places.now c.args.masses.now c.fill_each.ensures
+pub returns-clause-filled : goal.returns-clause-filled
+returns-clause-filled c = let P = c.args.task.now.pairs in let S = c.args.store.now in counting (length P.lefts.now) (length P.lefts.now) (length P.rights.now) (length S.starts.now) (length S.lengths.now) c.counted.result c.counted.ensures (ap not c.if-not-counted.false) _ _ S.starts.now S.lengths.now S.places.now S.masses.now c.fill_each.ensures.filled
