@@ -15,18 +15,12 @@ use Rattle.distance_words.proofs.Iterating.{Task, Iterated, iterated, values_of,
 pub record Iterates (T : Task) (k : ℕ) (v₀ : List Float) (l₀ p₀ : List ℕ) (m₀ : List Float) (x : Float) (n : ℕ) (v : List Float) (l p : List ℕ) (m : List Float) : Type 0 where
   pub left : n ≤ k
   pub values_size : length v ≡ length v₀
-  pub lengths_size : length l ≡ length l₀
-  pub places_size : length p ≡ length p₀
-  pub masses_size : length m ≡ length m₀
   pub comes : iterate_from T (k - n) x n v l p m ≡ iterate_from T k (inf false) 0 v₀ l₀ p₀ m₀
 
 pub iterates_start : (T : Task) (k : ℕ) (x : Float) (v : List Float) (l p : List ℕ) (m : List Float) → x ≡ inf false → Iterates T k v l p m x 0 v l p m
 iterates_start T k x v l p m e = record {
   left = omega arith;
   values_size = refl;
-  lengths_size = refl;
-  places_size = refl;
-  masses_size = refl;
   comes = ap₂ (λ (j : ℕ) (y : Float). iterate_from T j y 0 v l p m) (let q : k - 0 ≡ k = omega arith in q) e;
 }
 
@@ -61,13 +55,10 @@ module _ {T : Task} {k : ℕ} {v₀ : List Float} {l₀ p₀ : List ℕ} {m₀ :
     iterates_stop e =
         ap (λ (j : ℕ). iterated x' j u l' p' m') (add-one n) ∙ sym (told ∙ ap (onward u (bettered x' t l' p' m')) e) ∙ ap (λ (j : ℕ). iterate_from T j x n v l p m) one_more ∙ I.comes
 
-    pub iterates_next : d ≡ false → length u ≡ length v → length l' ≡ length l → length p' ≡ length p → length m' ≡ length m → Iterates T k v₀ l₀ p₀ m₀ x' (n + 1) u l' p' m'
-    iterates_next e zv zl zp zm = record {
+    pub iterates_next : d ≡ false → length u ≡ length v → Iterates T k v₀ l₀ p₀ m₀ x' (n + 1) u l' p' m'
+    iterates_next e zv = record {
       left = omega arith;
       values_size = zv ∙ I.values_size;
-      lengths_size = zl ∙ I.lengths_size;
-      places_size = zp ∙ I.places_size;
-      masses_size = zm ∙ I.masses_size;
       comes =
           ap (λ (j : ℕ). iterate_from T (k - (n + 1)) x' j u l' p' m') (add-one n) ∙ sym (told ∙ ap (onward u (bettered x' t l' p' m')) e)
           ∙ ap (λ (j : ℕ). iterate_from T j x n v l p m) one_more ∙ I.comes;

@@ -1,4 +1,7 @@
 -- What the improvement of one pair leaves, and the turns of the loop over all pairs.
+use Rattle.std.specs.Prelude.{Option, Some, None}
+use Rattle.std.specs.Option.{unwrap_or}
+use Rattle.distance_theory.specs.declared.lent.Best.{Best as Chosen}
 use mathlib.Core.Path.{◌≡◌, refl, sym, subst, ap, ap₂, ◌∙◌}
 use Prim.Native.Nat.{ℕ, suc, ◌+◌, ◌*◌, ◌-◌, ◌≤◌, ◌<◌}
 use mathlib.Core.Bool.{Bool, true, false, not, ◌&&◌, ◌||◌}
@@ -6,7 +9,7 @@ use mathlib.Core.List.{List, ◌++◌}
 use native.Mathlib.Omega.{arith}
 use native.Mathlib.Numerals.{add-one}
 use lib.Dec.{leb}
-use lib.ListN.{length, get_or, set, take, length-map}
+use lib.ListN.{length, get_or, set, take, length-map, length-set}
 use lib.Seq.{slice, take_at}
 use lib.Ieee.{Float, nan, binary64, add, sub, mul, lt}
 use borrow.Author.Tests.{leb-true, le-leb, lt-leb, not-true, not-false}
@@ -25,11 +28,15 @@ use Rattle.distance_theory.proofs.Index.{look_up}
 use Rattle.distance_theory.proofs.Crossings.{cross_length}
 use Rattle.distance_theory.proofs.Held.{shares_of, shares_in}
 use Rattle.distance_theory.proofs.Store.{rates_length, fitted_length, transport_length}
-use Rattle.distance_theory.proofs.Bests.{Look, ats, parts, independent_by, values_by, planned_by, best_by, rows_fit, cells_fit, fitting, Bested, bested, best_if, beside, cells_few}
+use Rattle.distance_theory.proofs.Bests.{Look, ats, parts, independent_by, values_by, planned_by, best_by, rows_fit, cells_fit, fitting, Bested, bested, bested_as, best_if, beside, cells_few}
 use Rattle.distance_theory.proofs.PairRows.{row_targets, row_rates, reads_row, bested_when, best_pair}
 use Rattle.distance_words.proofs.Improving.{best_when, best_at, Adopted, adopted, gains, room_for, adopt_if, adopt, Bettered, bettered, better_from, best_of_pair, counted, better_if}
 
 -- ---- a coupling for a pair
+
+-- what the coupling in the store comes to, as it is read
+pub current_is : (v : List Float) (f t : ℕ) {P p : List ℕ} {M m : List Float} {y : Float} → p ≡ P → m ≡ M → y ≡ expected v (shares_of (slice f t p) (slice f t m)) → y ≡ expected v (shares_of (slice f t P) (slice f t M))
+current_is v f t ep em e = e ∙ ap₂ (λ (u : List ℕ) (w : List Float). expected v (shares_of (slice f t u) (slice f t w))) ep em
 
 module _ (x : Float) (js : List ℕ) (ms v : List Float) (k : ℕ) (s l p : List ℕ) (m : List Float) (f t : ℕ) (ef : f ≡ get_or s k 0) (et : t ≡ f + get_or l k 0) (y : Float) (ey : y ≡ expected v (shares_of (slice f t p) (slice f t m))) where
   abbrev gain : Bool
@@ -62,7 +69,20 @@ module _ (x : Float) (js : List ℕ) (ms v : List Float) (k : ℕ) (s l p : List
           ∙ ap (λ (a : ℕ). adopt_if true k a js ms l p m) ef
           ∙ ap adopting (and_second gain roomy true (sym gain_is ∙ g) (and_second _ _ _ (le-leb (get_or s k 0 + length js) (length p) (omega arith)) (sym (le-leb (get_or s k 0 + length js) (length m) (omega arith)))))
 
+-- as many lengths as before
+pub adopt_size : {b : Bool} {l' p' : List ℕ} {m' : List Float} (x : Float) (js : List ℕ) (ms v : List Float) (k : ℕ) (s l p : List ℕ) (m : List Float) → adopted b l' p' m' ≡ adopt x js ms v k s l p m → length l' ≡ length l
+adopt_size x js ms v k s l p m e = ap (λ (r : Adopted). length r.lengths) e ∙ pick (gains x v k s l p m && room_for (get_or s k 0 + length js) (length p) (length m))
+  where
+    pick : (b : Bool) → length (adopt_if b k (get_or s k 0) js ms l p m).lengths ≡ length l
+    pick true = length-set l k (length js)
+    pick false = refl
+
 -- ---- the cheapest coupling in two work lists
+
+-- what is answered, or no share of value 0
+pub bested_or : (r : Option Chosen) {b : Chosen} {p : List ℕ} {m : List Float} → b ≡ unwrap_or r (record { value = nought; cells = 0 }) → bested b.value b.cells p m ≡ bested_as r p m
+bested_or (Some c) {b} {p} {m} e = ap (λ (a : Chosen). bested a.value a.cells p m) e
+bested_or None {b} {p} {m} e = ap (λ (a : Chosen). bested a.value a.cells p m) e
 
 by_length : (t : Bool) (look : Look) (v : List Float) (es fs : List Jump) → length (best_by t look v es fs).coupling ≤ length es * length fs
 unfolding best_by independent_by
@@ -199,14 +219,14 @@ module _ {best : ℕ → Best} {v : List Float} {γ : Float} {cost : List Float}
 -- ---- the check of the counts
 
 module _ (n lefts rights values cost starts lengths : ℕ) (b : Bool) (e : b ≡ counted n lefts rights values cost starts lengths) where
-  pub counts_known : not b ≡ false → (n ≤ lefts) × (n ≤ rights) × (n ≤ values) × (n ≤ cost) × (n ≤ starts) × (n ≤ lengths)
+  pub counts_known : not b ≡ false → (n ≤ lefts) × (n ≤ rights) × (n ≤ cost) × (n ≤ starts) × (n ≤ lengths)
   counts_known h =
       let (a₁, r₁) = and_t (leb n lefts) _ (sym e ∙ not-false b h) in
       let (a₂, r₂) = and_t (leb n rights) _ r₁ in
       let (a₃, r₃) = and_t (leb n values) _ r₂ in
       let (a₄, r₄) = and_t (leb n cost) _ r₃ in
       let (a₅, a₆) = and_t (leb n starts) _ r₄ in
-      (leb-true n lefts a₁, leb-true n rights a₂, leb-true n values a₃, leb-true n cost a₄, leb-true n starts a₅, leb-true n lengths a₆)
+      (leb-true n lefts a₁, leb-true n rights a₂, leb-true n cost a₄, leb-true n starts a₅, leb-true n lengths a₆)
 
   pub uncounted : not b ≡ true → (r : Bettered) (l p : List ℕ) (m : List Float) → bettered nought false l p m ≡ better_if (counted n lefts rights values cost starts lengths) r l p m
   uncounted h r l p m = ap (λ (t : Bool). better_if t r l p m) (sym (not-true b h) ∙ e)

@@ -1,10 +1,11 @@
 // A pair gets another coupling where that is better.
 ghost use Rattle.std.specs.Prelude.{◌≡◌, ◌≤◌, ◌<◌, length};
 ghost use Rattle.numbers.specs.Lists.{over};
-ghost use Rattle.distance_words.proofs.Improving.{adopted};
-ghost use Rattle.distance_words.proofs.Improving;
+ghost use Rattle.distance_theory.specs.Lent.{SameStore};
+ghost use Rattle.distance_words.proofs.Improving.{adopted_as, adopt_in};
 
 use distance_couplings::shares::expected_part;
+use distance_theory::lent::StoreMut;
 use numbers::EPS;
 
 // Shares over the front of two lists.
@@ -23,28 +24,28 @@ pub(crate) fn adopt(
     ms: &[f64],
     values: &[f64],
     k: usize,
-    starts: &[u32],
-    lengths: &mut [u32],
-    places: &mut [u32],
-    masses: &mut [f64],
+    store: &mut StoreMut,
 ) -> bool
-    requires { (k < length starts.now) × (k < length lengths.old) × (length ms.now ≡ length js.now) × (length js.now ≤ 1024) }
-    ensures { adopted result lengths.new places.new masses.new ≡ Improving.adopt value js.now ms.now values.now k starts.now lengths.old places.old masses.old }
+    requires { (k < length store.old.starts.now) × (k < length store.old.lengths.now) × (length ms.now ≡ length js.now) × (length js.now ≤ 1024) }
+    ensures lists { SameStore store.old store.new }
+    ensures starts { store.new.starts.now ≡ store.old.starts.now }
+    ensures adopted { adopted_as result store.new ≡ adopt_in value js.now ms.now values.now k store.old }
 {
-    let from = starts[k] as usize;
-    let to = from + lengths[k] as usize;
-    let current = expected_part(values, places, masses, from, to);
+    let from = store.starts[k] as usize;
+    let to = from + store.lengths[k] as usize;
+    let laid = store.read();
+    let current = expected_part(values, laid.places, laid.masses, from, to);
     if !(value < current - EPS) {
         return false;
     }
     let n = js.len();
-    if from + n > places.len() {
+    if from + n > store.places.len() {
         return false;
     }
-    if from + n > masses.len() {
+    if from + n > store.masses.len() {
         return false;
     }
-    put_shares(js, ms, &mut places[from..], &mut masses[from..]);
-    lengths[k] = n as u32;
+    put_shares(js, ms, &mut store.places[from..], &mut store.masses[from..]);
+    store.lengths[k] = n as u32;
     true
 }

@@ -2,6 +2,7 @@
 use Rattle.std.specs.Prelude.{◌≡◌}
 use Rattle.distance_theory.specs.declared.lent.PairsMut.{PairsMut}
 use Rattle.distance_theory.specs.declared.lent.Scratch.{Scratch}
+use Rattle.distance_theory.specs.declared.lent.Store.{Store}
 use Rattle.distance_theory.specs.declared.lent.StoreMut.{StoreMut}
 
 -- the lists that are lent are the same, whatever they hold
@@ -13,3 +14,7 @@ SameStore a b = (b.starts.ghost_name ≡ a.starts.ghost_name) × (b.lengths.ghos
 
 abbrev pub SameScratch : Scratch → Scratch → Type 0
 SameScratch a b = (b.lefts.ghost_name ≡ a.lefts.ghost_name) × (b.rights.ghost_name ≡ a.rights.ghost_name) × (b.codes.ghost_name ≡ a.codes.ghost_name) × (b.places.ghost_name ≡ a.places.ghost_name) × (b.masses.ghost_name ≡ a.masses.ghost_name)
+
+-- the same couplings, to be read
+abbrev pub Reads : StoreMut → Store → Type 0
+Reads a b = (b.starts.now ≡ a.starts.now) × (b.lengths.now ≡ a.lengths.now) × (b.places.now ≡ a.places.now) × (b.masses.now ≡ a.masses.now)

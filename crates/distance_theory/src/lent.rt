@@ -1,4 +1,6 @@
 // What the parts of `distance` lend each other.
+ghost use Rattle.distance_theory.specs.Lent.{Reads};
+
 use chain_theory::Chain;
 
 // The entries of a state of a chain: their targets, and the probability of each.
@@ -57,6 +59,20 @@ pub struct StoreMut<'a> {
     pub lengths: &'a mut [u32],
     pub places: &'a mut [u32],
     pub masses: &'a mut [f64],
+}
+
+impl StoreMut<'_> {
+    // The couplings that are laid in it.
+    pub fn read(&self) -> Store<'_>
+        ensures { Reads self.now result }
+    {
+        Store {
+            starts: self.starts,
+            lengths: self.lengths,
+            places: self.places,
+            masses: self.masses,
+        }
+    }
 }
 
 // What the rounds read and never write: the pairs of two chains, what each costs, and the discount.

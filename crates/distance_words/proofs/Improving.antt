@@ -10,6 +10,10 @@ use Rattle.numbers.specs.Choice.{larger, apart}
 use Rattle.numbers.specs.Lists.{over}
 use Rattle.epsdelta_theory.specs.Jumps.{jumps_of}
 use Rattle.chain_theory.specs.Columns.{ChainColumns}
+use Rattle.chain_theory.specs.Lent.{of_chain}
+use Rattle.distance_theory.specs.declared.lent.StoreMut.{StoreMut}
+use Rattle.distance_theory.specs.declared.lent.Task.{Task as Given}
+use Rattle.distance_words.specs.declared.told.Improvement.{Improvement}
 use Rattle.distance_theory.specs.Couplings.{expected, Best, point_mass}
 use Rattle.distance_theory.proofs.Index.{look_up}
 use Rattle.distance_theory.proofs.Held.{shares_in}
@@ -90,3 +94,20 @@ better_if false r l p m = bettered nought false l p m
 abbrev pub improve : ℕ → List ℕ → List ℕ → List ℕ → ChainColumns → ChainColumns → List Float → List Float → Float → List ℕ → List ℕ → List ℕ → List Float → Bettered
 improve n lefts rights codes C D v cost γ s l p m =
     better_if (counted n (length lefts) (length rights) (length v) (length cost) (length s) (length l)) (better_from (best_of_pair lefts rights codes C D v) v γ cost s n 0 nought false l p m) l p m
+
+-- ---- the same of a task's pairs, in the lists that are lent
+
+abbrev pub adopted_as : Bool → StoreMut → Adopted
+adopted_as b S = adopted b S.lengths.now S.places.now S.masses.now
+
+abbrev pub adopt_in : Float → List ℕ → List Float → List Float → ℕ → StoreMut → Adopted
+adopt_in x js ms v k S = adopt x js ms v k S.starts.now S.lengths.now S.places.now S.masses.now
+
+abbrev pub bettered_as : Improvement → StoreMut → Bettered
+bettered_as r S = bettered r.residual r.improved S.lengths.now S.places.now S.masses.now
+
+abbrev pub best_in : Given → List Float → ℕ → Best
+best_in T v k = best_of_pair T.pairs.lefts.now T.pairs.rights.now T.pairs.codes.now (of_chain T.left) (of_chain T.right) v k
+
+abbrev pub improve_in : Given → List Float → StoreMut → Bettered
+improve_in T v S = improve (length v) T.pairs.lefts.now T.pairs.rights.now T.pairs.codes.now (of_chain T.left) (of_chain T.right) v T.cost.now T.gamma S.starts.now S.lengths.now S.places.now S.masses.now

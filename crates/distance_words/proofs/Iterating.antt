@@ -2,8 +2,13 @@
 use Prim.Native.Nat.{ℕ, zero, suc}
 use mathlib.Core.Bool.{Bool, true, false, not, ◌||◌}
 use mathlib.Core.List.{List}
-use lib.Ieee.{Float, le}
+use lib.Ieee.{Float, inf, le}
+use lib.ListN.{length}
 use Rattle.chain_theory.specs.Columns.{ChainColumns}
+use Rattle.chain_theory.specs.Lent.{of_chain}
+use Rattle.distance_theory.specs.declared.lent.StoreMut.{StoreMut}
+use Rattle.distance_theory.specs.declared.lent.Task.{Task as Given}
+use Rattle.distance_words.specs.declared.told.Rounds.{Rounds}
 use Rattle.distance_theory.specs.Rounds.{many}
 use Rattle.distance_words.proofs.Valuing.{evaluated}
 use Rattle.distance_words.proofs.Improving.{Bettered, improve}
@@ -55,3 +60,14 @@ iterate_from T (suc j) x n v l p m =
     let u = values_of T v l p m in
     let b = bettered_of T u l p m in
     elim (ended T.aim b) [ true ↦ iterated b.residual (suc n) u b.lengths b.places b.masses | false ↦ iterate_from T j b.residual (suc n) u b.lengths b.places b.masses ]
+
+-- ---- the same of a task's pairs, in the lists that are lent
+
+abbrev pub task_of : Given → ℕ → List ℕ → Float → Float → Task
+task_of T n s aim fine = task n T.pairs.lefts.now T.pairs.rights.now T.pairs.codes.now (of_chain T.left) (of_chain T.right) T.cost.now T.gamma s aim fine
+
+abbrev pub iterated_as : Rounds → List Float → StoreMut → Iterated
+iterated_as r v S = iterated r.residual r.rounds v S.lengths.now S.places.now S.masses.now
+
+abbrev pub iterate_in : ℕ → Given → Float → Float → StoreMut → List Float → Iterated
+iterate_in k T aim fine S v = iterate_from (task_of T (length v) S.starts.now aim fine) k (inf false) 0 v S.lengths.now S.places.now S.masses.now

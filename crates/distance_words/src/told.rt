@@ -5,6 +5,13 @@ ghost use Rattle.distance_words.specs.Told.{nothing_listed};
 use bisim_core::ids::StateId;
 use distance_theory::{Distance, PairContribution};
 
+// What a round of improvement comes to: the most that a value is off, and whether a coupling has changed.
+#[derive(Clone, Copy, Debug, PartialEq)]
+pub struct Improvement {
+    pub residual: f64,
+    pub improved: bool,
+}
+
 // The most that a value was off, and the rounds made.
 #[derive(Clone, Copy, Debug, PartialEq)]
 pub struct Rounds {

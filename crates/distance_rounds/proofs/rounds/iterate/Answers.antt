@@ -1,21 +1,37 @@
-use mathlib.Core.List.{[]}
+use mathlib.Core.Path.{ap₂, ◌∙◌}
+use Prim.Native.Nat.{ℕ}
+use mathlib.Core.List.{List}
 use native.Mathlib.Omega.{arith}
-use Rattle.chain_theory.specs.Columns.{chain_columns}
-use Rattle.distance_words.proofs.Iterating.{task}
-use Rattle.distance_rounds.proofs.Iterates.{iterates_start, iterates_end, iterates_stop, iterates_next}
+use Rattle.std.proofs.Common.{rules}
+use Rattle.chain_theory.specs.Lent.{of_chain}
+use Rattle.distance_theory.specs.Rounds.{many}
+use Rattle.distance_words.proofs.Valuing.{evaluated}
+use Rattle.distance_words.proofs.Improving.{improve}
+use Rattle.distance_rounds.proofs.Iterates.{iterates_end, iterates_stop, iterates_next}
 use Rattle.distance_rounds.proofs.rounds.iterate.Goals as goal
-
-pub loop-rounds-init : goal.loop-rounds-init
-loop-rounds-init c = iterates_start (task c.args.n c.args.lefts.now c.args.rights.now c.args.codes.now (chain_columns c.args.left_offsets.now c.args.left_targets.now c.args.left_probs.now []) (chain_columns c.args.right_offsets.now c.args.right_targets.now c.args.right_probs.now []) c.args.cost.now c.args.gamma c.args.starts.now c.args.aim c.args.tol) c.args.max_rounds _ c.args.values.now c.args.lengths.now c.args.places.now c.args.masses.now c.infinity-residual.ensures
 
 pub overflow_add-rounds : goal.overflow_add-rounds
 overflow_add-rounds c = let h = c.loop-rounds-test.true in let g = c.ranges.max_rounds in omega arith
 
-pub returns-then-ended : goal.returns-then-ended
-returns-then-ended c = iterates_stop c.loop-rounds.invariant c.loop-rounds-test.true c.evaluate.ensures c.improve-step.ensures c.ended.ensures c.if-ended.true
+pub returns-then-ended-clause-iterated : goal.returns-then-ended-clause-iterated
+returns-then-ended-clause-iterated c =
+    let T = c.args.task.now in
+    let S = c.loop-rounds.store in
+    let I = c.loop-rounds.invariant.2 in
+    let u = c.evaluate.new.value in
+    let eu = c.evaluate.ensures ∙ ap₂ (λ (s : List ℕ) (n : ℕ). evaluated many s S.lengths.now S.places.now S.masses.now T.cost.now T.gamma c.args.tol c.loop-rounds.values n) c.loop-rounds.invariant.1 I.values_size in
+    let eb = c.improve-step.ensures.bettered ∙ ap₂ (λ (s : List ℕ) (n : ℕ). improve n T.pairs.lefts.now T.pairs.rights.now T.pairs.codes.now (of_chain T.left) (of_chain T.right) u T.cost.now T.gamma s S.lengths.now S.places.now S.masses.now) c.loop-rounds.invariant.1 (c.evaluate.auto.value ∙ I.values_size) in
+    iterates_stop I c.loop-rounds-test.true eu eb c.ended.ensures c.if-ended.true
 
 pub loop-rounds-preserved : goal.loop-rounds-preserved
-loop-rounds-preserved c = iterates_next c.loop-rounds.invariant c.loop-rounds-test.true c.evaluate.ensures c.improve-step.ensures c.ended.ensures c.if-ended.false c.evaluate.auto.value c.improve-step.auto.lengths c.improve-step.auto.places c.improve-step.auto.masses
+loop-rounds-preserved c =
+    let T = c.args.task.now in
+    let S = c.loop-rounds.store in
+    let I = c.loop-rounds.invariant.2 in
+    let u = c.evaluate.new.value in
+    let eu = c.evaluate.ensures ∙ ap₂ (λ (s : List ℕ) (n : ℕ). evaluated many s S.lengths.now S.places.now S.masses.now T.cost.now T.gamma c.args.tol c.loop-rounds.values n) c.loop-rounds.invariant.1 I.values_size in
+    let eb = c.improve-step.ensures.bettered ∙ ap₂ (λ (s : List ℕ) (n : ℕ). improve n T.pairs.lefts.now T.pairs.rights.now T.pairs.codes.now (of_chain T.left) (of_chain T.right) u T.cost.now T.gamma s S.lengths.now S.places.now S.masses.now) c.loop-rounds.invariant.1 (c.evaluate.auto.value ∙ I.values_size) in
+    (search rules, c.improve-step.ensures.starts ∙ c.loop-rounds.invariant.1, iterates_next I c.loop-rounds-test.true eu eb c.ended.ensures c.if-ended.false c.evaluate.auto.value)
 
-pub returns : goal.returns
-returns c = iterates_end c.loop-rounds.invariant c.loop-rounds-test.false
+pub returns-clause-iterated : goal.returns-clause-iterated
+returns-clause-iterated c = iterates_end c.loop-rounds.invariant.2 c.loop-rounds-test.false
