@@ -42,8 +42,8 @@ put_classes-requires-2 c =
     let l = c.put_classes.auto.classes in
     (m.right_classes, omega arith, f)
 
-pub overflow_add-left : goal.overflow_add-left
-overflow_add-left c =
+pub overflow_add-rows : goal.overflow_add-rows
+overflow_add-rows c =
     let a = c.args in
     let f = (room a.settings.absent (tolerances_outside a.settings.epsilon a.settings.rho) a.left a.right (length a.left_classes.now) (length a.right_classes.now) (length a.relation.now) (sym c.later-last.ensures ∙ c.if-last-ne0.false)).few in omega arith
 
