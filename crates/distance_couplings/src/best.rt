@@ -67,33 +67,26 @@ fn lay_planned(
     }
 }
 
-// The transport of masses a to masses b under the costs: its shares, with the places of the pairs of xs and ys.
+// The transport of masses under their costs: its shares, with the places of the pairs of xs and ys.
 fn move_masses(
-    a: &[f64],
-    b: &[f64],
-    costs: &[f64],
+    of: &Masses,
     xs: &[u32],
     ys: &[u32],
     codes: &[u64],
     places: &mut [u32],
     masses: &mut [f64],
 ) -> Option<Best>
-    requires { Movable a.now b.now costs.now xs.now ys.now (length codes.now) (length places.old) (length masses.old) }
-    ensures { bested_as result places.new masses.new ≡ moved_on (look_up codes.now) xs.now ys.now (transport a.now b.now costs.now) places.old masses.old }
+    requires { Movable of.now.left.now of.now.right.now of.now.costs.now xs.now ys.now (length codes.now) (length places.old) (length masses.old) }
+    ensures { bested_as result places.new masses.new ≡ moved_on (look_up codes.now) xs.now ys.now (transport of.now.left.now of.now.right.now of.now.costs.now) places.old masses.old }
 {
     let mut rows = [0u32; 1024];
     let mut columns = [0u32; 1024];
-    let of = Masses {
-        left: a,
-        right: b,
-        costs,
-    };
     let mut plan = PlanRows {
         rows: &mut rows,
         columns: &mut columns,
         masses,
     };
-    match transport_sized(&of, &mut plan) {
+    match transport_sized(of, &mut plan) {
         Ok(moved) => {
             lay_planned(xs, ys, codes, &plan, moved.cells, places);
             Some(Best {
@@ -124,16 +117,12 @@ fn best_moved(
     fit(xs.probs, ys.probs, &mut fitted);
     let n = ys.targets.len();
     let cells = xs.targets.len() * n;
-    move_masses(
-        xs.probs,
-        &fitted[..n],
-        &costs[..cells],
-        xs.targets,
-        ys.targets,
-        codes,
-        places,
-        masses,
-    )
+    let of = Masses {
+        left: xs.probs,
+        right: &fitted[..n],
+        costs: &costs[..cells],
+    };
+    move_masses(&of, xs.targets, ys.targets, codes, places, masses)
 }
 
 // A row of one entry: only one coupling exists.

@@ -96,6 +96,7 @@ fn discover_in(left: &Chain, right: &Chain, pairs: &mut PairsMut)
     ensures explores { Explores left.now.offsets.now left.now.targets.now right.now.offsets.now right.now.targets.now pairs.old.lefts.now pairs.old.rights.now pairs.old.codes.now pairs.new.count pairs.new.lefts.now pairs.new.rights.now pairs.new.codes.now }
 {
     let mut i = 0;
+    // Stays: the list grows while it is walked, which a `for` over it or over its length can't do.
     while i < pairs.count {
         let x = pairs.lefts[i] as usize;
         let y = pairs.rights[i] as usize;

@@ -36,6 +36,7 @@ pub(crate) fn goes_by(list: &[u64], key: u64) -> usize
 {
     let mut lo = 0;
     let mut n = list.len();
+    // Stays: `keyed` is what this halving finds in any list, rising or not, and without a branch; `partition_point` promises that of partitioned lists alone.
     while n > 0 {
         let half = n - n / 2;
         lo = lo + half * below(list[lo + half - 1], key);

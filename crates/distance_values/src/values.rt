@@ -28,11 +28,17 @@ fn sweep(store: &Store, cost: &[f64], gamma: f64, value: &mut [f64]) -> f64
     requires value_in_bounds { length value.old ≤ length cost.now }
     ensures { Swept (Rounds.swept (priced gamma cost.now) (policy_of store.now (length value.old)) value.old) value.new result }
 {
+    let Store {
+        starts,
+        lengths,
+        places,
+        masses,
+    } = *store;
     let mut delta = 0.0;
     for k in 0..value.len() {
-        let from = store.starts[k] as usize;
-        let to = from + store.lengths[k] as usize;
-        let x = cost[k] + gamma * expected(&store.places[from..to], &store.masses[from..to], value);
+        let from = starts[k] as usize;
+        let to = from + lengths[k] as usize;
+        let x = cost[k] + gamma * expected(&places[from..to], &masses[from..to], value);
         delta = larger(delta, apart(x, value[k]));
         value[k] = x;
     }

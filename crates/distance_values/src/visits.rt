@@ -27,17 +27,18 @@ fn stay_all(store: &Store, gamma: f64, current: &[f64], next: &mut [f64], spent:
     requires next_len { (length next.old ≡ length current.now) × (length spent.old ≡ length current.now) }
     ensures { Stayed (Contributions.stay_all gamma current.now 0 (policy_of store.now (length current.now)) (staying spent.old next.old)) spent.new next.new }
 {
+    let Store {
+        starts,
+        lengths,
+        places,
+        masses,
+    } = *store;
     for (k, p) in current.iter().enumerate() {
         if *p != 0.0 {
             spent[k] += *p;
-            let from = store.starts[k] as usize;
-            let to = from + store.lengths[k] as usize;
-            pour(
-                &store.places[from..to],
-                &store.masses[from..to],
-                gamma * *p,
-                next,
-            );
+            let from = starts[k] as usize;
+            let to = from + lengths[k] as usize;
+            pour(&places[from..to], &masses[from..to], gamma * *p, next);
         }
     }
 }

@@ -6,6 +6,7 @@ use bisim_core::ids::StateId;
 use distance_theory::{Distance, PairContribution};
 
 // What a round of improvement comes to: the most that a value is off, and whether a coupling has changed.
+// Stays: the residual is told whether or not a coupling has changed, so that an Option would lose it.
 #[derive(Clone, Copy, Debug, PartialEq)]
 pub struct Improvement {
     pub residual: f64,
@@ -20,6 +21,7 @@ pub struct Rounds {
 }
 
 // How many contributions are listed, and 64 records, of which these are the first.
+// Stays: there is no heap, and 64 is the most that can be asked for.
 #[derive(Clone, Copy, Debug)]
 pub struct Listed {
     pub count: usize,
