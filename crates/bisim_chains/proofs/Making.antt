@@ -1,34 +1,38 @@
 -- What `lay_chains` leaves is the chains of the definition: laid at the common rate, and their observations scaled together.
 use mathlib.Core.Path.{◌≡◌, refl, sym, ap, ◌∙◌}
-use mathlib.Core.Bool.{Bool, true, not, ◌&&◌}
-use mathlib.Core.Logic.{◌≢◌}
-use Prim.Native.Nat.{ℕ, zero, suc, ◌≤◌}
+use mathlib.Core.Bool.{Bool, true, not, true≢false}
+use Prim.Native.Nat.{ℕ, zero, suc, ◌-◌, ◌≤◌}
 use mathlib.Core.List.{List, ◌++◌}
 use native.Mathlib.Omega.{arith}
-use lib.Dec.{leb}
 use lib.Ieee.{Float}
 use lib.ListN.{length, take, drop, length-map, length-append}
 use lib.Seq.{take_at, drop_at, take_all, length-take-le}
-use borrow.Author.Tests.{eq-eqb, le-leb}
+use borrow.Author.Tests.{eq-eqb}
+use Rattle.std.specs.Prelude.{Option, Some, None, Result, Ok, Err}
+use Rattle.std.specs.Option.{is_some}
+use Rattle.std.specs.Result.{IsErrAnd}
 use Rattle.numbers.specs.Lists.{over}
+use Rattle.numbers.specs.Refuse
+use Rattle.numbers.specs.Refuse.{numbered, answered}
+use Rattle.numbers.specs.declared.refusal.Refusal.{Refusal}
+use Rattle.numbers.proofs.Refuses.{number_positive}
 use Rattle.numbers.proofs.Bools.{and_second}
 use Rattle.bisim_core.specs.Data.{Edge, Columns}
 use Rattle.bisim_core.specs.declared.wlts.Shape.{Shape}
 use Rattle.bisim_core.specs.Model.{model}
 use Rattle.epsdelta_theory.proofs.Rows.{model_length}
 use Rattle.parts.proofs.Models.{models_number}
-use Rattle.chain_theory.specs.Chain.{common_rate, chain_rows, uniformise, Scaled, normalise}
+use Rattle.chain_theory.specs.declared.ChainShape.{ChainShape}
+use Rattle.chain_theory.specs.Chain.{Chain, common_rate, uniformise, Scaled, normalise}
 use Rattle.chain_theory.specs.Columns.{ChainColumns, chain_columns, shape_of, columns_of}
 use Rattle.chain_theory.proofs.Chains.{rows_length}
-use Rattle.chains.specs.Outcome.{rate_ends, rated, laid, Laying, laying, layable, lay_if, lay_chain}
-use Rattle.chains.specs.declared.chain.Rated.{Rated}
+use Rattle.chains.specs.Outcome.{rated, laid, Laying, laying, layable, lay_if, lay_chain, LaidOut}
 use Rattle.chains.proofs.Answers.{ready}
-use Rattle.normalise.specs.Outcome.{scaling, scaled_over, scaled_if, scale_together}
+use Rattle.normalise.specs.Outcome.{scaling}
 use Rattle.bisim_checks.proofs.Passed.{Side, passed}
 use Rattle.distance_theory.specs.Refusal.{bisim_refusal}
 use Rattle.distance_theory.specs.declared.MetricOptions.{MetricOptions}
-use Rattle.bisim_chains.specs.declared.make.Chains.{Chains}
-use Rattle.bisim_chains.specs.Made.{no_chains, rate_of, Made, two_chains, made, made_of, made_if, bisim_made}
+use Rattle.bisim_chains.specs.Made.{rate_of, Made, made, made_of, made_if, bisim_made}
 
 -- ---- a list over another
 
@@ -49,46 +53,47 @@ pub right_size : (a b : List Float) → length (normalise a b).right ≡ length 
 unfolding normalise
 right_size a b = length-map b _
 
-module _ (a d b e : List Float) (n m : ℕ) (p : length a ≡ n) (q : length b ≡ m) where
-  scale_laid : scale_together n (over a d) m (over b e) ≡ scaled_over (normalise a b) d e
-  unfolding scale_together
-  scale_laid =
-      let x = over a d in
-      let y = over b e in
-      let h = over_long a d in
-      let k = over_long b e in
-      let N = normalise a b in
-      ap (λ (z : Bool). scaled_if (z && leb m (length y)) (normalise (take n x) (take m y)) x y) (le-leb n (length x) (omega arith))
-      ∙ ap (λ (z : Bool). scaled_if z (normalise (take n x) (take m y)) x y) (le-leb m (length y) (omega arith))
-      ∙ ap (λ (z : List Float). scaled_over (normalise z (take m y)) x y) (take_at a (drop (length a) d) n p)
-      ∙ ap (λ (z : List Float). scaled_over (normalise a z) x y) (take_at b (drop (length b) e) m q)
-      ∙ ap (λ (z : List Float). scaling N.scale z (over N.right y)) (over_same N.left a d (left_size a b))
-      ∙ ap (λ (z : List Float). scaling N.scale (over N.left d) z) (over_same N.right b e (right_size a b))
+-- the front of a list, lent from place 0 on, is what was laid there; and scaled numbers are put back over it
+module _ (a d : List Float) (n : ℕ) (p : length a ≡ n) where
+  pub front_is : take (n - 0) (over a d) ≡ a
+  front_is = let z : n - 0 ≡ n = omega arith in ap (λ (k : ℕ). take k (over a d)) z ∙ take_at a (drop (length a) d) n p
+
+  pub put_back : (l : List Float) → length l ≡ n → l ++ drop (n - 0) (over a d) ≡ over l d
+  put_back l e = let z : n - 0 ≡ length l = omega arith in ap (λ (k : ℕ). l ++ drop k (over a d)) z ∙ over_same l a d (e ∙ sym p)
 
 -- ---- one side
+
+abbrev or_this : ChainShape → Option ChainShape → ChainShape
+or_this H (Some K) = K
+or_this H None = H
 
 module _ {S : Shape} {M : Columns} {s : ℕ} {seen : List Float} {C : ChainColumns} (P : Side S M s seen C) where
   lays : layable S M seen C ≡ true
   lays = sym (and_second _ _ true (eq-eqb _ _ P.model_passes) (sym (ap not P.roomy)))
 
-  laid_so : (q : Float) → lay_chain S M q seen s C ≡ laying (shape_of (uniformise (model S M) q seen s)) (laid (columns_of (uniformise (model S M) q seen s)) C)
+  laid_so : (q : Float) → lay_chain S M q seen s C ≡ laying (Some (shape_of (uniformise (model S M) q seen s))) (laid (columns_of (uniformise (model S M) q seen s)) C)
   unfolding lay_chain
   laid_so q = ap (λ (b : Bool). lay_if b (uniformise (model S M) q seen s) C) lays
 
+  module _ (q x : Float) (e : x ≡ q) (r : Option ChainShape) (D : ChainColumns) (f : laying r D ≡ lay_chain S M x seen s C) where
+    is_laid : laying r D ≡ laying (Some (shape_of (uniformise (model S M) q seen s))) (laid (columns_of (uniformise (model S M) q seen s)) C)
+    is_laid = f ∙ ap (λ (z : Float). lay_chain S M z seen s C) e ∙ laid_so q
+
+    -- a chain is made
+    pub not_none : r ≡ None → ⊥
+    not_none h = true≢false (ap is_some (sym (ap (λ (X : Laying). X.shape) is_laid) ∙ h))
+
+    pub first_laid : (H : ChainShape) → r ≡ Some H → LaidOut (uniformise (model S M) q seen s) H C D
+    first_laid H h = record { shape_is = ap (or_this H) (sym h ∙ ap (λ (X : Laying). X.shape) is_laid); lists_are = ap (λ (X : Laying). X.lists) is_laid }
+
   pub seen_size : length (take (length (model S M)) seen) ≡ length (model S M)
-  seen_size = length-take-le (length (model S M)) seen (let h = (ready S M seen C P.model_passes P.roomy).seen_long in let e = model_length S M in omega arith)
+  seen_size = length-take-le (length (model S M)) seen (let h = (ready S seen C P.roomy).seen_long in let e = model_length S M in omega arith)
 
 -- ---- both
 
 -- a chain's lists with other observations
 abbrev observed : ChainColumns → List Float → ChainColumns
 observed C l = chain_columns C.offsets C.targets C.probabilities l
-
-abbrev both : Laying → Laying → Scaled → Made
-both X Y Z = made (two_chains X.shape Y.shape) (observed X.lists Z.left) (observed Y.lists Z.right)
-
-abbrev scales : Laying → Laying → Scaled
-scales X Y = scale_together X.shape.states X.lists.observations Y.shape.states Y.lists.observations
 
 module _ {SL : Shape} {ML : Columns} {s : ℕ} {seenL : List Float} {CL : ChainColumns} {SR : Shape} {MR : Columns} {t : ℕ} {seenR : List Float} {CR : ChainColumns} (P : Side SL ML s seenL CL) (Q : Side SR MR t seenR CR) where
   abbrev L : List (List Edge)
@@ -100,43 +105,83 @@ module _ {SL : Shape} {ML : Columns} {s : ℕ} {seenL : List Float} {CL : ChainC
   abbrev q : Float
   q = common_rate L R
 
-  pub rate_is : (x : Rated) (y : Float) → x ≡ rated SL ML SR MR → y ≡ rate_of x → y ≡ q
+  pub rate_is : (x : Result Float ℕ) (y : Float) → x ≡ rated SL ML SR MR → y ≡ rate_of x → y ≡ q
   unfolding rated
-  rate_is x y e f = f ∙ ap rate_of (e ∙ ap (λ (k : ℕ). rate_ends k q) (sym (models_number SL ML SR MR 0 0 0 (sym P.model_passes) (sym Q.model_passes) refl)))
+  rate_is x y e f = f ∙ ap rate_of (e ∙ ap (λ (k : ℕ). answered k q) (sym (models_number SL ML SR MR 0 0 0 (sym P.model_passes) (sym Q.model_passes) refl)))
 
-  abbrev left : Laying
-  left = laying (shape_of (uniformise L q seenL s)) (laid (columns_of (uniformise L q seenL s)) CL)
+  abbrev A : Chain
+  A = uniformise L q seenL s
 
-  abbrev right : Laying
-  right = laying (shape_of (uniformise R q seenR t)) (laid (columns_of (uniformise R q seenR t)) CR)
+  abbrev B : Chain
+  B = uniformise R q seenR t
 
-  scaled_is : scales left right ≡ scaled_over (normalise (take (length L) seenL) (take (length R) seenR)) CL.observations CR.observations
-  unfolding uniformise shape_of columns_of
-  scaled_is =
-      scale_laid (take (length L) seenL) CL.observations (take (length R) seenR) CR.observations (length (chain_rows q 0 L)) (length (chain_rows q 0 R))
-      (seen_size P ∙ sym (rows_length q 0 L)) (seen_size Q ∙ sym (rows_length q 0 R))
+  abbrev a : List Float
+  a = take (length L) seenL
+
+  abbrev b : List Float
+  b = take (length R) seenR
 
   abbrev N : Scaled
-  N = normalise (take (length L) seenL) (take (length R) seenR)
+  N = normalise a b
 
   all_taken : (n : ℕ) (l : List Float) → length l ≡ n → l ≡ take n l
   all_taken n l e = sym (take_all n l (omega arith))
 
-  is_made : both left right (scaled_over N CL.observations CR.observations) ≡ made_of L s seenL CL R t seenR CR
+  is_made : made (Ok (shape_of A, shape_of B)) (observed (laid (columns_of A) CL) (over N.left CL.observations)) (observed (laid (columns_of B) CR) (over N.right CR.observations)) ≡ made_of L s seenL CL R t seenR CR
   unfolding made_of uniformise shape_of columns_of
   is_made =
-      let a = all_taken (length L) N.left (left_size (take (length L) seenL) (take (length R) seenR) ∙ seen_size P) in
-      let b = all_taken (length R) N.right (right_size (take (length L) seenL) (take (length R) seenR) ∙ seen_size Q) in
-      ap (λ (l : List Float). made (two_chains left.shape right.shape) (observed left.lists (over l CL.observations)) (observed right.lists (over N.right CR.observations))) a
-      ∙ ap (λ (l : List Float). made (two_chains left.shape right.shape) (observed left.lists (over (take (length L) N.left) CL.observations)) (observed right.lists (over l CR.observations))) b
+      let c = all_taken (length L) N.left (left_size a b ∙ seen_size P) in
+      let d = all_taken (length R) N.right (right_size a b ∙ seen_size Q) in
+      ap (λ (l : List Float). made (Ok (shape_of A, shape_of B)) (observed (laid (columns_of A) CL) (over l CL.observations)) (observed (laid (columns_of B) CR) (over N.right CR.observations))) c
+      ∙ ap (λ (l : List Float). made (Ok (shape_of A, shape_of B)) (observed (laid (columns_of A) CL) (over (take (length L) N.left) CL.observations)) (observed (laid (columns_of B) CR) (over l CR.observations))) d
 
-  pub all_made : (x : Float) → x ≡ q → (X Y : Laying) (Z : Scaled) → X ≡ lay_chain SL ML x seenL s CL → Y ≡ lay_chain SR MR x seenR t CR → Z ≡ scales X Y → both X Y Z ≡ made_of L s seenL CL R t seenR CR
-  all_made x e X Y Z f g h =
-      let f' : X ≡ left = f ∙ ap (λ (z : Float). lay_chain SL ML z seenL s CL) e ∙ laid_so P q in
-      let g' : Y ≡ right = g ∙ ap (λ (z : Float). lay_chain SR MR z seenR t CR) e ∙ laid_so Q q in
-      ap (both X Y) h
-      ∙ ap (λ (W : Laying). both W Y (scales W Y)) f' ∙ ap (λ (W : Laying). both left W (scales left W)) g'
-      ∙ ap (both left right) scaled_is ∙ is_made
+  module _ (H K : ChainShape) (D E : ChainColumns) (X : LaidOut A H CL D) (Y : LaidOut B K CR E) where
+    left_long : length a ≡ H.states
+    unfolding uniformise shape_of
+    left_long = seen_size P ∙ sym (rows_length q 0 L) ∙ ap (λ (G : ChainShape). G.states) (sym X.shape_is)
+
+    right_long : length b ≡ K.states
+    unfolding uniformise shape_of
+    right_long = seen_size Q ∙ sym (rows_length q 0 R) ∙ ap (λ (G : ChainShape). G.states) (sym Y.shape_is)
+
+    left_seen : D.observations ≡ over a CL.observations
+    unfolding uniformise columns_of
+    left_seen = ap (λ (Z : ChainColumns). Z.observations) X.lists_are
+
+    right_seen : E.observations ≡ over b CR.observations
+    unfolding uniformise columns_of
+    right_seen = ap (λ (Z : ChainColumns). Z.observations) Y.lists_are
+
+    -- where the lists of observations are long enough to be cut
+    pub cut : (H.states ≤ length D.observations) × (K.states ≤ length E.observations)
+    cut =
+        let c = over_long a CL.observations in
+        let d = over_long b CR.observations in
+        let e = ap length left_seen in
+        let f = ap length right_seen in
+        let g = left_long in
+        let h = right_long in
+        (omega arith, omega arith)
+
+    pub all_made : (x : Float) (l r : List Float) → scaling x l r ≡ normalise (take (H.states - 0) D.observations) (take (K.states - 0) E.observations)
+        → made (Ok (H, K)) (observed D (l ++ drop (H.states - 0) D.observations)) (observed E (r ++ drop (K.states - 0) E.observations)) ≡ made_of L s seenL CL R t seenR CR
+    all_made x l r e =
+        let f : scaling x l r ≡ N =
+        e ∙ ap (λ (z : List Float). normalise (take (H.states - 0) z) (take (K.states - 0) E.observations)) left_seen ∙ ap (λ (z : List Float). normalise z (take (K.states - 0) E.observations)) (front_is a CL.observations H.states left_long)
+        ∙ ap (λ (z : List Float). normalise a (take (K.states - 0) z)) right_seen ∙ ap (normalise a) (front_is b CR.observations K.states right_long) in
+        let i = ap (λ (Z : Scaled). Z.left) f in
+        let j = ap (λ (Z : Scaled). Z.right) f in
+        let u : l ++ drop (H.states - 0) D.observations ≡ over N.left CL.observations =
+        ap (λ (z : List Float). l ++ drop (H.states - 0) z) left_seen ∙ put_back a CL.observations H.states left_long l (ap length i ∙ left_size a b ∙ left_long) ∙ ap (λ (z : List Float). over z CL.observations) i in
+        let v : r ++ drop (K.states - 0) E.observations ≡ over N.right CR.observations =
+        ap (λ (z : List Float). r ++ drop (K.states - 0) z) right_seen ∙ put_back b CR.observations K.states right_long r (ap length j ∙ right_size a b ∙ right_long) ∙ ap (λ (z : List Float). over z CR.observations) j in
+        ap (λ (z : List Float). made (Ok (H, K)) (observed D z) (observed E (r ++ drop (K.states - 0) E.observations))) u
+        ∙ ap (λ (z : List Float). made (Ok (H, K)) (observed D (over N.left CL.observations)) (observed E z)) v
+        ∙ ap (λ (G : ChainShape). made (Ok (G, K)) (observed D (over N.left CL.observations)) (observed E (over N.right CR.observations))) X.shape_is
+        ∙ ap (λ (G : ChainShape). made (Ok (shape_of A, G)) (observed D (over N.left CL.observations)) (observed E (over N.right CR.observations))) Y.shape_is
+        ∙ ap (λ (Z : ChainColumns). made (Ok (shape_of A, shape_of B)) (observed Z (over N.left CL.observations)) (observed E (over N.right CR.observations))) X.lists_are
+        ∙ ap (λ (Z : ChainColumns). made (Ok (shape_of A, shape_of B)) (observed (laid (columns_of A) CL) (over N.left CL.observations)) (observed Z (over N.right CR.observations))) Y.lists_are
+        ∙ is_made
 
 -- ---- with the checks before
 
@@ -147,13 +192,14 @@ module _ (SL : Shape) (ML : Columns) (s : ℕ) (seenL : List Float) (CL : ChainC
   abbrev whole : Made
   whole = made_of (model SL ML) s seenL CL (model SR MR) t seenR CR
 
-  none_made : (n : ℕ) → n ≢ 0 → made (no_chains n) CL CR ≡ made_if n whole CL CR
-  none_made zero h = absurd (h refl)
-  none_made (suc n) h = refl
+  none_made : (a : Result (ChainShape × ChainShape) Refusal) (r : Refusal) (n : ℕ) → IsErrAnd a (λ e. e ≡ r) → Refuse.number r ≡ n → made (numbered a) CL CR ≡ made_if n whole CL CR
+  none_made (Ok p) r n h e = absurd h
+  none_made (Err x) r zero h e = absurd (number_positive r e)
+  none_made (Err x) r (suc n) h e = ap (λ (k : ℕ). made (Err k) CL CR) (ap Refuse.number h ∙ e)
 
-  pub unmade : (n : ℕ) (x : Chains) → n ≡ refusal → n ≢ 0 → x ≡ no_chains n → made x CL CR ≡ bisim_made SL ML s seenL CL SR MR t seenR CR γ o lists records
+  pub unmade : (a : Result (ChainShape × ChainShape) Refusal) (r : Refusal) → IsErrAnd a (λ e. e ≡ r) → Refuse.number r ≡ refusal → made (numbered a) CL CR ≡ bisim_made SL ML s seenL CL SR MR t seenR CR γ o lists records
   unfolding bisim_made
-  unmade n x e h f = ap (λ (y : Chains). made y CL CR) f ∙ none_made n h ∙ ap (λ (k : ℕ). made_if k whole CL CR) e
+  unmade a r h e = none_made a r _ h e
 
   pub sides : (n : ℕ) → n ≡ refusal → n ≡ 0 → Side SL ML s seenL CL × Side SR MR t seenR CR
   sides n e z = let P = passed SL ML s seenL CL SR MR t seenR CR γ o lists records (sym e ∙ z) in (P.left, P.right)

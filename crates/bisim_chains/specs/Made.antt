@@ -1,5 +1,5 @@
 -- The chains that `bisim_distance` runs, in the lists lent for them, or the number of the first check that fails.
-use Rattle.std.specs.Prelude.{ℕ, zero, suc, List, length, take, Float}
+use Rattle.std.specs.Prelude.{ℕ, zero, suc, List, length, take, Float, Result, Ok, Err}
 use Rattle.numbers.specs.Real.{nought}
 use Rattle.bisim_core.specs.Data.{Edge, Columns}
 use Rattle.bisim_core.specs.declared.wlts.Shape.{Shape}
@@ -7,32 +7,22 @@ use Rattle.bisim_core.specs.Model.{model}
 use Rattle.chain_theory.specs.Chain.{Chain, common_rate, uniformise, normalise}
 use Rattle.chain_theory.specs.Columns.{ChainColumns, shape_of, columns_of}
 use Rattle.chain_theory.specs.declared.ChainShape.{ChainShape}
-use Rattle.chains.specs.Outcome.{shape, laid}
-use Rattle.chains.specs.declared.chain.Rated.{Rated}
-use Rattle.chains.specs.declared.chain.Rated.TheVariants as rates
+use Rattle.chains.specs.Outcome.{laid}
 use Rattle.distance_theory.specs.Refusal.{bisim_refusal}
 use Rattle.distance_theory.specs.declared.MetricOptions.{MetricOptions}
-use Rattle.bisim_chains.specs.declared.make.Chains.{Chains}
 
 -- the rate; 0 behind a refusal
-abbrev pub rate_of : Rated → Float
-rate_of (rates.Rate q) = q
-rate_of (rates.Refused r) = nought
+abbrev pub rate_of : Result Float ℕ → Float
+rate_of (Ok q) = q
+rate_of (Err r) = nought
 
--- two chains made; and none, behind a refusal
-abbrev pub two_chains : ChainShape → ChainShape → Chains
-two_chains H K = record { refusal = 0; left = H; right = K }
-
-abbrev pub no_chains : ℕ → Chains
-no_chains n = record { refusal = n; left = shape 0 0 (record { 0 = 0 }); right = shape 0 0 (record { 0 = 0 }) }
-
--- the answer, and the lists
+-- the counts and initial states of both chains, and the lists
 pub record Made : Type 0 where
-  pub chains : Chains
+  pub chains : Result (ChainShape × ChainShape) ℕ
   pub left_lists : ChainColumns
   pub right_lists : ChainColumns
 
-abbrev pub made : Chains → ChainColumns → ChainColumns → Made
+abbrev pub made : Result (ChainShape × ChainShape) ℕ → ChainColumns → ChainColumns → Made
 made x C D = record { chains = x; left_lists = C; right_lists = D }
 
 -- the left model at the common rate, from a state of it, with its observations scaled together with those of the right one
@@ -49,12 +39,12 @@ unfolding common_rate uniformise normalise shape_of columns_of
 made_of L s seenL C R t seenR D =
     let A = left_of L s seenL R seenR in
     let B = right_of L seenL R t seenR in
-    made (two_chains (shape_of A) (shape_of B)) (laid (columns_of A) C) (laid (columns_of B) D)
+    made (Ok (shape_of A, shape_of B)) (laid (columns_of A) C) (laid (columns_of B) D)
 
 -- where a check fails its number, and the lists as they were
 abbrev pub made_if : ℕ → Made → ChainColumns → ChainColumns → Made
 made_if zero X C D = X
-made_if (suc n) X C D = made (no_chains (suc n)) C D
+made_if (suc n) X C D = made (Err (suc n)) C D
 
 -- two models, a state and observations of each, the lists lent for their chains, γ, options, the lengths of the lists of pairs, and how many contribution records there are
 unfoldable pub bisim_made : Shape → Columns → ℕ → List Float → ChainColumns → Shape → Columns → ℕ → List Float → ChainColumns → Float → MetricOptions → List ℕ → ℕ → Made

@@ -9,9 +9,10 @@ ghost use Rattle.bisim_measure.specs.Measure.{measuring, bisim_measure};
 
 use bisim_chains::make::make_chains;
 use bisim_checks::rest::Rest;
+use bisim_checks::sides::Observed;
 use bisim_core::ids::StateId;
 use bisim_core::wlts::{Shape, Wlts};
-use chain_theory::ChainShape;
+use chain_theory::{ChainShape, ChainStore};
 use distance_run::run::run;
 use distance_run::scratch::{clear_masses, clear_states};
 use distance_theory::MetricOptions;
@@ -108,39 +109,49 @@ pub fn measure(
         codes: codes.len(),
         records,
     };
-    let made = make_chains(
-        left,
-        left_state,
-        left_observations,
-        left_chain_offsets,
-        left_chain_targets,
-        left_chain_probs,
-        left_chain_seen,
-        right,
-        right_state,
-        right_observations,
-        right_chain_offsets,
-        right_chain_targets,
-        right_chain_probs,
-        right_chain_seen,
+    let left_side = Observed {
+        model: *left,
+        state: left_state,
+        observations: left_observations,
+    };
+    let right_side = Observed {
+        model: *right,
+        state: right_state,
+        observations: right_observations,
+    };
+    let mut left_store = ChainStore {
+        offsets: left_chain_offsets,
+        targets: left_chain_targets,
+        probs: left_chain_probs,
+        observations: left_chain_seen,
+    };
+    let mut right_store = ChainStore {
+        offsets: right_chain_offsets,
+        targets: right_chain_targets,
+        probs: right_chain_probs,
+        observations: right_chain_seen,
+    };
+    let (first, second) = match make_chains(
+        &left_side,
+        &mut left_store,
+        &right_side,
+        &mut right_store,
         rest,
-    );
-    if made.refusal != 0 {
-        return refused(made.refusal);
-    }
-    let first = made.left;
-    let second = made.right;
+    ) {
+        Ok(chains) => chains,
+        Err(refusal) => return refused(refusal.number()),
+    };
     run_chains(
         first,
-        left_chain_offsets,
-        left_chain_targets,
-        left_chain_probs,
-        left_chain_seen,
+        left_store.offsets,
+        left_store.targets,
+        left_store.probs,
+        left_store.observations,
         second,
-        right_chain_offsets,
-        right_chain_targets,
-        right_chain_probs,
-        right_chain_seen,
+        right_store.offsets,
+        right_store.targets,
+        right_store.probs,
+        right_store.observations,
         gamma,
         options,
         lefts,

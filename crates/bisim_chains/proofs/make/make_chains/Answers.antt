@@ -1,36 +1,37 @@
 -- A refusal leaves all as it was; else the chains are laid.
+use Rattle.std.proofs.Common.{refl}
 use mathlib.Core.List.{[], ◌∷◌}
-use Rattle.bisim_core.specs.Data.{columns, columns_of}
-use Rattle.chain_theory.specs.Columns.{chain_columns}
+use Rattle.bisim_core.specs.Data.{columns_of}
+use Rattle.chain_theory.specs.Lent.{of_store}
 use Rattle.bisim_chains.proofs.Making.{unmade, sides, as_made}
 use Rattle.bisim_chains.proofs.make.make_chains.Goals as goal
 
-pub returns-then-refusal-ne0 : goal.returns-then-refusal-ne0
-returns-then-refusal-ne0 c =
-    let a = c.args in
-    let r = a.rest in
-    let ML = columns_of a.left.now in
-    let MR = columns_of a.right.now in
-    let CL = chain_columns a.left_chain_offsets.now a.left_chain_targets.now a.left_chain_probs.now a.left_chain_seen.now in
-    let CR = chain_columns a.right_chain_offsets.now a.right_chain_targets.now a.right_chain_probs.now a.right_chain_seen.now in
-    unmade a.left.now.shape ML a.left_state.0 a.left_observations.now CL a.right.now.shape MR a.right_state.0 a.right_observations.now CR r.gamma r.options (r.lefts ∷ r.rights ∷ r.codes ∷ []) r.records _ _ c.bisim_refusal-refusal.ensures c.if-refusal-ne0.true c.no_chains.ensures
+pub returns-in_err-bisim_refusal-clause-outcome : goal.returns-in_err-bisim_refusal-clause-outcome
+returns-in_err-bisim_refusal-clause-outcome c =
+    let l = c.args.left.now in
+    let k = c.args.right.now in
+    let r = c.args.rest in
+    unmade l.model.shape (columns_of l.model) l.state.0 l.observations.now (of_store c.args.left_store.now) k.model.shape (columns_of k.model) k.state.0 k.observations.now (of_store c.args.right_store.now) r.gamma r.options (r.lefts ∷ r.rights ∷ r.codes ∷ []) r.records
+    c.from_residual.result _ c.from_residual.ensures.1 c.in_err-bisim_refusal.ensures
 
-pub lay_chains-requires : goal.lay_chains-requires
-lay_chains-requires c =
-    let a = c.args in
-    let r = a.rest in
-    let ML = columns_of a.left.now in
-    let MR = columns_of a.right.now in
-    let CL = chain_columns a.left_chain_offsets.now a.left_chain_targets.now a.left_chain_probs.now a.left_chain_seen.now in
-    let CR = chain_columns a.right_chain_offsets.now a.right_chain_targets.now a.right_chain_probs.now a.right_chain_seen.now in
-    let e = sides a.left.now.shape ML a.left_state.0 a.left_observations.now CL a.right.now.shape MR a.right_state.0 a.right_observations.now CR r.gamma r.options (r.lefts ∷ r.rights ∷ r.codes ∷ []) r.records _ c.bisim_refusal-refusal.ensures c.if-refusal-ne0.false in record { side = e.0; side_2 = e.1 }
+pub lay_chains-requires-clause-left_side : goal.lay_chains-requires-clause-left_side
+lay_chains-requires-clause-left_side c =
+    let l = c.args.left.now in
+    let k = c.args.right.now in
+    let r = c.args.rest in
+    (sides l.model.shape (columns_of l.model) l.state.0 l.observations.now (of_store c.args.left_store.now) k.model.shape (columns_of k.model) k.state.0 k.observations.now (of_store c.args.right_store.now) r.gamma r.options (r.lefts ∷ r.rights ∷ r.codes ∷ []) r.records _ c.in_ok-bisim_refusal.ensures refl).0
 
-pub returns : goal.returns
-returns c =
-    let a = c.args in
-    let r = a.rest in
-    let ML = columns_of a.left.now in
-    let MR = columns_of a.right.now in
-    let CL = chain_columns a.left_chain_offsets.now a.left_chain_targets.now a.left_chain_probs.now a.left_chain_seen.now in
-    let CR = chain_columns a.right_chain_offsets.now a.right_chain_targets.now a.right_chain_probs.now a.right_chain_seen.now in
-    as_made a.left.now.shape ML a.left_state.0 a.left_observations.now CL a.right.now.shape MR a.right_state.0 a.right_observations.now CR r.gamma r.options (r.lefts ∷ r.rights ∷ r.codes ∷ []) r.records _ _ c.bisim_refusal-refusal.ensures c.if-refusal-ne0.false c.lay_chains.ensures
+pub lay_chains-requires-clause-right_side : goal.lay_chains-requires-clause-right_side
+lay_chains-requires-clause-right_side c =
+    let l = c.args.left.now in
+    let k = c.args.right.now in
+    let r = c.args.rest in
+    (sides l.model.shape (columns_of l.model) l.state.0 l.observations.now (of_store c.args.left_store.now) k.model.shape (columns_of k.model) k.state.0 k.observations.now (of_store c.args.right_store.now) r.gamma r.options (r.lefts ∷ r.rights ∷ r.codes ∷ []) r.records _ c.in_ok-bisim_refusal.ensures refl).1
+
+pub returns-clause-outcome : goal.returns-clause-outcome
+returns-clause-outcome c =
+    let l = c.args.left.now in
+    let k = c.args.right.now in
+    let r = c.args.rest in
+    as_made l.model.shape (columns_of l.model) l.state.0 l.observations.now (of_store c.args.left_store.now) k.model.shape (columns_of k.model) k.state.0 k.observations.now (of_store c.args.right_store.now) r.gamma r.options (r.lefts ∷ r.rights ∷ r.codes ∷ []) r.records
+    _ _ c.in_ok-bisim_refusal.ensures refl c.lay_chains.ensures.outcome
