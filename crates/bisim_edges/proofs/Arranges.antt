@@ -16,7 +16,7 @@ use Rattle.numbers.specs.Lists.{span, all}
 use Rattle.numbers.specs.Refuse.{check}
 use Rattle.numbers.proofs.Alls.{all_at}
 use Rattle.numbers.proofs.Bools.{or_f}
-use Rattle.numbers.proofs.Refuses.{check_hit, check_skip, check_none, first, first_hit, first_skip, hit, skip, none}
+use Rattle.numbers.proofs.Refuses.{check_hit, check_skip, check_none, first, first_hit, first_skip}
 use Rattle.bisim_core.specs.Data.{Edge, Transitions}
 use Rattle.build_theory.specs.declared.lent.Draft.{Draft}
 use Rattle.build_theory.specs.Lent.{transitions_of}
@@ -102,11 +102,10 @@ pub record Call : Type 0 where
   pub initial : Option StateId
   pub C : Transitions
   pub given : ℕ
-  pub count : ℕ
   pub full : Bool
 
-abbrev pub call_of : Draft → ℕ → Bool → Call
-call_of D count full = record { states = D.states; initial = D.initial; C = transitions_of D; given = D.given; count = count; full = full }
+abbrev pub call_of : Draft → Bool → Call
+call_of D full = record { states = D.states; initial = D.initial; C = transitions_of D; given = D.given; full = full }
 
 module _ (Z : Call) where
   abbrev states : ℕ
@@ -119,7 +118,7 @@ module _ (Z : Call) where
   given = Z.given
 
   abbrev c3 : Bool
-  c3 = ltb 2000 states || ltb 256 Z.count
+  c3 = ltb 2000 states
 
   abbrev c4 : Bool
   c4 = outside states Z.initial C given
@@ -137,20 +136,17 @@ module _ (Z : Call) where
   n = reach C given
 
   abbrev Answer : List ℕ → List ℕ → ℕ → Type 0
-  Answer I K r = Arranged states Z.initial C given Z.count Z.full I K r
+  Answer I K r = Arranged states Z.initial C given Z.full I K r
 
   ends_at : {I K : List ℕ} (r : ℕ) → check 3 c3 (check 4 c4 (check 5 c5 (check 6 c6 (check 7 Z.full 0)))) ≡ r → r ≢ 0 → Answer I K r
   ends_at r e h = record { number = sym e; sorted = λ z. absurd (h z) }
 
   pub many_states : {I K : List ℕ} → 2000 < states → Answer I K 3
-  many_states h = ends_at 3 (check_hit 3 c3 _ (sym (hit _ _ (sym (lt-ltb 2000 states h))))) (λ z. omega arith)
+  many_states h = ends_at 3 (check_hit 3 c3 _ (lt-ltb 2000 states h)) (λ z. omega arith)
 
-  pub many_labels : {I K : List ℕ} → states ≤ 2000 → 256 < Z.count → Answer I K 3
-  many_labels h k = ends_at 3 (check_hit 3 c3 _ (sym (skip _ _ _ (le-ltb 2000 states h) (sym (lt-ltb 256 Z.count k))))) (λ z. omega arith)
-
-  module _ (low : states ≤ 2000) (few : Z.count ≤ 256) where
+  module _ (low : states ≤ 2000) where
     passed_3 : c3 ≡ false
-    passed_3 = none _ _ (le-ltb 2000 states low) (le-ltb 256 Z.count few)
+    passed_3 = le-ltb 2000 states low
 
     after_3 : {I K : List ℕ} (r : ℕ) → first fault (check 6 c6 (check 7 Z.full 0)) ≡ r → r ≢ 0 → Answer I K r
     after_3 r e h = ends_at r (check_skip 3 c3 _ r passed_3 (two_first c4 c5 (check 6 c6 (check 7 Z.full 0)) ∙ e)) h
@@ -172,14 +168,14 @@ module _ (Z : Call) where
       s_low : (j : ℕ) → j < n → get_or C.sources j 0 < states
       s_low j h = ltb-true _ _ (all_given (λ x. ltb x states) C.sources given inside.0 j (omega arith) (omega arith))
 
-      pub sortable : {I : List ℕ} → Arrangeable given Z.count I → Sortable C.sources C.targets n I
+      pub sortable : {I : List ℕ} → Arrangeable given I → Sortable C.sources C.targets n I
       sortable A = record {
         keyable = record {
           few = let a = A.few in omega arith;
           s_in = omega arith;
           t_in = omega arith;
           room = let a = A.room in omega arith;
-          low = λ j h. A.low few j (omega arith);
+          low = λ j h. A.low j (omega arith);
         };
         t_low = λ j h. let a : get_or C.targets j 0 < states = ltb-true _ _ (all_given (λ x. ltb x states) C.targets given inside.1 j (omega arith) (omega arith)) in omega arith;
       }

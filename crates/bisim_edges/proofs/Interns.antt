@@ -130,7 +130,7 @@ module _ (values : List ℕ) where
           rest = λ j l. I.rest j l;
         }
 
-    pub overfull : count ≡ length store₀ → length store₀ < length (distinct (take (length values) values)) → Interned values store₀ store ids₀ ids (count + 1)
+    pub overfull : count ≡ length store₀ → length store₀ < length (distinct (take (length values) values)) → Interned values store₀ store ids₀ ids (length store₀ + 1)
     overfull f h = record {
       count = λ l. absurd (omega arith);
       more = λ l. subst (λ (d : List ℕ). length store₀ < length d) all_is h;

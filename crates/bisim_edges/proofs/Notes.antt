@@ -41,5 +41,5 @@ module _ (seen : List ℕ) (count t : ℕ) (w : count ≤ length seen) {k : Opti
     pub note_new : count < length seen → (seen' : List ℕ) → seen' ≡ set seen count t → Noted seen count t seen' (count + 1)
     note_new g seen' p = rw p (record { size = grown; known = λ r. ap (λ (x : ℕ). take x (set seen count t)) (add-one count) ∙ take-suc-set seen count t g ∙ sym new })
 
-    pub note_full : length seen ≤ count → (seen' : List ℕ) → Noted seen count t seen' (count + 1)
-    note_full g seen' = record { size = grown; known = λ r. absurd (omega arith) }
+    pub note_full : length seen ≤ count → (seen' : List ℕ) → Noted seen count t seen' (length seen + 1)
+    note_full g seen' = record { size = let e = grown in omega arith; known = λ r. absurd (omega arith) }

@@ -16,7 +16,7 @@ use Rattle.numbers.specs.Lists.{over}
 use Rattle.numbers.specs.Refuse.{check}
 use Rattle.numbers.specs.Search.{seek}
 use Rattle.numbers.proofs.Bools.{lt_or_ge, or_f}
-use Rattle.numbers.proofs.Refuses.{check_hit, check_none, hit, skip}
+use Rattle.numbers.proofs.Refuses.{check_hit, check_none, hit, none}
 use Rattle.bisim_core.specs.Data.{Edge, Transitions}
 use Rattle.build_theory.specs.declared.lent.Draft.{Draft}
 use Rattle.build_theory.specs.Lent.{transitions_of}
@@ -41,6 +41,11 @@ zeros given N m h = (
   length-take-le given (replicate N 0) (let e = length-replicate {A = ℕ} N 0 in omega arith),
   λ j k. get_or-take given (replicate N 0) j 0 k ∙ get_or-replicate N j 0 0 (omega arith),
 )
+
+-- the first of three checks, where the others do not fail
+alone : (a b d : Bool) → b ≡ false → d ≡ false → a ≡ (a || (b || d))
+alone true b d e f = refl
+alone false b d e f = sym (none b d e f)
 
 -- a plan that is asked for
 pub record Asked : Type 0 where
@@ -96,111 +101,106 @@ module _ (Z : Asked) where
     N : Interned (take given C.labels) known known' I I' count
     N = subst (λ (l : List ℕ). Interned l known known' I I' count) (v ∙ sym (take_least given C.labels)) N₀
 
-    labels_are : count ≤ 256 → take count known' ≡ D
-    labels_are h = N.count (omega arith)
-
-    count_is : count ≤ 256 → count ≡ length D
-    count_is h = sym (length-take-le count known' (omega arith)) ∙ ap length (labels_are h)
-
-    counted : ltb 256 count ≡ ltb 256 (length D)
-    counted = pick (lt_or_ge 256 count)
+    pub many_labels : 256 < count → ending (Err 3) M ≡ planned rank states initial C given short M
+    unfolding planned
+    many_labels h = refused_is 3 number _ M _ (check_hit 3 (oversized states C given) _ (third (ltb 2000 states) (ltb 4096 given) (ltb 256 (length D)) (lt-ltb 256 (length D) (let a = N.more (omega arith) in omega arith)))) (λ z. omega arith)
       where
-        pick : (256 < count) ⊎ (count ≤ 256) → ltb 256 count ≡ ltb 256 (length D)
-        pick (inl h) = lt-ltb 256 count h ∙ sym (lt-ltb 256 (length D) (let a = N.more (omega arith) in omega arith))
-        pick (inr h) = ap (ltb 256) (count_is h)
+        third : (a b d : Bool) → d ≡ true → (a || (b || d)) ≡ true
+        third true b d e = refl
+        third false true d e = refl
+        third false false d e = e
 
-    -- label ids are below 256, and so are the zeros behind them
-    pub arrangeable : length I' ≡ length I → length I ≡ given → ((j : ℕ) → j < given → get_or I j 0 ≡ 0) → Arrangeable given count I'
-    arrangeable e room zeros = record { few = most; room = omega arith; low = λ h j k. pick h j k (lt_or_ge j (length (take given C.labels))) }
-      where
-        pick : count ≤ 256 → (j : ℕ) → j < given → (j < length (take given C.labels)) ⊎ (length (take given C.labels) ≤ j) → get_or I' j 0 < 256
-        pick h j k (inl l) =
-            let c = count_is h in
-            let i = N.ids (omega arith) j l in
-            let a = intern_has [] (take given C.labels) j l in
-            omega arith
-        pick h j k (inr l) = let a = N.rest j l in let z = zeros j k in omega arith
+    module _ (few : count ≤ 256) where
+      labels_are : take count known' ≡ D
+      labels_are = N.count (omega arith)
 
-    module _ {full : Bool} {least_column least_list p : ℕ} (t : least_column ≡ min (length C.sources) (min (length C.labels) (min (length C.targets) (length C.weights)))) (o : least_list ≡ min (length M.labels) p) (q : p ≡ min (length M.numbers) (length M.weights))
-        (w : full ≡ (ltb least_column given || (short || ltb least_list given))) {K : List ℕ} (kl : length K ≡ given) {r : ℕ} (A : Arranged states initial C given count full I' K r) where
-      f : full ≡ (missing C given || cramped)
-      f = w ∙ rw (t, o, q) refl
+      count_is : count ≡ length D
+      count_is = sym (length-take-le count known' (omega arith)) ∙ ap length labels_are
 
-      number_is : r ≡ number
-      number_is =
-          A.number
-          ∙ ap (λ (b : Bool). check 3 (ltb 2000 states || b) (check 4 (outside states initial C given) (check 5 (unweighed C given) (check 6 (crowded states C given) (check 7 full 0)))))
-          (skip _ _ _ (le-ltb 4096 given most) counted)
-          ∙ ap (λ (b : Bool). check 3 (oversized states C given) (check 4 (outside states initial C given) (check 5 (unweighed C given) (check 6 (crowded states C given) (check 7 b 0))))) f
+      -- label ids are below 256, and so are the zeros behind them
+      pub arrangeable : length I' ≡ length I → length I ≡ given → ((j : ℕ) → j < given → get_or I j 0 ≡ 0) → Arrangeable given I'
+      arrangeable e room zeros = record { few = most; room = omega arith; low = λ j k. pick j k (lt_or_ge j (length (take given C.labels))) }
+        where
+          pick : (j : ℕ) → j < given → (j < length (take given C.labels)) ⊎ (length (take given C.labels) ≤ j) → get_or I' j 0 < 256
+          pick j k (inl l) =
+              let c = count_is in
+              let i = N.ids (omega arith) j l in
+              let a = intern_has [] (take given C.labels) j l in
+              omega arith
+          pick j k (inr l) = let a = N.rest j l in let z = zeros j k in omega arith
 
-      pub refused : r ≢ 0 → ending (Err r) M ≡ planned rank states initial C given short M
-      unfolding planned
-      refused h = refused_is r number _ M _ (sym number_is) h
+      module _ {full : Bool} {least_column least_list p : ℕ} (t : least_column ≡ min (length C.sources) (min (length C.labels) (min (length C.targets) (length C.weights)))) (o : least_list ≡ min (length M.labels) p) (q : p ≡ min (length M.numbers) (length M.weights))
+          (w : full ≡ (ltb least_column given || (short || ltb least_list given))) {K : List ℕ} (kl : length K ≡ given) {r : ℕ} (A : Arranged states initial C given full I' K r) where
+        f : full ≡ (missing C given || cramped)
+        f = w ∙ rw (t, o, q) refl
 
-      module _ (z : r ≡ 0) where
-        unrefused : number ≡ 0
-        unrefused = sym number_is ∙ z
+        number_is : r ≡ number
+        number_is =
+            A.number
+            ∙ ap (λ (b : Bool). check 3 b (check 4 (outside states initial C given) (check 5 (unweighed C given) (check 6 (crowded states C given) (check 7 full 0)))))
+            (alone (ltb 2000 states) (ltb 4096 given) (ltb 256 (length D)) (le-ltb 4096 given most) (le-ltb 256 (length D) (let c = count_is in omega arith)))
+            ∙ ap (λ (b : Bool). check 3 (oversized states C given) (check 4 (outside states initial C given) (check 5 (unweighed C given) (check 6 (crowded states C given) (check 7 b 0))))) f
 
-        checks : (oversized states C given ≡ false) × ((missing C given || cramped) ≡ false)
-        checks =
-            let (a, p) = check_none 2 (oversized states C given) _ unrefused in
-            let (b, q) = check_none 3 (outside states initial C given) _ p in
-            let (c, s) = check_none 4 (unweighed C given) _ q in
-            let (d, t) = check_none 5 (crowded states C given) _ s in
-            (a, (check_none 6 (missing C given || cramped) _ t).0)
-
-        pub few : count ≤ 256
-        few =
-            let (a, b) = or_f (ltb 2000 states) (ltb 4096 given || ltb 256 (length D)) checks.0 in
-            let (c, d) = or_f (ltb 4096 given) (ltb 256 (length D)) b in
-            ltb-false _ _ (counted ∙ d)
-
-        there : given ≤ min (length C.sources) (min (length C.labels) (min (length C.targets) (length C.weights)))
-        there = ltb-false _ _ (or_f (missing C given) cramped checks.1).0
-
-        pub room : given ≤ shortest M
-        room = ltb-false _ _ (or_f short (ltb (shortest M) given) (or_f (missing C given) cramped checks.1).1).1
-
-        pub labels_fit : (count ≤ length known') × (count ≤ length M.labels)
-        labels_fit =
-            let e = count_is few in
-            let d = distinct_length (take given C.labels) in
-            let t = length-take given C.labels in
-            let m = room in
-            let f = few in
-            (omega arith, omega arith)
-
-        pub whole : reach C given ≡ given
-        whole = let h = there in omega arith
-
-        sorted : Sorted C.sources C.targets given I' K
-        sorted = subst (λ (x : ℕ). Sorted C.sources C.targets x I' K) whole (A.sorted z)
-
-        pub joinable : Keys K (length K) × (length K ≤ length C.weights) × (length K ≤ length M.numbers) × (length K ≤ length M.weights)
-        joinable = let h = there in let m = room in (subst (Keys K) (sym kl) sorted.keys, omega arith, omega arith, omega arith)
-
-        ids_are : (j : ℕ) → j < given → get_or I' j 0 ≡ seek (get_or C.labels j 0) D
-        ids_are j h =
-            let f = few in
-            let g = there in
-            let t = length-take given C.labels in
-            N.ids (omega arith) j (omega arith) ∙ ap (λ (x : ℕ). seek x D) (get_or-take given C.labels j 0 h)
-
-        edges_are : joined K given C.weights ≡ edges C given
-        unfolding edges
-        edges_are = ap (λ (l : List Edge). nonzero (join l)) (sorted.edges C.weights (numbered_at D C) (λ j h.
-            ap (λ (x : ℕ). record { source = get_or C.sources j 0; label = x; target = get_or C.targets j 0; weight = get_or C.weights j nan }) (sym (ids_are j h))))
-
-        pub done : {L T : List ℕ} {U : List Float} {m : ℕ} → L ≡ over (take count known') M.labels → Joined K (length K) C.weights M.numbers M.weights T U m
-            → ending (Ok (m, count)) (lists L T U) ≡ planned rank states initial C given short M
+        pub refused : r ≢ 0 → ending (Err r) M ≡ planned rank states initial C given short M
         unfolding planned
-        done {L} {T} {U} {m} l J₀ =
-            let J = subst (λ (n : ℕ). Joined K n C.weights M.numbers M.weights T U m) kl J₀ in
-            put m count L T U (length (edges C given)) (length D) (over D M.labels) (over (map rank (edges C given)) M.numbers) (over (map weight_of (edges C given)) M.weights)
-            (J.count ∙ ap length edges_are) (count_is few) (l ∙ ap (λ (x : List ℕ). over x M.labels) (labels_are few))
-            (J.triples ∙ ap (λ (x : List Edge). over (map rank x) M.numbers) edges_are) (J.sums ∙ ap (λ (x : List Edge). over (map weight_of x) M.weights) edges_are)
-            ∙ done_is number (length (edges C given), length D) M (laid rank D (edges C given) M) unrefused
-          where
-            put : (m c : ℕ) (L T : List ℕ) (U : List Float) (m' c' : ℕ) (L' T' : List ℕ) (U' : List Float) → m ≡ m' → c ≡ c' → L ≡ L' → T ≡ T' → U ≡ U'
-                → ending (Ok (m, c)) (lists L T U) ≡ ending (Ok (m', c')) (lists L' T' U')
-            put m c L T U m' c' L' T' U' a b d e f = cc
+        refused h = refused_is r number _ M _ (sym number_is) h
+
+        module _ (z : r ≡ 0) where
+          unrefused : number ≡ 0
+          unrefused = sym number_is ∙ z
+
+          checks : (oversized states C given ≡ false) × ((missing C given || cramped) ≡ false)
+          checks =
+              let (a, p) = check_none 2 (oversized states C given) _ unrefused in
+              let (b, q) = check_none 3 (outside states initial C given) _ p in
+              let (c, s) = check_none 4 (unweighed C given) _ q in
+              let (d, t) = check_none 5 (crowded states C given) _ s in
+              (a, (check_none 6 (missing C given || cramped) _ t).0)
+
+          there : given ≤ min (length C.sources) (min (length C.labels) (min (length C.targets) (length C.weights)))
+          there = ltb-false _ _ (or_f (missing C given) cramped checks.1).0
+
+          pub room : given ≤ shortest M
+          room = ltb-false _ _ (or_f short (ltb (shortest M) given) (or_f (missing C given) cramped checks.1).1).1
+
+          pub labels_fit : (count ≤ length known') × (count ≤ length M.labels)
+          labels_fit =
+              let e = count_is in
+              let d = distinct_length (take given C.labels) in
+              let t = length-take given C.labels in
+              let m = room in
+              (omega arith, omega arith)
+
+          pub whole : reach C given ≡ given
+          whole = let h = there in omega arith
+
+          sorted : Sorted C.sources C.targets given I' K
+          sorted = subst (λ (x : ℕ). Sorted C.sources C.targets x I' K) whole (A.sorted z)
+
+          pub joinable : Keys K (length K) × (length K ≤ length C.weights) × (length K ≤ length M.numbers) × (length K ≤ length M.weights)
+          joinable = let h = there in let m = room in (subst (Keys K) (sym kl) sorted.keys, omega arith, omega arith, omega arith)
+
+          ids_are : (j : ℕ) → j < given → get_or I' j 0 ≡ seek (get_or C.labels j 0) D
+          ids_are j h =
+              let g = there in
+              let t = length-take given C.labels in
+              N.ids (omega arith) j (omega arith) ∙ ap (λ (x : ℕ). seek x D) (get_or-take given C.labels j 0 h)
+
+          edges_are : joined K given C.weights ≡ edges C given
+          unfolding edges
+          edges_are = ap (λ (l : List Edge). nonzero (join l)) (sorted.edges C.weights (numbered_at D C) (λ j h.
+              ap (λ (x : ℕ). record { source = get_or C.sources j 0; label = x; target = get_or C.targets j 0; weight = get_or C.weights j nan }) (sym (ids_are j h))))
+
+          pub done : {L T : List ℕ} {U : List Float} {m : ℕ} → L ≡ over (take count known') M.labels → Joined K (length K) C.weights M.numbers M.weights T U m
+              → ending (Ok (m, count)) (lists L T U) ≡ planned rank states initial C given short M
+          unfolding planned
+          done {L} {T} {U} {m} l J₀ =
+              let J = subst (λ (n : ℕ). Joined K n C.weights M.numbers M.weights T U m) kl J₀ in
+              put m count L T U (length (edges C given)) (length D) (over D M.labels) (over (map rank (edges C given)) M.numbers) (over (map weight_of (edges C given)) M.weights)
+              (J.count ∙ ap length edges_are) count_is (l ∙ ap (λ (x : List ℕ). over x M.labels) labels_are)
+              (J.triples ∙ ap (λ (x : List Edge). over (map rank x) M.numbers) edges_are) (J.sums ∙ ap (λ (x : List Edge). over (map weight_of x) M.weights) edges_are)
+              ∙ done_is number (length (edges C given), length D) M (laid rank D (edges C given) M) unrefused
+            where
+              put : (m c : ℕ) (L T : List ℕ) (U : List Float) (m' c' : ℕ) (L' T' : List ℕ) (U' : List Float) → m ≡ m' → c ≡ c' → L ≡ L' → T ≡ T' → U ≡ U'
+                  → ending (Ok (m, c)) (lists L T U) ≡ ending (Ok (m', c')) (lists L' T' U')
+              put m c L T U m' c' L' T' U' a b d e f = cc

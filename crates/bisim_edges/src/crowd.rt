@@ -1,23 +1,25 @@
 // Check 6: the targets of a state.
-ghost use Rattle.std.specs.Prelude.{◌≡◌, ◌||◌, not, ◌≤◌, eqb, length};
+ghost use Rattle.std.specs.Prelude.{◌≡◌, ◌||◌, not, ◌+◌, ◌≤◌, eqb, length, unwrap_or, IfSome};
 ghost use Rattle.numbers.specs.Real.{is_zero};
 ghost use Rattle.build_theory.proofs.Steps.{Keys, Noted, Crowded};
 
 use numbers::seek;
 
-// t joins the values seen[..count], if it is new: how many there are then, one more than the list holds where it is full.
+// t joins the values seen[..count], if it is new: how many there are then, if the list holds as many.
 // Stays: with no heap, a list that grows is an array and a count.
-fn note(seen: &mut [u32], count: usize, t: u32) -> usize
+fn note(seen: &mut [u32], count: usize, t: u32) -> Option<usize>
     requires { (count ≤ length seen.old) × (length seen.old ≤ 4096) }
-    ensures { Noted seen.old count t seen.new result }
+    ensures noted { Noted seen.old count t seen.new (unwrap_or result (length seen.old + 1)) }
+    ensures room { IfSome result (λ n. n ≤ length seen.old) }
 {
     if seek(&seen[..count], t).is_some() {
-        return count;
+        return Some(count);
     }
-    if count < seen.len() {
-        seen[count] = t;
+    if count == seen.len() {
+        return None;
     }
-    count + 1
+    seen[count] = t;
+    Some(count + 1)
 }
 
 // Whether a transition has a weight and leads to another state.
@@ -45,9 +47,9 @@ pub(crate) fn crowded(keys: &[u64], weights: &[f64]) -> bool
         }
         state = s;
         if leads(s, t, weights[(k % 4096) as usize]) {
-            count = note(&mut seen, count, t as u32);
-            if count > 31 {
-                return true;
+            match note(&mut seen, count, t as u32) {
+                Some(n) => count = n,
+                None => return true,
             }
         }
     }

@@ -1,5 +1,5 @@
 // Labels interned: ids by first appearance.
-ghost use Rattle.std.specs.Prelude.{◌≡◌, ◌≤◌, length};
+ghost use Rattle.std.specs.Prelude.{◌≡◌, ◌+◌, ◌≤◌, length, unwrap_or, IfSome};
 ghost use Rattle.numbers.specs.Lists.{over};
 ghost use Rattle.numbers.specs.Search;
 ghost use Rattle.bisim_core.proofs.Distinct.{Single};
@@ -18,11 +18,12 @@ fn place(known: &[u32], guess: usize, x: u32) -> Option<usize>
     seek(known, x)
 }
 
-// The distinct values go into the store, and the id of each into ids. One more than the store holds is the answer where there are more.
+// The distinct values go into the store, and the id of each into ids: how many they are, if the store holds as many.
 // An entry of `guesses` is the id of the last value with that remainder.
-pub(crate) fn intern_all(values: &[u32], store: &mut [u32], ids: &mut [u64]) -> usize
+pub(crate) fn intern_all(values: &[u32], store: &mut [u32], ids: &mut [u64]) -> Option<usize>
     requires { (length values.now ≤ length ids.old) × (length store.old ≤ 4096) }
-    ensures { Interned values.now store.old store.new ids.old ids.new result }
+    ensures interned { Interned values.now store.old store.new ids.old ids.new (unwrap_or result (length store.old + 1)) }
+    ensures room { IfSome result (λ n. n ≤ length store.old) }
 {
     let mut guesses = [0u8; 1024];
     let mut count = 0;
@@ -32,7 +33,7 @@ pub(crate) fn intern_all(values: &[u32], store: &mut [u32], ids: &mut [u64]) -> 
         let k = place(&store[..count], guesses[g] as usize, x).unwrap_or(count);
         if k == count {
             if count == store.len() {
-                return count + 1;
+                return None;
             }
             store[count] = x;
             count += 1;
@@ -40,7 +41,7 @@ pub(crate) fn intern_all(values: &[u32], store: &mut [u32], ids: &mut [u64]) -> 
         guesses[g] = (k % 256) as u8;
         ids[i] = k as u64;
     }
-    count
+    Some(count)
 }
 
 // The values known, over the front of a list.

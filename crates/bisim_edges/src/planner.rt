@@ -21,15 +21,12 @@ fn cramped(given: usize, there: usize, room: usize, short: bool) -> bool
     there < given || short || room < given
 }
 
-// Turned back with the first check that fails: `count` distinct labels are given, or too many, and the keys hold the label ids. The keys are then sorted.
-fn arranged(draft: &Draft, count: usize, full: bool, keys: &mut [u64]) -> Result<(), Refusal>
-    requires { Arrangeable draft.now.given count keys.old }
-    ensures { Arranged draft.now.states draft.now.initial (transitions_of draft.now) draft.now.given count full keys.old keys.new (code result) }
+// Turned back with the first check that fails, the labels being no more than there may be. The keys hold the label ids; they are then sorted.
+fn arranged(draft: &Draft, full: bool, keys: &mut [u64]) -> Result<(), Refusal>
+    requires { Arrangeable draft.now.given keys.old }
+    ensures { Arranged draft.now.states draft.now.initial (transitions_of draft.now) draft.now.given full keys.old keys.new (code result) }
 {
     if draft.states > 2000 {
-        return Err(Refusal::ModelSize);
-    }
-    if count > 256 {
         return Err(Refusal::ModelSize);
     }
     fault(draft)?;
@@ -75,8 +72,10 @@ fn plan_in(
     let full = cramped(draft.given, there, room, short);
     let mut known = [0u32; 256];
     let labels = &draft.labels[..draft.given.min(draft.labels.len())];
-    let count = intern_all(labels, &mut known, keys);
-    arranged(draft, count, full, keys)?;
+    let Some(count) = intern_all(labels, &mut known, keys) else {
+        return Err(Refusal::ModelSize);
+    };
+    arranged(draft, full, keys)?;
     write_labels(&known[..count], label_values);
     let edges = join_runs(keys, draft.weights, triples, edge_weights);
     Ok((edges, count))

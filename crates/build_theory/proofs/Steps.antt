@@ -4,7 +4,7 @@ use Rattle.bisim_core.specs.declared.ids.StateId.{StateId}
 use mathlib.Core.Path.{◌≡◌}
 use Prim.Native.Nat.{ℕ, zero, suc, ◌+◌, ◌*◌, ◌/◌, ◌%◌, ◌≤◌, ◌<◌}
 use mathlib.Core.List.{List, [], ◌∷◌, ◌++◌, map}
-use mathlib.Core.Bool.{Bool, true, false, ◌||◌}
+use mathlib.Core.Bool.{Bool, true, false}
 use lib.Dec.{ltb}
 use lib.Ieee.{Float, nan}
 use lib.ListN.{length, get_or, take, set}
@@ -117,14 +117,14 @@ pub record Joined (K : List ℕ) (n : ℕ) (W : List Float) (T : List ℕ) (U : 
   pub sums : U' ≡ over (map weight_of (joined K n W)) U
   pub count : r ≡ length (joined K n W)
 
--- ---- the checks on the way to it, `count` labels being interned or more than there may be: the label ids become sorted keys
-pub record Arrangeable (given count : ℕ) (I : List ℕ) : Type 0 where
+-- ---- the checks on the way to it, the labels being interned: the label ids become sorted keys
+pub record Arrangeable (given : ℕ) (I : List ℕ) : Type 0 where
   pub few : given ≤ 4096
   pub room : given ≤ length I
-  pub low : count ≤ 256 → (j : ℕ) → j < given → get_or I j 0 < 256
+  pub low : (j : ℕ) → j < given → get_or I j 0 < 256
 
-pub record Arranged (states : ℕ) (initial : Option StateId) (C : Transitions) (given count : ℕ) (full : Bool) (I K : List ℕ) (r : ℕ) : Type 0 where
-  pub number : r ≡ check 3 (ltb 2000 states || ltb 256 count) (check 4 (outside states initial C given) (check 5 (unweighed C given) (check 6 (crowded states C given) (check 7 full 0))))
+pub record Arranged (states : ℕ) (initial : Option StateId) (C : Transitions) (given : ℕ) (full : Bool) (I K : List ℕ) (r : ℕ) : Type 0 where
+  pub number : r ≡ check 3 (ltb 2000 states) (check 4 (outside states initial C given) (check 5 (unweighed C given) (check 6 (crowded states C given) (check 7 full 0))))
   pub sorted : r ≡ 0 → Sorted C.sources C.targets (reach C given) I K
 
 -- ---- the columns

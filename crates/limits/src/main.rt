@@ -4,12 +4,13 @@
 ghost use Rattle.std.specs.Prelude.{◌<◌};
 
 use bisim_build::builder::build;
+use bisim_core::wlts::Shape;
 use build_theory::lent::{Draft, Store};
-use numbers::refusal::code;
+use numbers::refusal::{Refusal, code};
 use std::{array, io};
 
-// The refusal of `build` with lists that are long enough, 0 for none.
-fn outcome(draft: &Draft) -> u32 {
+// What `build` answers with lists that are long enough.
+fn outcome(draft: &Draft) -> Result<Shape, Refusal> {
     let mut label_values = [0u32; 4097];
     let mut offsets = [0u32; 2002];
     let mut edge_labels = [0u32; 4097];
@@ -22,7 +23,7 @@ fn outcome(draft: &Draft) -> u32 {
         edge_targets: &mut edge_targets,
         edge_weights: &mut edge_weights,
     };
-    code(&build(draft, &mut store))
+    build(draft, &mut store)
 }
 
 // Entry i is i / every % 2,000.
@@ -33,7 +34,7 @@ fn counted<const N: usize>(every: usize) -> [u32; N]
 }
 
 // The last of 41 states with k others as targets.
-fn targets(k: usize) -> u32 {
+fn targets(k: usize) -> Result<Shape, Refusal> {
     let sources = [40u32; 40];
     let labels = [0u32; 40];
     let to: [u32; 40] = counted(1);
@@ -49,7 +50,7 @@ fn targets(k: usize) -> u32 {
     })
 }
 
-fn states(k: usize) -> u32 {
+fn states(k: usize) -> Result<Shape, Refusal> {
     outcome(&Draft {
         states: k,
         initial: None,
@@ -62,7 +63,7 @@ fn states(k: usize) -> u32 {
 }
 
 // k loops on one state, with a label each.
-fn labels(k: usize) -> u32 {
+fn labels(k: usize) -> Result<Shape, Refusal> {
     let zeros = [0u32; 257];
     let labels: [u32; 257] = counted(1);
     let weights = [1.0f64; 257];
@@ -78,7 +79,7 @@ fn labels(k: usize) -> u32 {
 }
 
 // k loops on 2,000 states, with three labels.
-fn transitions(k: usize) -> u32 {
+fn transitions(k: usize) -> Result<Shape, Refusal> {
     let states: [u32; 4097] = counted(1);
     let labels: [u32; 4097] = counted(2000);
     let weights = [1.0f64; 4097];
@@ -93,7 +94,7 @@ fn transitions(k: usize) -> u32 {
     })
 }
 
-fn weight(w: f64) -> u32 {
+fn weight(w: f64) -> Result<Shape, Refusal> {
     outcome(&Draft {
         states: 2,
         initial: None,
@@ -105,7 +106,8 @@ fn weight(w: f64) -> u32 {
     })
 }
 
-fn show(rt: &impl Print, what: &str, refusal: u32) -> io::Result<()> {
+fn show(rt: &impl Print, what: &str, answer: Result<Shape, Refusal>) -> io::Result<()> {
+    let refusal = code(&answer);
     println!(rt; "{what}: {refusal}")
 }
 

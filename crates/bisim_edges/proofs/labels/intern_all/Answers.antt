@@ -5,8 +5,8 @@ use borrow.Author.Rules.{rules}
 use Rattle.bisim_edges.proofs.labels.intern_all.Goals.{then-k-count+else-count-store, else-k-count}
 use Rattle.bisim_edges.proofs.labels.intern_all.Goals as goal
 
-pub returns-then-count-store : goal.returns-then-count-store
-returns-then-count-store c = let I = c.loop-i.invariant.0 in
+pub returns-then-count-store-clause-interned : goal.returns-then-count-store-clause-interned
+returns-then-count-store-clause-interned c = let I = c.loop-i.invariant.0 in
     let h = c.loop-i-test.true in
     let q = id_is I h (omega arith) c.place.ensures c.unwrap_or-k.ensures in
     overfull _ I (c.if-count-store.true ∙ I.store_size) (full I h (omega arith) _ q c.if-k-count.true (c.if-count-store.true ∙ I.store_size))
@@ -24,5 +24,8 @@ loop-i-preserved c =
       (let g = c.loop-i.invariant.1 in search rules),
     )
 
-pub returns : goal.returns
-returns c = interned _ c.loop-i.invariant.0 c.loop-i-test.false
+pub returns-clause-interned : goal.returns-clause-interned
+returns-clause-interned c = interned _ c.loop-i.invariant.0 c.loop-i-test.false
+
+pub returns-clause-room : goal.returns-clause-room
+returns-clause-room c = c.loop-i.invariant.0.room
