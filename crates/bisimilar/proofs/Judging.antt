@@ -7,6 +7,9 @@ use mathlib.Core.List.{List}
 use native.Mathlib.Omega.{arith}
 use lib.ListN.{length, drop, replicate, length-append, length-drop}
 use lib.Ieee.{Float}
+use Rattle.std.specs.Prelude.{Result, Ok, Err, IsErrAnd}
+use Rattle.numbers.specs.declared.refusal.Refusal.{Refusal}
+use Rattle.numbers.specs.Refuse.{number, numbered}
 use Rattle.numbers.specs.Bits.{packed}
 use Rattle.numbers.specs.Lists.{over}
 use Rattle.numbers.proofs.Bools.{or_f}
@@ -22,13 +25,9 @@ use Rattle.epsdelta_theory.proofs.Runs.{run_length}
 use Rattle.epsdelta_theory.proofs.Theorem.{total}
 use Rattle.epsdelta_theory.proofs.Unrefused.{Passed, passed, start_below}
 use Rattle.epsdelta.specs.Outcome as made
-use Rattle.epsdelta.specs.declared.relation.Ended.{Ended}
-use Rattle.epsdelta.specs.declared.relation.Ended.TheVariants as ended
-use Rattle.bisimilar.specs.Related.{verdict, related_outcome}
+use Rattle.bisimilar.specs.Related.{related_outcome}
 use Rattle.epsdelta.specs.Outcome.{Outcome, ends}
 use Rattle.bisimilar.specs.Outcome.{judged_by, bisimilar_outcome}
-use Rattle.bisimilar.specs.declared.related.Verdict.{Verdict}
-use Rattle.bisimilar.specs.declared.related.Verdict.TheVariants.{Refused}
 use Rattle.bisimilar.proofs.Reading.{related_answer}
 
 -- as many bytes as before
@@ -36,25 +35,14 @@ over_length : (new old : List ℕ) → length new ≤ length old → length (ove
 over_length new old h = let a = length-append new (drop (length new) old) in let b = length-drop (length new) old in omega arith
 
 -- how a relation that is made, or refused, is read at s and t and cleared
-abbrev concluded : Ended → ℕ → ℕ → ℕ → ℕ → List ℕ → Outcome Verdict
-concluded (ended.Refused r) left right s t store = ends (Refused r) store
-concluded ended.Related left right s t store = ends (related_outcome left right store s t) (replicate (length store) 0)
+abbrev concluded : Result (Unit {0}) ℕ → ℕ → ℕ → ℕ → ℕ → List ℕ → Outcome (Result Bool ℕ)
+concluded (Err r) left right s t store = ends (Err r) store
+concluded (Ok x) left right s t store = ends (related_outcome left right store s t) (replicate (length store) 0)
 
--- the same by cases
-abbrev Concluded : Ended → ℕ → ℕ → ℕ → ℕ → List ℕ → Outcome Verdict → Type 0
-Concluded x left right s t store o = ((n : ℕ) → x ≡ ended.Refused n → o ≡ ends (Refused n) store) × (x ≡ ended.Related → o ≡ ends (related_outcome left right store s t) (replicate (length store) 0))
-
-concluded_is : (x : Ended) (left right s t : ℕ) (store : List ℕ) (o : Outcome Verdict) → Concluded x left right s t store o → o ≡ concluded x left right s t store
-concluded_is (ended.Refused r) left right s t store o (f, g) = f r refl
-concluded_is ended.Related left right s t store o (f, g) = g refl
-
-module _ (x : Ended) (left right s t : ℕ) (store : List ℕ) where
-  pub refused_stands : {n : ℕ} → x ≡ ended.Refused n → Concluded x left right s t store (ends (Refused n) store)
-  refused_stands {n} e = ((λ k f. let h : n ≡ k = cc in ap (λ (m : ℕ). ends (Refused m) store) h), λ f. let z : ◌≡◌ {A = ℕ} 0 1 = cc in absurd (omega arith))
-
-  pub read_and_cleared : {v : Verdict} {out : List ℕ} → x ≡ ended.Related → v ≡ related_outcome left right store s t → out ≡ replicate (length store) 0 → Concluded x left right s t store (ends v out)
-  read_and_cleared {v} {out} e f g =
-      ((λ k h. let z : ◌≡◌ {A = ℕ} 0 1 = cc in absurd (omega arith)), λ h. ap (λ (y : Verdict). ends y out) f ∙ ap (λ (l : List ℕ). ends (related_outcome left right store s t) l) g)
+-- a refusal that is handed on
+pub handed_on : {A : Type 0} (a : Result A Refusal) (r : Refusal) (store : List ℕ) → IsErrAnd a (λ e. e ≡ r) → ends (numbered a) store ≡ ends (Err (number r)) store
+handed_on (Ok x) r store h = absurd h
+handed_on (Err e) r store h = ap (λ (x : Refusal). ends (Err (number x)) store) h
 
 module _ (SL : Shape) (ML : Columns) (SR : Shape) (MR : Columns) (cl cr : List ℕ) (ε ρ : Float) where
   abbrev R : List Bool
@@ -76,14 +64,14 @@ module _ (SL : Shape) (ML : Columns) (SR : Shape) (MR : Columns) (cl cr : List �
     -- without a refusal
     read : Passed (absent SL.initial || absent SR.initial) (tolerances_outside ε ρ) SL ML SR MR cl cr (length store)
         → ends (related_outcome SL.states SR.states (over (packed R) store) (start SL.initial) (start SR.initial)) (replicate (length (over (packed R) store)) 0)
-        ≡ ends (verdict (bisimilar SL ML SR MR cl cr ε ρ)) (replicate (length store) 0)
+        ≡ ends (Ok (bisimilar SL ML SR MR cl cr ε ρ)) (replicate (length store) 0)
     read P =
         let a = or_f (absent SL.initial) (absent SR.initial) P.passes8 in
         let b = bytes_of in
         let r = P.room in
         let w : length (over (packed R) store) ≡ length store = over_length (packed R) store (omega arith) in
         let v = related_answer SL.states SR.states R (drop (length (packed R)) store) (start SL.initial) (start SR.initial) entries (start_below SL ML P.left a.0) (start_below SR MR P.right a.1) P.left.states_few P.right.states_few (omega arith) P.few in
-        ap (λ (x : Verdict). ends x (replicate (length (over (packed R) store)) 0)) (v ∙ ap verdict (sym is_bisimilar)) ∙ ap (λ (n : ℕ). ends (verdict (bisimilar SL ML SR MR cl cr ε ρ)) (replicate n 0)) w
+        ap (λ (x : Result Bool ℕ). ends x (replicate (length (over (packed R) store)) 0)) (v ∙ ap Ok (sym is_bisimilar)) ∙ ap (λ (n : ℕ). ends (Ok (bisimilar SL ML SR MR cl cr ε ρ)) (replicate n 0)) w
 
     settle : (n : ℕ) → bisimilar_refusal SL ML SR MR cl cr ε ρ (length store) ≡ n
         → concluded (made.settled n store R).answer SL.states SR.states (start SL.initial) (start SR.initial) (made.settled n store R).relation ≡ judged_by n (bisimilar SL ML SR MR cl cr ε ρ) store
@@ -92,11 +80,10 @@ module _ (SL : Shape) (ML : Columns) (SR : Shape) (MR : Columns) (cl cr : List �
     settle (suc n) e = refl
 
     -- the relation made or refused, then read and cleared
-    pub ended_by : {b : Bool} {s t : ℕ} {x : Ended} {bytes : List ℕ} {v : Verdict} {out : List ℕ} → b ≡ (absent SL.initial || absent SR.initial) → s ≡ start SL.initial → t ≡ start SR.initial
-        → made.ends x bytes ≡ made.outcome_unless b SL ML SR MR cl cr ε ρ store → Concluded x SL.states SR.states s t bytes (ends v out) → ends v out ≡ bisimilar_outcome SL ML SR MR cl cr ε ρ store
+    pub ended_by : {b : Bool} {s t : ℕ} (x : Result (Unit {0}) ℕ) (bytes : List ℕ) → b ≡ (absent SL.initial || absent SR.initial) → s ≡ start SL.initial → t ≡ start SR.initial
+        → made.ends x bytes ≡ made.outcome_unless b SL ML SR MR cl cr ε ρ store → concluded x SL.states SR.states s t bytes ≡ bisimilar_outcome SL ML SR MR cl cr ε ρ store
     unfolding bisimilar_refusal
-    ended_by {b} {s} {t} {x} {bytes} {v} {out} p q w e f =
-        concluded_is x SL.states SR.states s t bytes (ends v out) f
-        ∙ ap (λ (m : ℕ). concluded x SL.states SR.states m t bytes) q ∙ ap (λ (m : ℕ). concluded x SL.states SR.states (start SL.initial) m bytes) w
-        ∙ ap (λ (o : made.Outcome Ended). concluded o.answer SL.states SR.states (start SL.initial) (start SR.initial) o.relation) (e ∙ ap (λ (c : Bool). made.outcome_unless c SL ML SR MR cl cr ε ρ store) p)
+    ended_by {b} {s} {t} x bytes p q w e =
+        ap (λ (m : ℕ). concluded x SL.states SR.states m t bytes) q ∙ ap (λ (m : ℕ). concluded x SL.states SR.states (start SL.initial) m bytes) w
+        ∙ ap (λ (o : made.Outcome (Result (Unit {0}) ℕ)). concluded o.answer SL.states SR.states (start SL.initial) (start SR.initial) o.relation) (e ∙ ap (λ (c : Bool). made.outcome_unless c SL ML SR MR cl cr ε ρ store) p)
         ∙ settle (bisimilar_refusal SL ML SR MR cl cr ε ρ (length store)) refl

@@ -7,11 +7,13 @@ use mathlib.Core.List.{List, ◌++◌}
 use native.Mathlib.Omega.{arith}
 use lib.Dec.{eqb}
 use lib.ListN.{length, get_or-append}
+use Rattle.std.specs.Prelude.{Ok}
+use Rattle.numbers.specs.Refuse.{answered}
 use Rattle.numbers.specs.Bits.{packed, bit_at}
 use Rattle.numbers.proofs.Packed.{packed_length}
 use Rattle.epsdelta_theory.specs.Relation.{related, relation_bytes}
 use Rattle.epsdelta_theory.proofs.Pairs.{entry_in, packed_holds}
-use Rattle.bisimilar.specs.Related.{related_in, verdict, settled, related_outcome}
+use Rattle.bisimilar.specs.Related.{related_in, related_outcome}
 use Rattle.bisimilar.proofs.Checking.{unrefused}
 
 -- a bit of the first bytes
@@ -30,7 +32,7 @@ module _ (left right : ℕ) (R : List Bool) (rest : List ℕ) (s t : ℕ) (all :
 
   -- and the checks pass
   pub related_answer : left ≤ 2000 → right ≤ 2000 → relation_bytes (left + right) ≤ length (packed R ++ rest) → left + right ≤ 2000
-      → related_outcome left right (packed R ++ rest) s t ≡ verdict (related (left + right) left R s t)
+      → related_outcome left right (packed R ++ rest) s t ≡ Ok (related (left + right) left R s t)
   unfolding related_outcome
   related_answer a b e f =
-      ap (λ (n : ℕ). settled n (related_in left right (packed R ++ rest) s t)) (unrefused left right (length (packed R ++ rest)) s t a b h k e f) ∙ ap verdict related_packed
+      ap (λ (n : ℕ). answered n (related_in left right (packed R ++ rest) s t)) (unrefused left right (length (packed R ++ rest)) s t a b h k e f) ∙ ap Ok related_packed

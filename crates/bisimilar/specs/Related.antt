@@ -1,10 +1,8 @@
 -- `related` of epsdelta.rs, over any bytes that are lent for a relation.
-use Rattle.std.specs.Prelude.{ℕ, zero, suc, ◌+◌, ◌*◌, Bool, true, false, ◌||◌, List, ltb, leb, length}
-use Rattle.numbers.specs.Refuse.{check}
+use Rattle.std.specs.Prelude.{ℕ, ◌+◌, ◌*◌, Bool, ◌||◌, Result, List, ltb, leb, length}
+use Rattle.numbers.specs.Refuse.{check, answered}
 use Rattle.numbers.specs.Bits.{bit_at}
 use Rattle.epsdelta_theory.specs.Relation.{relation_bytes}
-use Rattle.bisimilar.specs.declared.related.Verdict.{Verdict}
-use Rattle.bisimilar.specs.declared.related.Verdict.TheVariants.{Related, Unrelated, Refused}
 
 -- checks 3, 4, 7 and 10 of so many left states and right ones, so many bytes, a left state and a right one
 abbrev pub related_refusal : ℕ → ℕ → ℕ → ℕ → ℕ → ℕ
@@ -19,17 +17,7 @@ related_refusal left right bytes s t =
 abbrev pub related_in : ℕ → ℕ → List ℕ → ℕ → ℕ → Bool
 related_in left right bytes s t = bit_at bytes (s * (left + right) + (left + t))
 
--- yes and no
-abbrev pub verdict : Bool → Verdict
-verdict true = Related
-verdict false = Unrelated
-
--- the number of the check that failed, or yes or no
-abbrev pub settled : ℕ → Bool → Verdict
-settled zero b = verdict b
-settled (suc r) b = Refused (suc r)
-
 -- so many left states and right ones, bytes, a left state and a right one
-unfoldable pub related_outcome : ℕ → ℕ → List ℕ → ℕ → ℕ → Verdict
+unfoldable pub related_outcome : ℕ → ℕ → List ℕ → ℕ → ℕ → Result Bool ℕ
 unfolding bit_at
-related_outcome left right bytes s t = settled (related_refusal left right (length bytes) s t) (related_in left right bytes s t)
+related_outcome left right bytes s t = answered (related_refusal left right (length bytes) s t) (related_in left right bytes s t)

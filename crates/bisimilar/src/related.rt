@@ -1,70 +1,52 @@
 // Whether a relation that is handed in holds a state of the left model with one of the right.
 ghost use Rattle.std.specs.Prelude.{◌≡◌, length};
-ghost use Rattle.bisimilar.specs.Related.{related_refusal, verdict, settled, related_outcome};
+ghost use Rattle.numbers.specs.Refuse.{code, numbered};
+ghost use Rattle.bisimilar.specs.Related.{related_refusal, related_outcome};
 
 use bisim_core::ids::StateId;
 use numbers::bit;
+use numbers::refusal::Refusal;
 
-// The number of the first check that fails, or whether the states are related.
-#[derive(Clone, Copy)]
-pub enum Verdict {
-    Related,
-    Unrelated,
-    Refused(u32),
-}
-
-// The number of the first check that fails; 0 if none does.
-fn refusal(left_states: usize, right_states: usize, bytes: usize, s: usize, t: usize) -> u32
-    ensures { result ≡ related_refusal left_states right_states bytes s t }
+// The first check that fails.
+fn refusal(
+    left_states: usize,
+    right_states: usize,
+    bytes: usize,
+    s: usize,
+    t: usize,
+) -> Result<(), Refusal>
+    ensures { code result ≡ related_refusal left_states right_states bytes s t }
 {
-    if 2000 < left_states {
-        return 3;
+    if 2000 < left_states || 2000 < right_states {
+        return Err(Refusal::ModelSize);
     }
-    if 2000 < right_states {
-        return 3;
-    }
-    if left_states <= s {
-        return 4;
-    }
-    if right_states <= t {
-        return 4;
+    if left_states <= s || right_states <= t {
+        return Err(Refusal::OutOfRange);
     }
     let states = left_states + right_states;
     if bytes < (states * states + 7) / 8 {
-        return 7;
+        return Err(Refusal::Store);
     }
     if 2000 < states {
-        return 10;
+        return Err(Refusal::StatesTogether);
     }
-    0
-}
-
-// What an answer of yes or no is called.
-fn called(holds: bool) -> Verdict
-    ensures { result ≡ verdict holds }
-{
-    if holds {
-        return Verdict::Related;
-    }
-    Verdict::Unrelated
+    Ok(())
 }
 
 // Whether the relation holds s of the left model with t of the right; the right model's states are numbered after the left's.
+#[tactic(auto, using(numbers::proofs::Refuses::answered_ok), unfolding(crate::specs::Related::related_outcome))]
 pub fn related(
     left_states: usize,
     right_states: usize,
     relation: &[u8],
     s: StateId,
     t: StateId,
-) -> Verdict
-    ensures { result ≡ related_outcome left_states right_states relation.now s.0 t.0 }
+) -> Result<bool, Refusal>
+    ensures { numbered result ≡ related_outcome left_states right_states relation.now s.0 t.0 }
 {
     let from = s.0 as usize;
     let to = t.0 as usize;
-    let refused = refusal(left_states, right_states, relation.len(), from, to);
-    if refused != 0 {
-        return Verdict::Refused(refused);
-    }
+    refusal(left_states, right_states, relation.len(), from, to)?;
     let states = left_states + right_states;
-    called(bit(relation, from * states + (left_states + to)))
+    Ok(bit(relation, from * states + (left_states + to)))
 }

@@ -9,6 +9,7 @@ use lib.Ieee.{Float}
 use lib.ListN.{length, drop, get_or-append}
 use lib.Seq.{ext_get_or}
 use borrow.Author.Tests.{le-ltb, lt-ltb}
+use Rattle.std.specs.Prelude.{Result, Ok, Err}
 use Rattle.numbers.specs.Bits.{packed, bit_at, unpack}
 use Rattle.numbers.specs.Lists.{over}
 use Rattle.numbers.specs.Refuse.{check}
@@ -23,8 +24,6 @@ use Rattle.epsdelta_theory.specs.Claim.{final}
 use Rattle.epsdelta_theory.proofs.Runs.{run_length}
 use Rattle.epsdelta_theory.proofs.Rows.{model_length, union_length}
 use Rattle.epsdelta.specs.Outcome.{Outcome, ends, settled}
-use Rattle.epsdelta.specs.declared.relation.Ended.{Ended}
-use Rattle.epsdelta.specs.declared.relation.Ended.TheVariants.{Related, Refused}
 use Rattle.card_layout.proofs.Lines.{length_line}
 use Rattle.card_report.specs.Report.{report, refusal_line, most_report, store_fault, report_fault, relation_in, Printed}
 use Rattle.card_report.specs.declared.report.Text.{Text}
@@ -65,23 +64,23 @@ bytes_hold R store n e =
 -- ---- what `epsdelta` answered
 
 -- the number of a refusal and one more, 0 for none
-told : Ended → ℕ
-told Related = 0
-told (Refused n) = suc n
+told : Result (Unit {0}) ℕ → ℕ
+told (Ok x) = 0
+told (Err n) = suc n
 
 module _ (rel store : List ℕ) (R : List Bool) where
-  related_case : (n : ℕ) → ends Related rel ≡ settled n store R → (n ≡ 0) × (rel ≡ over (packed R) store)
+  related_case : (n : ℕ) → ends (Ok tt) rel ≡ settled n store R → (n ≡ 0) × (rel ≡ over (packed R) store)
   unfolding told
-  related_case zero e = (refl, ap (λ (o : Outcome Ended). o.relation) e)
-  related_case (suc n) e = absurd (let z = ap (λ (o : Outcome Ended). told o.answer) e in omega arith)
+  related_case zero e = (refl, ap (λ (o : Outcome (Result (Unit {0}) ℕ)). o.relation) e)
+  related_case (suc n) e = absurd (let z = ap (λ (o : Outcome (Result (Unit {0}) ℕ)). told o.answer) e in omega arith)
 
-  refused_case : (m n : ℕ) (text : List ℕ) → ends (Refused m) rel ≡ settled n store R → refusal_line m ≡ text_of n text
+  refused_case : (m n : ℕ) (text : List ℕ) → ends (Err m) rel ≡ settled n store R → refusal_line m ≡ text_of n text
   unfolding told
-  refused_case m zero text e = absurd (let z = ap (λ (o : Outcome Ended). told o.answer) e in omega arith)
-  refused_case m (suc n) text e = let z = ap (λ (o : Outcome Ended). told o.answer) e in let f : m ≡ suc n = omega arith in ap refusal_line f
+  refused_case m zero text e = absurd (let z = ap (λ (o : Outcome (Result (Unit {0}) ℕ)). told o.answer) e in omega arith)
+  refused_case m (suc n) text e = let z = ap (λ (o : Outcome (Result (Unit {0}) ℕ)). told o.answer) e in let f : m ≡ suc n = omega arith in ap refusal_line f
 
 module _ (l r n : ℕ) (rel store : List ℕ) (R : List Bool) (out out' : List ℕ) (t : Text) where
-  pub finish_related : l ≤ 32 → r ≤ 32 → 512 ≤ length rel → most_report ≤ length out → ends Related rel ≡ settled n store R → length R ≡ (l + r) * (l + r)
+  pub finish_related : l ≤ 32 → r ≤ 32 → 512 ≤ length rel → most_report ≤ length out → ends (Ok tt) rel ≡ settled n store R → length R ≡ (l + r) * (l + r)
       → Printed (report_fault l r (length rel) (length out)) (report (relation_in rel (l + r)) l r) out t out' → Printed 0 (text_of n (report R l r)) out t out'
   finish_related a b d h e k p =
       let s = related_case rel store R n e in
@@ -90,7 +89,7 @@ module _ (l r n : ℕ) (rel store : List ℕ) (R : List Bool) (out out' : List �
       let g : relation_in rel (l + r) ≡ R = ap (λ (x : List ℕ). relation_in x (l + r)) s.1 ∙ bytes_hold R store (l + r) k in
       retold (ap (λ (x : List Bool). report x l r) g ∙ ap (λ (m : ℕ). text_of m (report R l r)) (sym s.0)) (subst (λ (x : ℕ). Printed x (report (relation_in rel (l + r)) l r) out t out') f p)
 
-  pub finish_refused : (m : ℕ) → most_report ≤ length out → ends (Refused m) rel ≡ settled n store R → Printed (store_fault (length out)) (refusal_line m) out t out'
+  pub finish_refused : (m : ℕ) → most_report ≤ length out → ends (Err m) rel ≡ settled n store R → Printed (store_fault (length out)) (refusal_line m) out t out'
       → Printed 0 (text_of n (report R l r)) out t out'
   finish_refused m h e p = retold (refused_case rel store R m n (report R l r) e) (with_room (refusal_line m) out out' t h p)
 

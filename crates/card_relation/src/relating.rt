@@ -1,5 +1,6 @@
 // The relation of two models, and its text.
 ghost use Rattle.std.specs.Prelude.{◌≡◌, Bool, List, ℕ, ◌+◌, ◌*◌, ◌≤◌, length};
+ghost use Rattle.numbers.specs.Refuse.{numbered};
 ghost use Rattle.bisim_core.specs.Data;
 ghost use Rattle.epsdelta.specs.Outcome.{ends, settled};
 ghost use Rattle.card_report.specs.Report;
@@ -9,7 +10,9 @@ ghost use Rattle.card_relation.specs.Relating.{text_of, relation_text, relation_
 
 use bisim_core::wlts::{Shape, Wlts};
 use card_report::{MOST_REPORT, Text, refusal_text, report_text};
-use epsdelta::relation::{Ended, epsdelta};
+use epsdelta::asked::{Side, Tolerances};
+use epsdelta::relation::epsdelta;
+use numbers::refusal::Refusal;
 
 // So many 1,024ths.
 fn parts(n: u32) -> f64
@@ -19,14 +22,20 @@ fn parts(n: u32) -> f64
 }
 
 // The text of what `epsdelta` answered for models of so many states.
-fn finish(ended: Ended, left: usize, right: usize, relation: &[u8], out: &mut [u8]) -> Text
+fn finish(
+    ended: Result<(), Refusal>,
+    left: usize,
+    right: usize,
+    relation: &[u8],
+    out: &mut [u8],
+) -> Text
     requires { (left ≤ 32) × (right ≤ 32) × (512 ≤ length relation.now) × (most_report ≤ length out.old) }
-    ensures { (n : ℕ) (store : List ℕ) (R : List Bool) → ends ended relation.now ≡ settled n store R → length R ≡ (left + right) * (left + right)
+    ensures { (n : ℕ) (store : List ℕ) (R : List Bool) → ends (numbered ended) relation.now ≡ settled n store R → length R ≡ (left + right) * (left + right)
         → Printed 0 (text_of n (Report.report R left right)) out.old result out.new }
 {
     match ended {
-        Ended::Related => report_text(left as u32, right as u32, relation, out),
-        Ended::Refused(n) => refusal_text(n, out),
+        Ok(()) => report_text(left as u32, right as u32, relation, out),
+        Err(refusal) => refusal_text(refusal.number(), out),
     }
 }
 
@@ -46,15 +55,19 @@ fn print_models(
         left_classes.now right_classes.now epsilon rho) out.old result out.new }
 {
     let mut relation = [0u8; 512];
-    let ended = epsdelta(
-        left,
-        right,
-        left_classes,
-        right_classes,
-        parts(epsilon),
-        parts(rho),
-        &mut relation,
-    );
+    let tolerances = Tolerances {
+        epsilon: parts(epsilon),
+        rho: parts(rho),
+    };
+    let first = Side {
+        model: *left,
+        classes: left_classes,
+    };
+    let second = Side {
+        model: *right,
+        classes: right_classes,
+    };
+    let ended = epsdelta(&first, &second, tolerances, &mut relation);
     finish(ended, left.shape.states, right.shape.states, &relation, out)
 }
 

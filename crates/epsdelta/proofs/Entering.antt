@@ -1,22 +1,26 @@
 -- From two models that pass their checks to lists that a relation can be made of.
 use mathlib.Core.Path.{◌≡◌, refl, sym, ap, subst, subst⁻¹, ◌∙◌}
 use Prim.Native.Nat.{ℕ, zero, suc, ◌+◌, ◌≤◌, ◌<◌}
-use mathlib.Core.Bool.{Bool, true, false, ◌&&◌, ◌||◌}
+use mathlib.Core.Bool.{Bool, true, false, ◌&&◌, ◌||◌, true≢false}
 use mathlib.Core.List.{List, [], ◌∷◌, ◌++◌}
 use native.Mathlib.Omega.{arith}
-use lib.Dec.{T, leb, ltb}
+use lib.Dec.{T}
 use lib.Ieee.{Float, of_bits, le}
 use lib.ListN.{length, get_or, take}
 use lib.Seq.{slice, length-slice}
-use borrow.Author.Tests.{le-ltb, le-leb, lt-leb, ltb-false, eq-eqb}
+use borrow.Author.Tests.{le-ltb, le-leb, lt-leb, eq-eqb}
+use Rattle.std.specs.Prelude.{Result, Ok, Err, OnOk, IsErrAnd}
+use Rattle.std.specs.Result.{is_ok}
+use Rattle.numbers.specs.declared.refusal.Refusal.{Refusal}
 use Rattle.numbers.specs.Real.{nought, greatest_weight}
 use Rattle.numbers.specs.Lists.{every, all}
-use Rattle.numbers.specs.Refuse.{check}
-use Rattle.numbers.proofs.Bools.{or_f, and_second}
+use Rattle.numbers.specs.Refuse.{check, number, numbered}
+use Rattle.numbers.proofs.Bools.{and_second}
 use Rattle.numbers.proofs.Alls.{every_of}
-use Rattle.numbers.proofs.Refuses.{first, none}
-use Rattle.bisim_core.specs.Data.{Columns}
+use Rattle.numbers.proofs.Refuses.{first, number_positive, none}
+use Rattle.bisim_core.specs.Data.{Columns, columns_of}
 use Rattle.bisim_core.specs.declared.wlts.Shape.{Shape}
+use Rattle.bisim_core.specs.declared.wlts.Wlts.{Wlts}
 use Rattle.bisim_core.specs.Model.{large, unfit, weights_outside, crowded, model}
 use Rattle.bisim_core.proofs.Accepted.{Accepted}
 use Rattle.epsdelta_theory.specs.Jumps.{Jumps, union, jumps_of, no_row}
@@ -25,17 +29,17 @@ use Rattle.epsdelta_theory.specs.Epsdelta.{given, given_rows, epsdelta}
 use Rattle.epsdelta_theory.proofs.Unrefused.{models_passed}
 use Rattle.epsdelta_theory.proofs.FlowTests.{AllInRange}
 use Rattle.epsdelta_theory.proofs.Rows.{RowOf, model_length, union_length, union_rows}
-use Rattle.epsdelta_theory.proofs.RowsIn.{HoldsTo, Laid}
+use Rattle.epsdelta_theory.proofs.RowsIn.{HoldsTo}
 use Rattle.epsdelta_theory.proofs.RowReads.{row_in, row_few}
 use Rattle.epsdelta_theory.proofs.Layings.{laid_holds}
+use Rattle.epsdelta_jumps.specs.declared.jumps.Fault.{Fault}
+use Rattle.epsdelta_jumps.specs.declared.store.RowStore.{RowStore}
+use Rattle.epsdelta_jumps.specs.Store.{cramped, LaidIn}
 use Rattle.epsdelta_jumps.specs.Union as joins
-use Rattle.epsdelta_jumps.specs.declared.jumps.Joined.{Joined}
-use Rattle.epsdelta_jumps.specs.declared.jumps.Joined.TheVariants.{Rows, Refused, Short}
 use Rattle.flow_links.proofs.RowsRead.{entries, rows_in, row_stands}
 use Rattle.epsdelta_sweeps.proofs.Reading.{held_rows}
 use Rattle.flow_links.specs.Fits.{row_fits}
-use Rattle.epsdelta.specs.Outcome.{Outcome, settled, outcome_unless, outcome}
-use Rattle.epsdelta.specs.declared.relation.Ended.{Ended}
+use Rattle.epsdelta.specs.Outcome.{Outcome, Roomy, ends, settled, outcome_unless, outcome}
 
 -- ---- the checks of both models come first
 
@@ -52,29 +56,6 @@ unfolding relation_refusal models_refusal
 refusal_split SL ML SR MR fails8 fails9 cl cr bytes =
     split (large SL || large SR) (unfit SL ML || unfit SR MR) (weights_outside SL ML || weights_outside SR MR) (crowded SL ML || crowded SR MR)
     (later_refusal fails8 fails9 SL.states SR.states (length cl) (length cr) bytes)
-
--- ---- work space
-
--- lists of such lengths are long enough for two models that pass their checks
-abbrev pub Roomy : Shape → Shape → ℕ → ℕ → ℕ → ℕ → ℕ → Type 0
-Roomy SL SR exits starts targets probs classes =
-    SL.states + SR.states ≤ 2000 → SL.edges ≤ 4096 → SR.edges ≤ 4096
-    → (SL.states + SR.states ≤ exits) × (SL.states + SR.states < starts) × (SL.edges + SR.edges ≤ targets) × (SL.edges + SR.edges ≤ probs) × (SL.states + SR.states ≤ classes)
-
-pub long_enough : (SL SR : Shape) → Roomy SL SR 2000 2001 8192 8192 2000
-long_enough SL SR h a b = (h, omega arith, omega arith, omega arith, h)
-
-pub small_enough : (SL SR : Shape) → (SL.states ≤ 32) × (SL.edges ≤ 200) × (SR.states ≤ 32) × (SR.edges ≤ 200) → Roomy SL SR 64 65 400 400 64
-small_enough SL SR (a, b, c, d) h k l = (omega arith, omega arith, omega arith, omega arith, omega arith)
-
--- two models that are not larger than a card's
-pub small_known : (SL SR : Shape) {r : Bool} → r ≡ (ltb 32 SL.states || (ltb 200 SL.edges || (ltb 32 SR.states || ltb 200 SR.edges))) → r ≡ false
-    → (SL.states ≤ 32) × (SL.edges ≤ 200) × (SR.states ≤ 32) × (SR.edges ≤ 200)
-small_known SL SR e f =
-    let a = or_f (ltb 32 SL.states) (ltb 200 SL.edges || (ltb 32 SR.states || ltb 200 SR.edges)) (sym e ∙ f) in
-    let b = or_f (ltb 200 SL.edges) (ltb 32 SR.states || ltb 200 SR.edges) a.1 in
-    let d = or_f (ltb 32 SR.states) (ltb 200 SR.edges) b.1 in
-    (ltb-false 32 SL.states a.0, ltb-false 200 SL.edges b.0, ltb-false 32 SR.states d.0, ltb-false 200 SR.edges d.1)
 
 -- ---- rows in lists
 
@@ -109,74 +90,84 @@ rows_stand {J} {n} {E} {S} {T'} {P} H rows = every_of (row_stands S T' P) n stan
         let b = get_or S (s + 1) 0 in
         sym (and_second _ _ true (le-leb (get_or S s 0) b (H.rise s h)) (and_second _ _ true (le-leb b (length T') (row_in H s h).0) (and_second _ _ true (le-leb b (length P) (row_in H s h).1) (fits s h))))
 
--- ---- what an answer of `union` is of
-
-no : {A : Type 0} → ◌≡◌ {A = ℕ} 0 1 → A
-no e = absurd (omega arith)
-
-pub rows_none : (n : ℕ) (b : Bool) → Rows ≡ joins.settled n b → 0 ≡ n
-rows_none zero b e = refl
-rows_none (suc n) b e = no (cc)
-
-pub short_none : (n : ℕ) (b : Bool) → Short ≡ joins.settled n b → 0 ≡ n
-short_none zero b e = refl
-short_none (suc n) b e = no (cc)
-
-pub refused_number : (r n : ℕ) (b : Bool) → Refused r ≡ joins.settled n b → r ≡ n
-refused_number r zero true e = no (cc)
-refused_number r zero false e = no (cc)
-refused_number r (suc n) b e = cc
-
 -- ---- what `union` answers, and what it leaves in lists that are long enough
 
-abbrev short : Shape → Shape → ℕ → ℕ → ℕ → ℕ → Bool
-short SL SR exits starts targets probs =
-    ltb exits (SL.states + SR.states) || (leb starts (SL.states + SR.states) || (ltb targets (SL.edges + SR.edges) || ltb probs (SL.edges + SR.edges)))
+-- what is said of an answer holds where it is one
+ok_holds : {P : Type 0} (j : Result (Unit {0}) Fault) → joins.faulted j ≡ Ok tt → OnOk j P → P
+ok_holds (Ok x) e p = p
+ok_holds (Err f) e p = absurd (true≢false (sym (ap is_ok e)))
 
-module _ (SL : Shape) (ML : Columns) (SR : Shape) (MR : Columns) (E₀ : List Float) (S₀ T₀ : List ℕ) (P₀ : List Float) (m : ℕ) (room : Roomy SL SR (length E₀) (length S₀) (length T₀) (length P₀) m)
-    {E : List Float} {S T' : List ℕ} {P : List Float} {j : Joined} {n : ℕ} (answer : j ≡ joins.joined SL ML SR MR (short SL SR (length E₀) (length S₀) (length T₀) (length P₀)))
-    (made : j ≡ Rows → Laid (union (model SL ML) (model SR MR)) E₀ S₀ T₀ P₀ E S T' P) (refused : (k : ℕ) (b : Bool) → j ≡ joins.settled k b → n ≡ k) where
-  number : n ≡ models_refusal SL ML SR MR 0
-  unfolding joins.joined
-  number = refused (models_refusal SL ML SR MR 0) (short SL SR (length E₀) (length S₀) (length T₀) (length P₀)) answer
+-- a refusal of the models is the answer
+refused : (n later : ℕ) (a : Result (Unit {0}) Refusal) (r : Refusal) (store : List ℕ) (K : List Bool) → IsErrAnd a (λ e. e ≡ r) → number r ≡ n → ends (numbered a) store ≡ settled (first n later) store K
+refused zero later a r store K h e = absurd (number_positive r e)
+refused (suc n) later (Ok x) r store K h e = absurd h
+refused (suc n) later (Err s) r store K h e = ap (λ (k : ℕ). ends (Err k) store) (ap number h ∙ e)
 
-  both : n ≡ 0 → Accepted SL ML × Accepted SR MR
-  both z = let q = models_passed SL ML SR MR 0 (sym number ∙ z) in (q.0, q.1)
+module _ (L R : Wlts) where
+  abbrev SL : Shape
+  SL = L.shape
 
-  total : length (union (model SL ML) (model SR MR)) ≡ SL.states + SR.states
-  total = union_length (model SL ML) (model SR MR) ∙ rw (model_length SL ML, model_length SR MR)
+  abbrev ML : Columns
+  ML = columns_of L
 
-  rows_made : n ≡ 0 → SL.states + SR.states ≤ 2000 → j ≡ Rows
-  unfolding joins.joined
-  rows_made z few =
-      let (A, B) = both z in
-      let (e, s, t, p, c) = room few A.edges_few B.edges_few in
-      answer ∙ ap (λ (r : ℕ). joins.settled r (short SL SR (length E₀) (length S₀) (length T₀) (length P₀))) (sym number ∙ z)
-      ∙ ap (joins.settled 0) (none _ _ (le-ltb (length E₀) (SL.states + SR.states) e) (none _ _ (lt-leb (length S₀) (SL.states + SR.states) s) (none _ _ (le-ltb (length T₀) (SL.edges + SR.edges) t) (le-ltb (length P₀) (SL.edges + SR.edges) p))))
+  abbrev SR : Shape
+  SR = R.shape
 
-  held : n ≡ 0 → SL.states + SR.states ≤ 2000 → HoldsTo (union (model SL ML) (model SR MR)) (SL.states + SR.states) E S T' P
-  held z few = subst (λ (k : ℕ). HoldsTo (union (model SL ML) (model SR MR)) k E S T' P) total (laid_holds (made (rows_made z few)))
+  abbrev MR : Columns
+  MR = columns_of R
 
-  -- what the rest asks
-  pub ready : n ≡ 0 → (SL.states ≤ 2000) × (SR.states ≤ 2000)
-      × (SL.states + SR.states ≤ 2000 → (every (row_stands S T' P) (SL.states + SR.states) ≡ true) × (SL.states + SR.states ≤ length E) × (SL.states + SR.states < length S) × (SL.states + SR.states ≤ m))
-  ready z =
-      let (A, B) = both z in
-      (A.states_few, B.states_few, λ few. let H = held z few in (rows_stand H (union_rows A B), H.exits_long, H.starts_long, (room few A.edges_few B.edges_few).4))
+  abbrev n : ℕ
+  n = models_refusal SL ML SR MR 0
 
-  pub rows_are : n ≡ 0 → SL.states + SR.states ≤ 2000 → rows_in (SL.states + SR.states) E S T' P ≡ union (model SL ML) (model SR MR)
-  rows_are z few = held_rows (held z few) total
-
-  pub done : (fails8 : Bool) (cl cr : List ℕ) (ε ρ : Float) (store : List ℕ) {x : Outcome Ended}
-      → x ≡ settled (first n (later_refusal fails8 (tolerances_outside ε ρ) SL.states SR.states (length cl) (length cr) (length store))) store
-      (epsdelta (given_rows (union (model SL ML) (model SR MR)) (take SL.states cl ++ take SR.states cr) ε ρ)).relation
-      → x ≡ outcome_unless fails8 SL ML SR MR cl cr ε ρ store
-  unfolding given
-  done fails8 cl cr ε ρ store e =
+  pub turned_back : (fails8 : Bool) (cl cr : List ℕ) (ε ρ : Float) (store : List ℕ) (a : Result (Unit {0}) Refusal) (r : Refusal) → IsErrAnd a (λ e. e ≡ r) → number r ≡ n
+      → ends (numbered a) store ≡ outcome_unless fails8 SL ML SR MR cl cr ε ρ store
+  turned_back fails8 cl cr ε ρ store a r h e =
       let later = later_refusal fails8 (tolerances_outside ε ρ) SL.states SR.states (length cl) (length cr) (length store) in
-      e ∙ ap (λ (k : ℕ). settled k store (epsdelta (given SL ML SR MR cl cr ε ρ)).relation) (ap (λ (k : ℕ). first k later) number ∙ sym (refusal_split SL ML SR MR fails8 (tolerances_outside ε ρ) cl cr (length store)))
+      refused n later a r store (epsdelta (given SL ML SR MR cl cr ε ρ)).relation h e
+      ∙ ap (λ (k : ℕ). settled k store (epsdelta (given SL ML SR MR cl cr ε ρ)).relation) (sym (refusal_split SL ML SR MR fails8 (tolerances_outside ε ρ) cl cr (length store)))
+
+  module _ (z : 0 ≡ n) where
+    both : Accepted SL ML × Accepted SR MR
+    both = let q = models_passed SL ML SR MR 0 (sym z) in (q.0, q.1)
+
+    pub few : (SL.states ≤ 2000) × (SR.states ≤ 2000)
+    few = let (A, B) = both in (A.states_few, B.states_few)
+
+    pub done : (fails8 : Bool) (cl cr : List ℕ) (ε ρ : Float) (store : List ℕ) {x : Outcome (Result (Unit {0}) ℕ)}
+        → x ≡ settled (later_refusal fails8 (tolerances_outside ε ρ) SL.states SR.states (length cl) (length cr) (length store)) store
+        (epsdelta (given_rows (union (model SL ML) (model SR MR)) (take SL.states cl ++ take SR.states cr) ε ρ)).relation
+        → x ≡ outcome_unless fails8 SL ML SR MR cl cr ε ρ store
+    unfolding given
+    done fails8 cl cr ε ρ store e =
+        let later = later_refusal fails8 (tolerances_outside ε ρ) SL.states SR.states (length cl) (length cr) (length store) in
+        e ∙ ap (λ (k : ℕ). settled k store (epsdelta (given SL ML SR MR cl cr ε ρ)).relation) (ap (λ (k : ℕ). first k later) z ∙ sym (refusal_split SL ML SR MR fails8 (tolerances_outside ε ρ) cl cr (length store)))
+
+    module _ (V W : RowStore) (m : ℕ) (room : Roomy SL SR (length V.exits.now) (length V.starts.now) (length V.targets.now) (length V.probs.now) m) (j : Result (Unit {0}) Fault)
+        (answer : joins.faulted j ≡ joins.joined SL ML SR MR (cramped (SL.states + SR.states) (SL.edges + SR.edges) V)) (made : OnOk j (LaidIn (union (model SL ML) (model SR MR)) V W)) where
+      total : length (union (model SL ML) (model SR MR)) ≡ SL.states + SR.states
+      total = union_length (model SL ML) (model SR MR) ∙ rw (model_length SL ML, model_length SR MR)
+
+      roomy : SL.states + SR.states ≤ 2000 → cramped (SL.states + SR.states) (SL.edges + SR.edges) V ≡ false
+      roomy f =
+          let (A, B) = both in
+          let (e, s, t, p, c) = room f A.edges_few B.edges_few in
+          none _ _ (le-ltb (length V.exits.now) (SL.states + SR.states) e) (none _ _ (lt-leb (length V.starts.now) (SL.states + SR.states) s) (none _ _ (le-ltb (length V.targets.now) (SL.edges + SR.edges) t) (le-ltb (length V.probs.now) (SL.edges + SR.edges) p)))
+
+      held : SL.states + SR.states ≤ 2000 → HoldsTo (union (model SL ML) (model SR MR)) (SL.states + SR.states) W.exits.now W.starts.now W.targets.now W.probs.now
+      unfolding joins.joined
+      held f =
+          let ok : joins.faulted j ≡ Ok tt = answer ∙ ap (λ (k : ℕ). joins.settled k (cramped (SL.states + SR.states) (SL.edges + SR.edges) V)) (sym z) ∙ ap (joins.settled 0) (roomy f) in
+          subst (λ (k : ℕ). HoldsTo (union (model SL ML) (model SR MR)) k W.exits.now W.starts.now W.targets.now W.probs.now) total (laid_holds (ok_holds j ok made))
+
+      -- what the rest asks
+      pub ready : SL.states + SR.states ≤ 2000 → (every (row_stands W.starts.now W.targets.now W.probs.now) (SL.states + SR.states) ≡ true) × (SL.states + SR.states ≤ length W.exits.now) × (SL.states + SR.states < length W.starts.now) × (SL.states + SR.states ≤ m)
+      ready f = let (A, B) = both in let H = held f in (rows_stand H (union_rows A B), H.exits_long, H.starts_long, (room f A.edges_few B.edges_few).4)
+
+      pub rows_are : SL.states + SR.states ≤ 2000 → rows_in (SL.states + SR.states) W.exits.now W.starts.now W.targets.now W.probs.now ≡ union (model SL ML) (model SR MR)
+      rows_are f = held_rows (held f) total
 
 -- without a need of initial states
-pub plain : (SL : Shape) (ML : Columns) (SR : Shape) (MR : Columns) (cl cr : List ℕ) (ε ρ : Float) (store : List ℕ) {o : Outcome Ended} → o ≡ outcome_unless false SL ML SR MR cl cr ε ρ store → o ≡ outcome SL ML SR MR cl cr ε ρ store
+pub plain : (L R : Wlts) (cl cr : List ℕ) (ε ρ : Float) (store : List ℕ) {o : Outcome (Result (Unit {0}) ℕ)}
+    → o ≡ outcome_unless false L.shape (columns_of L) R.shape (columns_of R) cl cr ε ρ store → o ≡ outcome L.shape (columns_of L) R.shape (columns_of R) cl cr ε ρ store
 unfolding epsdelta_refusal
-plain SL ML SR MR cl cr ε ρ store e = e
+plain L R cl cr ε ρ store e = e

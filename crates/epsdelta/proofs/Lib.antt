@@ -1,2 +1,1 @@
-pub mod Settling
 pub mod Entering

@@ -1,8 +1,7 @@
 // The relation of two models: their checks, their rows side by side, and the relation over these.
-ghost use Rattle.std.specs.Prelude.{◌≡◌, ℕ, ◌≤◌, ◌<◌, ◌+◌, Bool, true, ◌||◌, ◌++◌, ltb, length, take};
-ghost use Rattle.std.proofs.Math.Seq.{paste};
+ghost use Rattle.std.specs.Prelude.{◌≡◌, ℕ, Bool, ◌≤◌, ◌<◌, ◌+◌, true, ◌||◌, ◌++◌, ltb, length, take};
 ghost use Rattle.numbers.specs.Lists.{every};
-ghost use Rattle.numbers.proofs.Refuses.{first};
+ghost use Rattle.numbers.specs.Refuse.{code, numbered};
 ghost use Rattle.bisim_core.specs.Data.{columns_of};
 ghost use Rattle.epsdelta_theory.specs.Jumps.{Jumps};
 ghost use Rattle.epsdelta_theory.specs.Refusal.{tolerances_outside, later_refusal, epsdelta_refusal};
@@ -10,190 +9,111 @@ ghost use Rattle.epsdelta_theory.specs.Claim.{Sound};
 ghost use Rattle.epsdelta_theory.specs.Epsdelta.{given, given_rows, epsdelta};
 ghost use Rattle.epsdelta_jumps.specs.Union;
 ghost use Rattle.flow_links.proofs.RowsRead.{rows_in, row_stands};
-ghost use Rattle.epsdelta.specs.Outcome.{ends, settled, outcome_unless, outcome};
+ghost use Rattle.epsdelta.specs.Outcome.{Roomy, ends, settled, outcome_unless, outcome};
 
+use crate::asked::{Settings, Side, Tolerances};
 use crate::checks::later;
-use bisim_core::wlts::{Shape, Wlts};
-use epsdelta_jumps::jumps::{Joined, union};
+use bisim_core::wlts::Shape;
+use epsdelta_jumps::jumps::{Fault, union};
+use epsdelta_jumps::store::RowStore;
 use epsdelta_sweeps::relate::relate;
 use flow_links::rows::Rows;
+use numbers::refusal::Refusal;
 
-// The relation is in the bytes, or the number of the first check that fails.
-#[derive(Clone, Copy)]
-pub enum Ended {
-    Related,
-    Refused(u32),
-}
-
-// What a run is asked: ε and ρ, and whether an initial state that is asked for is absent (check 8).
-#[derive(Clone, Copy)]
-pub struct Settings {
-    pub absent: bool,
-    pub epsilon: f64,
-    pub rho: f64,
-}
-
-// Copies the first n classes to place `at` and on.
-fn put_classes(from: &[u32], n: usize, classes: &mut [u32], at: usize)
-    requires { (n ≤ length from.now) × (at + n ≤ length classes.old) × (at + n ≤ 2000) }
-    ensures { classes.new ≡ paste classes.old at from.now n }
+// The classes of both models, one after the other.
+fn join_classes(left: &Side, right: &Side, classes: &mut [u32])
+    requires few { left.now.model.shape.states + right.now.model.shape.states ≤ 2000 }
+    requires room { (left.now.model.shape.states ≤ length left.now.classes.now) × (right.now.model.shape.states ≤ length right.now.classes.now) × (left.now.model.shape.states + right.now.model.shape.states ≤ length classes.old) }
+    ensures { take (left.now.model.shape.states + right.now.model.shape.states) classes.new ≡ take left.now.model.shape.states left.now.classes.now ++ take right.now.model.shape.states right.now.classes.now }
 {
-    classes[at..at + n].copy_from_slice(&from[..n]);
+    let n = left.model.shape.states;
+    let m = right.model.shape.states;
+    classes[..n].copy_from_slice(&left.classes[..n]);
+    classes[n..n + m].copy_from_slice(&right.classes[..m]);
 }
 
-// What is left once the checks of both models have said `refusal`: this, or what checks 7 to 10 say, or the relation; `classes` is work space.
+// What is left once the checks of both models have passed: what checks 7 to 10 say, or the relation; `classes` is work space.
 fn finish(
-    refusal: u32,
     settings: Settings,
-    left: usize,
-    right: usize,
-    left_classes: &[u32],
-    right_classes: &[u32],
-    exits: &[f64],
-    starts: &[u32],
-    targets: &[u32],
-    probs: &[f64],
+    left: &Side,
+    right: &Side,
+    rows: &RowStore,
     classes: &mut [u32],
     relation: &mut [u8],
-) -> Ended
-    requires { refusal ≡ 0 → (left ≤ 2000) × (right ≤ 2000) × ((left + right ≤ 2000) → (every (row_stands starts.now targets.now probs.now) (left + right) ≡ true) × (left + right ≤ length exits.now) × (left + right < length starts.now) × (left + right ≤ length classes.old)) }
-    ensures { (J : Jumps) → (refusal ≡ 0 → left + right ≤ 2000 → rows_in (left + right) exits.now starts.now targets.now probs.now ≡ J) → ends result relation.new ≡ settled (first refusal (later_refusal settings.absent (tolerances_outside settings.epsilon settings.rho) left right (length left_classes.now) (length right_classes.now) (length relation.old))) relation.old (epsdelta (given_rows J (take left left_classes.now ++ take right right_classes.now) settings.epsilon settings.rho)).relation }
+) -> Result<(), Refusal>
+    requires models { (left.now.model.shape.states ≤ 2000) × (right.now.model.shape.states ≤ 2000) }
+    requires rows { (left.now.model.shape.states + right.now.model.shape.states ≤ 2000) → (every (row_stands rows.now.starts.now rows.now.targets.now rows.now.probs.now) (left.now.model.shape.states + right.now.model.shape.states) ≡ true) × (left.now.model.shape.states + right.now.model.shape.states ≤ length rows.now.exits.now) × (left.now.model.shape.states + right.now.model.shape.states < length rows.now.starts.now) × (left.now.model.shape.states + right.now.model.shape.states ≤ length classes.old) }
+    ensures { (J : Jumps) → (left.now.model.shape.states + right.now.model.shape.states ≤ 2000 → rows_in (left.now.model.shape.states + right.now.model.shape.states) rows.now.exits.now rows.now.starts.now rows.now.targets.now rows.now.probs.now ≡ J) → ends (numbered result) relation.new ≡ settled (later_refusal settings.absent (tolerances_outside settings.tolerances.epsilon settings.tolerances.rho) left.now.model.shape.states right.now.model.shape.states (length left.now.classes.now) (length right.now.classes.now) (length relation.old)) relation.old (epsdelta (given_rows J (take left.now.model.shape.states left.now.classes.now ++ take right.now.model.shape.states right.now.classes.now) settings.tolerances.epsilon settings.tolerances.rho)).relation }
 {
-    if refusal != 0 {
-        return Ended::Refused(refusal);
-    }
-    let last = later(
-        settings.absent,
-        left,
-        right,
-        left_classes.len(),
-        right_classes.len(),
-        settings.epsilon,
-        settings.rho,
-        relation.len(),
-    );
-    if last != 0 {
-        return Ended::Refused(last);
-    }
-    put_classes(left_classes, left, classes, 0);
-    put_classes(right_classes, right, classes, left);
-    let rows = Rows {
-        states: left + right,
-        exits,
-        starts,
-        targets,
-        probs,
+    later(settings, left, right, relation.len())?;
+    join_classes(left, right, classes);
+    let read = Rows {
+        states: left.model.shape.states + right.model.shape.states,
+        exits: rows.exits,
+        starts: rows.starts,
+        targets: rows.targets,
+        probs: rows.probs,
     };
-    relate(&rows, classes, settings.epsilon, settings.rho, relation);
-    Ended::Related
+    relate(
+        &read,
+        classes,
+        settings.tolerances.epsilon,
+        settings.tolerances.rho,
+        relation,
+    );
+    Ok(())
 }
 
-// What `union` refused; 0 if nothing.
-fn refused(joined: Joined) -> u32
-    ensures { (n : ℕ) (b : Bool) → joined ≡ Union.settled n b → result ≡ n }
+// What `union` refused: lists are short only where check 10 fails, which comes later.
+fn refused(joined: Result<(), Fault>) -> Result<(), Refusal>
+    ensures { (n : ℕ) (b : Bool) → Union.faulted joined ≡ Union.settled n b → code result ≡ n }
 {
     match joined {
-        Joined::Rows => 0,
-        Joined::Refused(r) => r,
-        Joined::Short => 0,
+        Err(Fault::Refused(refusal)) => Err(refusal),
+        Err(Fault::Short) => Ok(()),
+        Ok(()) => Ok(()),
     }
 }
 
-// The relation of two models, unless a check fails; the last five lists are work space.
+// The relation of two models, unless a check fails; the last two are work space.
 fn epsdelta_in(
     settings: Settings,
-    left: &Wlts,
-    right: &Wlts,
-    left_classes: &[u32],
-    right_classes: &[u32],
+    left: &Side,
+    right: &Side,
     relation: &mut [u8],
-    exits: &mut [f64],
-    starts: &mut [u32],
-    targets: &mut [u32],
-    probs: &mut [f64],
+    rows: &mut RowStore,
     classes: &mut [u32],
-) -> Ended
-    requires { left.now.shape.states + right.now.shape.states ≤ 2000 → left.now.shape.edges ≤ 4096 → right.now.shape.edges ≤ 4096 → (left.now.shape.states + right.now.shape.states ≤ length exits.old) × (left.now.shape.states + right.now.shape.states < length starts.old) × (left.now.shape.edges + right.now.shape.edges ≤ length targets.old) × (left.now.shape.edges + right.now.shape.edges ≤ length probs.old) × (left.now.shape.states + right.now.shape.states ≤ length classes.old) }
-    ensures { ends result relation.new ≡ outcome_unless settings.absent left.now.shape (columns_of left.now) right.now.shape (columns_of right.now) left_classes.now right_classes.now settings.epsilon settings.rho relation.old }
+) -> Result<(), Refusal>
+    requires { Roomy left.now.model.shape right.now.model.shape (length rows.old.exits.now) (length rows.old.starts.now) (length rows.old.targets.now) (length rows.old.probs.now) (length classes.old) }
+    ensures { ends (numbered result) relation.new ≡ outcome_unless settings.absent left.now.model.shape (columns_of left.now.model) right.now.model.shape (columns_of right.now.model) left.now.classes.now right.now.classes.now settings.tolerances.epsilon settings.tolerances.rho relation.old }
 {
-    let joined = union(left, right, exits, starts, targets, probs);
-    finish(
-        refused(joined),
-        settings,
-        left.shape.states,
-        right.shape.states,
-        left_classes,
-        right_classes,
-        exits,
-        starts,
-        targets,
-        probs,
-        classes,
-        relation,
-    )
+    refused(union(&left.model, &right.model, rows))?;
+    finish(settings, left, right, rows, classes, relation)
 }
 
-// In work space for two models that are small.
-fn epsdelta_small(
+// In work space for so many states, their starts and so many edges.
+fn epsdelta_with<const STATES: usize, const STARTS: usize, const EDGES: usize>(
     settings: Settings,
-    left: &Wlts,
-    right: &Wlts,
-    left_classes: &[u32],
-    right_classes: &[u32],
+    left: &Side,
+    right: &Side,
     relation: &mut [u8],
-) -> Ended
-    requires { (left.now.shape.states ≤ 32) × (left.now.shape.edges ≤ 200) × (right.now.shape.states ≤ 32) × (right.now.shape.edges ≤ 200) }
-    ensures { ends result relation.new ≡ outcome_unless settings.absent left.now.shape (columns_of left.now) right.now.shape (columns_of right.now) left_classes.now right_classes.now settings.epsilon settings.rho relation.old }
+) -> Result<(), Refusal>
+    requires sizes { (STATES ≤ 2000) × (STARTS ≤ 2001) × (EDGES ≤ 8192) }
+    requires room { Roomy left.now.model.shape right.now.model.shape STATES STARTS EDGES EDGES STATES }
+    ensures { ends (numbered result) relation.new ≡ outcome_unless settings.absent left.now.model.shape (columns_of left.now.model) right.now.model.shape (columns_of right.now.model) left.now.classes.now right.now.classes.now settings.tolerances.epsilon settings.tolerances.rho relation.old }
 {
-    let mut exits = [0.0; 64];
-    let mut starts = [0u32; 65];
-    let mut targets = [0u32; 400];
-    let mut probs = [0.0; 400];
-    let mut classes = [0u32; 64];
-    epsdelta_in(
-        settings,
-        left,
-        right,
-        left_classes,
-        right_classes,
-        relation,
-        &mut exits,
-        &mut starts,
-        &mut targets,
-        &mut probs,
-        &mut classes,
-    )
-}
-
-// In work space for any two models.
-fn epsdelta_large(
-    settings: Settings,
-    left: &Wlts,
-    right: &Wlts,
-    left_classes: &[u32],
-    right_classes: &[u32],
-    relation: &mut [u8],
-) -> Ended
-    ensures { ends result relation.new ≡ outcome_unless settings.absent left.now.shape (columns_of left.now) right.now.shape (columns_of right.now) left_classes.now right_classes.now settings.epsilon settings.rho relation.old }
-{
-    let mut exits = [0.0; 2000];
-    let mut starts = [0u32; 2001];
-    let mut targets = [0u32; 8192];
-    let mut probs = [0.0; 8192];
-    let mut classes = [0u32; 2000];
-    epsdelta_in(
-        settings,
-        left,
-        right,
-        left_classes,
-        right_classes,
-        relation,
-        &mut exits,
-        &mut starts,
-        &mut targets,
-        &mut probs,
-        &mut classes,
-    )
+    let mut exits = [0.0; STATES];
+    let mut starts = [0u32; STARTS];
+    let mut targets = [0u32; EDGES];
+    let mut probs = [0.0; EDGES];
+    let mut classes = [0u32; STATES];
+    let mut rows = RowStore {
+        exits: &mut exits,
+        starts: &mut starts,
+        targets: &mut targets,
+        probs: &mut probs,
+    };
+    epsdelta_in(settings, left, right, relation, &mut rows, &mut classes)
 }
 
 // Whether a model has over 32 states or 200 edges, which none of a card has.
@@ -206,37 +126,31 @@ fn larger(left: Shape, right: Shape) -> bool
 // The relation of two models, unless a check fails. The entries that ask for initial states say by `settings` that check 8 fails, so that they refuse before anything is written.
 pub fn epsdelta_unless(
     settings: Settings,
-    left: &Wlts,
-    right: &Wlts,
-    left_classes: &[u32],
-    right_classes: &[u32],
+    left: &Side,
+    right: &Side,
     relation: &mut [u8],
-) -> Ended
-    ensures { ends result relation.new ≡ outcome_unless settings.absent left.now.shape (columns_of left.now) right.now.shape (columns_of right.now) left_classes.now right_classes.now settings.epsilon settings.rho relation.old }
+) -> Result<(), Refusal>
+    ensures { ends (numbered result) relation.new ≡ outcome_unless settings.absent left.now.model.shape (columns_of left.now.model) right.now.model.shape (columns_of right.now.model) left.now.classes.now right.now.classes.now settings.tolerances.epsilon settings.tolerances.rho relation.old }
 {
-    if larger(left.shape, right.shape) {
-        return epsdelta_large(settings, left, right, left_classes, right_classes, relation);
+    if larger(left.model.shape, right.model.shape) {
+        return epsdelta_with::<2000, 2001, 8192>(settings, left, right, relation);
     }
-    epsdelta_small(settings, left, right, left_classes, right_classes, relation)
+    epsdelta_with::<64, 65, 400>(settings, left, right, relation)
 }
 
 // The relation of two models, of every pair of states of both, the right one's numbered after the left's. A refusal leaves the bytes as they were, and bytes past the relation's are kept.
 pub fn epsdelta(
-    left: &Wlts,
-    right: &Wlts,
-    left_classes: &[u32],
-    right_classes: &[u32],
-    epsilon: f64,
-    rho: f64,
+    left: &Side,
+    right: &Side,
+    tolerances: Tolerances,
     relation: &mut [u8],
-) -> Ended
-    ensures relation_after { ends result relation.new ≡ outcome left.now.shape (columns_of left.now) right.now.shape (columns_of right.now) left_classes.now right_classes.now epsilon rho relation.old }
-    ensures sound { epsdelta_refusal left.now.shape (columns_of left.now) right.now.shape (columns_of right.now) left_classes.now right_classes.now epsilon rho (length relation.old) ≡ 0 → Sound (given left.now.shape (columns_of left.now) right.now.shape (columns_of right.now) left_classes.now right_classes.now epsilon rho) }
+) -> Result<(), Refusal>
+    ensures relation_after { ends (numbered result) relation.new ≡ outcome left.now.model.shape (columns_of left.now.model) right.now.model.shape (columns_of right.now.model) left.now.classes.now right.now.classes.now tolerances.epsilon tolerances.rho relation.old }
+    ensures sound { epsdelta_refusal left.now.model.shape (columns_of left.now.model) right.now.model.shape (columns_of right.now.model) left.now.classes.now right.now.classes.now tolerances.epsilon tolerances.rho (length relation.old) ≡ 0 → Sound (given left.now.model.shape (columns_of left.now.model) right.now.model.shape (columns_of right.now.model) left.now.classes.now right.now.classes.now tolerances.epsilon tolerances.rho) }
 {
     let settings = Settings {
         absent: false,
-        epsilon: epsilon,
-        rho: rho,
+        tolerances,
     };
-    epsdelta_unless(settings, left, right, left_classes, right_classes, relation)
+    epsdelta_unless(settings, left, right, relation)
 }

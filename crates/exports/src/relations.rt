@@ -12,6 +12,7 @@ use bisim_core::ids::StateId;
 use bisim_core::wlts::Wlts;
 use bisimilar::bisimilar::epsdelta_bisimilar;
 use bisimilar::related;
+use epsdelta::asked::{Side, Tolerances};
 use epsdelta::relation;
 use min_epsilon::least;
 use replies::answers;
@@ -53,43 +54,42 @@ pub extern "C" fn tanqesha_epsdelta(
         (columns right_label_values.now right_offsets.now right_edge_labels.now right_edge_targets.now right_edge_weights.now)
         left_classes.now right_classes.now epsilon rho relation.old) }
 {
-    let left = Wlts {
-        shape: shape_of(
-            left_states,
-            left_edges,
-            left_labels,
-            left_present,
-            left_start,
-        ),
-        label_values: left_label_values,
-        offsets: left_offsets,
-        edge_labels: left_edge_labels,
-        edge_targets: left_edge_targets,
-        edge_weights: left_edge_weights,
+    let left = Side {
+        model: Wlts {
+            shape: shape_of(
+                left_states,
+                left_edges,
+                left_labels,
+                left_present,
+                left_start,
+            ),
+            label_values: left_label_values,
+            offsets: left_offsets,
+            edge_labels: left_edge_labels,
+            edge_targets: left_edge_targets,
+            edge_weights: left_edge_weights,
+        },
+        classes: left_classes,
     };
-    let right = Wlts {
-        shape: shape_of(
-            right_states,
-            right_edges,
-            right_labels,
-            right_present,
-            right_start,
-        ),
-        label_values: right_label_values,
-        offsets: right_offsets,
-        edge_labels: right_edge_labels,
-        edge_targets: right_edge_targets,
-        edge_weights: right_edge_weights,
+    let right = Side {
+        model: Wlts {
+            shape: shape_of(
+                right_states,
+                right_edges,
+                right_labels,
+                right_present,
+                right_start,
+            ),
+            label_values: right_label_values,
+            offsets: right_offsets,
+            edge_labels: right_edge_labels,
+            edge_targets: right_edge_targets,
+            edge_weights: right_edge_weights,
+        },
+        classes: right_classes,
     };
-    answers::number_of(relation::epsdelta(
-        &left,
-        &right,
-        left_classes,
-        right_classes,
-        epsilon,
-        rho,
-        relation,
-    ))
+    let tolerances = Tolerances { epsilon, rho };
+    answers::number_of(relation::epsdelta(&left, &right, tolerances, relation))
 }
 
 // Whether a relation holds a state of the left model with one of the right.
@@ -145,43 +145,42 @@ pub extern "C" fn tanqesha_epsdelta_bisimilar(
         (columns right_label_values.now right_offsets.now right_edge_labels.now right_edge_targets.now right_edge_weights.now)
         left_classes.now right_classes.now epsilon rho relation.old) related.old }
 {
-    let left = Wlts {
-        shape: shape_of(
-            left_states,
-            left_edges,
-            left_labels,
-            left_present,
-            left_start,
-        ),
-        label_values: left_label_values,
-        offsets: left_offsets,
-        edge_labels: left_edge_labels,
-        edge_targets: left_edge_targets,
-        edge_weights: left_edge_weights,
+    let left = Side {
+        model: Wlts {
+            shape: shape_of(
+                left_states,
+                left_edges,
+                left_labels,
+                left_present,
+                left_start,
+            ),
+            label_values: left_label_values,
+            offsets: left_offsets,
+            edge_labels: left_edge_labels,
+            edge_targets: left_edge_targets,
+            edge_weights: left_edge_weights,
+        },
+        classes: left_classes,
     };
-    let right = Wlts {
-        shape: shape_of(
-            right_states,
-            right_edges,
-            right_labels,
-            right_present,
-            right_start,
-        ),
-        label_values: right_label_values,
-        offsets: right_offsets,
-        edge_labels: right_edge_labels,
-        edge_targets: right_edge_targets,
-        edge_weights: right_edge_weights,
+    let right = Side {
+        model: Wlts {
+            shape: shape_of(
+                right_states,
+                right_edges,
+                right_labels,
+                right_present,
+                right_start,
+            ),
+            label_values: right_label_values,
+            offsets: right_offsets,
+            edge_labels: right_edge_labels,
+            edge_targets: right_edge_targets,
+            edge_weights: right_edge_weights,
+        },
+        classes: right_classes,
     };
-    let answer = epsdelta_bisimilar(
-        &left,
-        &right,
-        left_classes,
-        right_classes,
-        epsilon,
-        rho,
-        relation,
-    );
+    let tolerances = Tolerances { epsilon, rho };
+    let answer = epsdelta_bisimilar(&left, &right, tolerances, relation);
     answers::put_verdict(answer, related)
 }
 
@@ -223,34 +222,40 @@ pub extern "C" fn tanqesha_min_epsilon(
         left_classes.now right_classes.now
         rho relation.old) present.old epsilon.old }
 {
-    let left = Wlts {
-        shape: shape_of(
-            left_states,
-            left_edges,
-            left_labels,
-            left_present,
-            left_start,
-        ),
-        label_values: left_label_values,
-        offsets: left_offsets,
-        edge_labels: left_edge_labels,
-        edge_targets: left_edge_targets,
-        edge_weights: left_edge_weights,
+    let left = Side {
+        model: Wlts {
+            shape: shape_of(
+                left_states,
+                left_edges,
+                left_labels,
+                left_present,
+                left_start,
+            ),
+            label_values: left_label_values,
+            offsets: left_offsets,
+            edge_labels: left_edge_labels,
+            edge_targets: left_edge_targets,
+            edge_weights: left_edge_weights,
+        },
+        classes: left_classes,
     };
-    let right = Wlts {
-        shape: shape_of(
-            right_states,
-            right_edges,
-            right_labels,
-            right_present,
-            right_start,
-        ),
-        label_values: right_label_values,
-        offsets: right_offsets,
-        edge_labels: right_edge_labels,
-        edge_targets: right_edge_targets,
-        edge_weights: right_edge_weights,
+    let right = Side {
+        model: Wlts {
+            shape: shape_of(
+                right_states,
+                right_edges,
+                right_labels,
+                right_present,
+                right_start,
+            ),
+            label_values: right_label_values,
+            offsets: right_offsets,
+            edge_labels: right_edge_labels,
+            edge_targets: right_edge_targets,
+            edge_weights: right_edge_weights,
+        },
+        classes: right_classes,
     };
-    let answer = least::min_epsilon(&left, &right, left_classes, right_classes, rho, relation);
+    let answer = least::min_epsilon(&left, &right, rho, relation);
     answers::put_least(answer, present, epsilon)
 }

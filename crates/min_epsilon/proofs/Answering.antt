@@ -1,24 +1,20 @@
 -- What an answer of `epsdelta_bisimilar` says of the refusal, the test and the bytes; and how `min_epsilon` ends by its answer at ε = 1.
 use mathlib.Core.Path.{◌≡◌, refl, sym, ap, ◌∙◌}
 use Prim.Native.Nat.{ℕ, zero, suc}
-use native.Mathlib.Omega.{arith}
-use mathlib.Core.Bool.{Bool, true, false}
+use mathlib.Core.Bool.{Bool, true, false, true≢false}
 use mathlib.Core.List.{List}
 use lib.ListN.{length, replicate}
 use lib.Ieee.{Float}
+use Rattle.std.specs.Prelude.{Option, Result, Some, None, Ok, Err}
+use Rattle.std.specs.Result.{is_ok}
 use Rattle.numbers.specs.Real.{one}
-use Rattle.bisim_core.specs.Data.{Columns}
-use Rattle.bisim_core.specs.declared.wlts.Shape.{Shape}
-use Rattle.epsdelta_theory.specs.Refusal.{min_epsilon_refusal}
-use Rattle.epsdelta_theory.specs.MinEpsilon.{Search, alike_at, min_epsilon}
+use Rattle.bisim_core.specs.Data.{columns_of}
+use Rattle.epsdelta_theory.specs.MinEpsilon.{Search, min_epsilon}
 use Rattle.epsdelta_theory.proofs.MinEpsilon.{one_valid, refused_alike, search_none, below_one, below_one_lem}
-use Rattle.bisimilar.specs.declared.related.Verdict.{Verdict}
-use Rattle.bisimilar.specs.declared.related.Verdict.TheVariants.{Related, Unrelated, Refused}
+use Rattle.epsdelta.specs.declared.asked.Side.{Side}
 use Rattle.epsdelta.specs.Outcome.{Outcome, ends}
 use Rattle.bisimilar.specs.Outcome.{judged_by, bisimilar_outcome}
-use Rattle.min_epsilon.specs.declared.least.Least.{Least}
-use Rattle.min_epsilon.specs.declared.least.Least.TheVariants as least
-use Rattle.min_epsilon.specs.Outcome.{found, settled, outcome}
+use Rattle.min_epsilon.specs.Outcome.{found, settled, outcome, alike, refusal}
 use Rattle.min_epsilon.proofs.Runs.{zero_length, zero_again}
 
 -- ---- an answer
@@ -29,67 +25,69 @@ pub record Judged (n : ℕ) (says b : Bool) (out store : List ℕ) : Type 0 wher
   pub said : says ≡ b
   pub cleared : out ≡ replicate (length store) 0
 
-module _ (store out : List ℕ) (v : Verdict) where
-  pub judged_related : (n : ℕ) (b : Bool) → ends v out ≡ judged_by n b store → v ≡ Related → Judged n true b out store
-  judged_related zero true e t = record { unrefused = refl; said = refl; cleared = ap (λ (x : Outcome Verdict). x.relation) e }
-  judged_related zero false e t = let f = ap (λ (x : Outcome Verdict). x.answer) e in absurd (let z : ◌≡◌ {A = ℕ} 0 1 = cc in let y : ⊥ = omega arith in y)
-  judged_related (suc n) b e t = let f = ap (λ (x : Outcome Verdict). x.answer) e in absurd (let z : ◌≡◌ {A = ℕ} 0 1 = cc in let y : ⊥ = omega arith in y)
+-- the value of an answer, and the number of a refusal
+abbrev value_or : {A : Type 0} → A → Result A ℕ → A
+value_or y (Ok x) = x
+value_or y (Err n) = y
 
-  pub judged_unrelated : (n : ℕ) (b : Bool) → ends v out ≡ judged_by n b store → v ≡ Unrelated → Judged n false b out store
-  judged_unrelated zero true e t = let f = ap (λ (x : Outcome Verdict). x.answer) e in absurd (let z : ◌≡◌ {A = ℕ} 0 1 = cc in let y : ⊥ = omega arith in y)
-  judged_unrelated zero false e t = record { unrefused = refl; said = refl; cleared = ap (λ (x : Outcome Verdict). x.relation) e }
-  judged_unrelated (suc n) b e t = let f = ap (λ (x : Outcome Verdict). x.answer) e in absurd (let z : ◌≡◌ {A = ℕ} 0 1 = cc in let y : ⊥ = omega arith in y)
+abbrev number_or : {A : Type 0} → ℕ → Result A ℕ → ℕ
+number_or k (Ok x) = k
+number_or k (Err n) = n
+
+answer_of : {a b : Result Bool ℕ} {x y : List ℕ} → ends a x ≡ ends b y → a ≡ b
+answer_of e = ap (λ (o : Outcome (Result Bool ℕ)). o.answer) e
+
+bytes_of : {a b : Result Bool ℕ} {x y : List ℕ} → ends a x ≡ ends b y → x ≡ y
+bytes_of e = ap (λ (o : Outcome (Result Bool ℕ)). o.relation) e
+
+module _ (store out : List ℕ) where
+  pub judged : (n : ℕ) (says b : Bool) → ends (Ok says) out ≡ judged_by n b store → Judged n says b out store
+  judged zero says b e = record { unrefused = refl; said = ap (value_or says) (answer_of e); cleared = bytes_of e }
+  judged (suc n) says b e = absurd (true≢false (ap is_ok (answer_of e)))
 
   -- the number, and the bytes as they were
-  pub judged_refused : (n : ℕ) (b : Bool) (r : ℕ) (x : Search) → ends v out ≡ judged_by n b store → v ≡ Refused r → ends (least.Refused r) out ≡ settled n store x
-  judged_refused zero true r x e t = let f = ap (λ (x : Outcome Verdict). x.answer) e in absurd (let z : ◌≡◌ {A = ℕ} 0 1 = cc in let y : ⊥ = omega arith in y)
-  judged_refused zero false r x e t = let f = ap (λ (x : Outcome Verdict). x.answer) e in absurd (let z : ◌≡◌ {A = ℕ} 0 1 = cc in let y : ⊥ = omega arith in y)
-  judged_refused (suc n) b r x e t = let f = ap (λ (x : Outcome Verdict). x.answer) e in let g = ap (λ (x : Outcome Verdict). x.relation) e in cc
-
-  pub judged_not_refused : (n : ℕ) (b : Bool) (r : ℕ) → ends v out ≡ judged_by n b store → n ≡ 0 → v ≡ Refused r → ⊥
-  judged_not_refused zero true r e z t = let f = ap (λ (x : Outcome Verdict). x.answer) e in let y : ◌≡◌ {A = ℕ} 0 1 = cc in omega arith
-  judged_not_refused zero false r e z t = let f = ap (λ (x : Outcome Verdict). x.answer) e in let y : ◌≡◌ {A = ℕ} 0 1 = cc in omega arith
-  judged_not_refused (suc n) b r e z t = omega arith
+  pub judged_refused : (n k : ℕ) (b : Bool) (x : Search) → ends (Err k) out ≡ judged_by n b store → ends (Err k) out ≡ settled n store x
+  judged_refused zero k b x e = absurd (true≢false (sym (ap is_ok (answer_of e))))
+  judged_refused (suc n) k b x e = ap (λ (m : ℕ). ends (Err m) out) (ap (number_or 0) (answer_of e)) ∙ ap (ends (Err (suc n))) (bytes_of e)
 
 -- ---- by the answer at ε = 1
 
-module _ (SL : Shape) (ML : Columns) (SR : Shape) (MR : Columns) (cl cr : List ℕ) (ρ : Float) (store : List ℕ) where
-  alike : Float → Bool
-  alike = alike_at SL ML SR MR cl cr ρ
-
-  refusal : ℕ
-  refusal = min_epsilon_refusal SL ML SR MR cl cr ρ (length store)
+module _ (L R : Side) (ρ : Float) (store out : List ℕ) where
+  n : ℕ
+  n = refusal L R ρ (length store)
 
   -- the refusal at ε = 1 is that of `min_epsilon`
-  at_one : (out : List ℕ) (v : Verdict) → ends v out ≡ bisimilar_outcome SL ML SR MR cl cr one ρ store → ends v out ≡ judged_by refusal (alike one) store
-  unfolding alike refusal
-  at_one out v e = e ∙ ap (λ (n : ℕ). judged_by n (alike_at SL ML SR MR cl cr ρ one) store) (refused_alike SL ML SR MR cl cr one ρ (length store) one_valid)
+  at_one : (v : Result Bool ℕ) → ends v out ≡ bisimilar_outcome L.model.shape (columns_of L.model) R.model.shape (columns_of R.model) L.classes.now R.classes.now one ρ store → ends v out ≡ judged_by n (alike L R ρ one) store
+  unfolding n
+  at_one v e = e ∙ ap (λ (k : ℕ). judged_by k (alike L R ρ one) store) (refused_alike L.model.shape (columns_of L.model) R.model.shape (columns_of R.model) L.classes.now R.classes.now one ρ (length store) one_valid)
 
-  module _ (out : List ℕ) (v : Verdict) (e : ends v out ≡ bisimilar_outcome SL ML SR MR cl cr one ρ store) where
-    -- it holds there: what comes next is not refused
-    pub next_allowed : v ≡ Related → min_epsilon_refusal SL ML SR MR cl cr ρ (length out) ≡ 0
-    unfolding refusal
-    next_allowed t =
-        let j = judged_related store out v refusal (alike one) (at_one out v e) t in
-        ap (min_epsilon_refusal SL ML SR MR cl cr ρ) (zero_length out store j.cleared) ∙ j.unrefused
+  pub ends_refused : (k : ℕ) → ends (Err k) out ≡ bisimilar_outcome L.model.shape (columns_of L.model) R.model.shape (columns_of R.model) L.classes.now R.classes.now one ρ store
+      → ends (Err k) out ≡ outcome L.model.shape (columns_of L.model) R.model.shape (columns_of R.model) L.classes.now R.classes.now ρ store
+  unfolding n
+  ends_refused k e = judged_refused store out n k (alike L R ρ one) (min_epsilon L.model.shape (columns_of L.model) R.model.shape (columns_of R.model) L.classes.now R.classes.now ρ) (at_one (Err k) e)
 
-    pub ends_at : (x : Float) (last : List ℕ) → v ≡ Related → x ≡ below_one (alike_at SL ML SR MR cl cr ρ) → last ≡ replicate (length out) 0
-        → ends (least.At x) last ≡ outcome SL ML SR MR cl cr ρ store
-    unfolding refusal alike min_epsilon
+  module _ (says : Bool) (e : ends (Ok says) out ≡ bisimilar_outcome L.model.shape (columns_of L.model) R.model.shape (columns_of R.model) L.classes.now R.classes.now one ρ store) where
+    j : Judged n says (alike L R ρ one) out store
+    j = judged store out n says (alike L R ρ one) (at_one (Ok says) e)
+
+    -- what comes next is not refused
+    pub next_allowed : refusal L R ρ (length out) ≡ 0
+    unfolding n
+    next_allowed = ap (refusal L R ρ) (zero_length out store j.cleared) ∙ j.unrefused
+
+    -- it holds there
+    pub ends_at : (x : Float) (last : List ℕ) → says ≡ true → x ≡ below_one (alike L R ρ) → last ≡ replicate (length out) 0
+        → ends (Ok (Some x)) last ≡ outcome L.model.shape (columns_of L.model) R.model.shape (columns_of R.model) L.classes.now R.classes.now ρ store
+    unfolding n min_epsilon
     ends_at x last t f z =
-        let j = judged_related store out v refusal (alike one) (at_one out v e) t in
-        ap (ends (least.At x)) (zero_again last out store j.cleared z)
-        ∙ ap (λ (l : Least). ends l (replicate (length store) 0)) (ap least.At f ∙ ap found (below_one_lem (alike_at SL ML SR MR cl cr ρ) (sym j.said)))
-        ∙ ap (λ (n : ℕ). settled n store (min_epsilon SL ML SR MR cl cr ρ)) (sym j.unrefused)
+        ap (ends (Ok (Some x))) (zero_again last out store j.cleared z)
+        ∙ ap (λ (l : Option Float). ends (Ok l) (replicate (length store) 0)) (ap Some f ∙ ap found (below_one_lem (alike L R ρ) (sym j.said ∙ t)))
+        ∙ ap (λ (k : ℕ). settled k store (min_epsilon L.model.shape (columns_of L.model) R.model.shape (columns_of R.model) L.classes.now R.classes.now ρ)) (sym j.unrefused)
 
-    pub ends_absent : v ≡ Unrelated → ends least.Absent out ≡ outcome SL ML SR MR cl cr ρ store
-    unfolding refusal alike min_epsilon
+    -- it does not
+    pub ends_absent : says ≡ false → ends (Ok None) out ≡ outcome L.model.shape (columns_of L.model) R.model.shape (columns_of R.model) L.classes.now R.classes.now ρ store
+    unfolding n min_epsilon
     ends_absent t =
-        let j = judged_unrelated store out v refusal (alike one) (at_one out v e) t in
-        ap (ends least.Absent) j.cleared
-        ∙ ap (λ (x : Search). settled 0 store x) (sym (search_none (alike_at SL ML SR MR cl cr ρ) (sym j.said)))
-        ∙ ap (λ (n : ℕ). settled n store (min_epsilon SL ML SR MR cl cr ρ)) (sym j.unrefused)
-
-    pub ends_refused : (r : ℕ) → v ≡ Refused r → ends (least.Refused r) out ≡ outcome SL ML SR MR cl cr ρ store
-    unfolding refusal
-    ends_refused r t = judged_refused store out v refusal (alike one) r (min_epsilon SL ML SR MR cl cr ρ) (at_one out v e) t
+        ap (ends (Ok None)) j.cleared
+        ∙ ap (λ (x : Search). settled 0 store x) (sym (search_none (alike L R ρ) (sym j.said ∙ t)))
+        ∙ ap (λ (k : ℕ). settled k store (min_epsilon L.model.shape (columns_of L.model) R.model.shape (columns_of R.model) L.classes.now R.classes.now ρ)) (sym j.unrefused)

@@ -1,24 +1,34 @@
 -- What `min_epsilon` answers, and what it leaves in the bytes of the relation.
-use Rattle.std.specs.Prelude.{ℕ, zero, suc, List, length, replicate, Float}
-use Rattle.bisim_core.specs.Data.{Columns}
+use Rattle.std.specs.Prelude.{ℕ, zero, suc, Bool, Option, Some, None, Result, Ok, Err, List, length, replicate, Float}
+use Rattle.bisim_core.specs.Data.{Columns, columns_of}
 use Rattle.bisim_core.specs.declared.wlts.Shape.{Shape}
-use Rattle.epsdelta_theory.specs.Refusal.{min_epsilon_refusal}
-use Rattle.epsdelta_theory.specs.MinEpsilon.{Search, min_epsilon}
+use Rattle.epsdelta_theory.specs.Refusal.{bisimilar_refusal, min_epsilon_refusal}
+use Rattle.epsdelta_theory.specs.MinEpsilon.{Search, alike_at, min_epsilon}
 use Rattle.epsdelta_theory.specs.MinEpsilon as search
+use Rattle.epsdelta.specs.declared.asked.Side.{Side}
 use Rattle.epsdelta.specs.Outcome.{Outcome, ends}
-use Rattle.min_epsilon.specs.declared.least.Least.{Least}
-use Rattle.min_epsilon.specs.declared.least.Least.TheVariants.{At, Absent, Refused}
 
 -- what the search found
-abbrev pub found : search.Least → Least
-found (search.at ε) = At ε
-found search.none = Absent
+abbrev pub found : search.Least → Option Float
+found (search.at ε) = Some ε
+found search.none = None
 
 -- what the search found and every byte zero, or the number of the check that failed and the bytes as they were
-abbrev pub settled : ℕ → List ℕ → Search → Outcome Least
-settled zero store x = ends (found x.least) (replicate (length store) 0)
-settled (suc r) store x = ends (Refused (suc r)) store
+abbrev pub settled : ℕ → List ℕ → Search → Outcome (Result (Option Float) ℕ)
+settled zero store x = ends (Ok (found x.least)) (replicate (length store) 0)
+settled (suc r) store x = ends (Err (suc r)) store
 
 -- two models handed in, classes, ρ and the bytes lent for the relation
-abbrev pub outcome : Shape → Columns → Shape → Columns → List ℕ → List ℕ → Float → List ℕ → Outcome Least
+abbrev pub outcome : Shape → Columns → Shape → Columns → List ℕ → List ℕ → Float → List ℕ → Outcome (Result (Option Float) ℕ)
 outcome SL ML SR MR cl cr ρ store = settled (min_epsilon_refusal SL ML SR MR cl cr ρ (length store)) store (min_epsilon SL ML SR MR cl cr ρ)
+
+-- of two models with their classes: are the initial states related at this ρ and ε
+abbrev pub alike : Side → Side → Float → Float → Bool
+alike L R ρ = alike_at L.model.shape (columns_of L.model) R.model.shape (columns_of R.model) L.classes.now R.classes.now ρ
+
+-- what is refused at this ε and ρ, with so many bytes, and of the search
+abbrev pub refusal_at : Side → Side → Float → Float → ℕ → ℕ
+refusal_at L R ε ρ bytes = bisimilar_refusal L.model.shape (columns_of L.model) R.model.shape (columns_of R.model) L.classes.now R.classes.now ε ρ bytes
+
+abbrev pub refusal : Side → Side → Float → ℕ → ℕ
+refusal L R ρ bytes = min_epsilon_refusal L.model.shape (columns_of L.model) R.model.shape (columns_of R.model) L.classes.now R.classes.now ρ bytes

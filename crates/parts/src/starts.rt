@@ -16,8 +16,5 @@ pub fn absent(initial: Option<StateId>) -> bool
 pub fn start(initial: Option<StateId>) -> StateId
     ensures { result.0 ≡ Bisimilar.start initial }
 {
-    match initial {
-        Some(s) => s,
-        None => StateId(0),
-    }
+    initial.unwrap_or(StateId(0))
 }

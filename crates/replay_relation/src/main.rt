@@ -3,7 +3,6 @@
 #![tactic(auto)]
 
 mod entries; // entries.rt: the places of the counts
-mod outcomes; // outcomes.rt: the answers of the entries, as numbers
 mod relations; // relations.rt: the kinds `relation` and `related`
 mod store; // store.rt: the bytes lent for a relation
 

@@ -1,9 +1,10 @@
 // The kinds `relation` and `related`.
-use crate::{entries, outcomes, store};
+use crate::{entries, store};
 use bisim_core::ids::StateId;
 use bisim_core::wlts::Wlts;
 use bisimilar::bisimilar::epsdelta_bisimilar;
 use bisimilar::related::related;
+use epsdelta::asked::{Side, Tolerances};
 use epsdelta::relation::epsdelta;
 use min_epsilon::least::min_epsilon;
 use replay_text::columns::Model;
@@ -13,12 +14,9 @@ use replay_text::text::Reader;
 // What is asked: two models with the classes of their states, the tolerances, and the bytes listed.
 #[derive(Clone, Copy)]
 struct Asked<'a> {
-    left: Wlts<'a>,
-    right: Wlts<'a>,
-    left_classes: &'a [u32],
-    right_classes: &'a [u32],
-    epsilon: f64,
-    rho: f64,
+    left: Side<'a>,
+    right: Side<'a>,
+    tolerances: Tolerances,
     listed: &'a [u8],
 }
 
@@ -40,41 +38,15 @@ fn check<F: FnOnce(&mut Reader, Asked, &mut [u8])>(
 }
 
 fn run_epsdelta(r: &mut Reader, x: Asked, lent: &mut [u8]) {
-    let answer = epsdelta(
-        &x.left,
-        &x.right,
-        x.left_classes,
-        x.right_classes,
-        x.epsilon,
-        x.rho,
-        lent,
-    );
-    r.expect_numbered(outcomes::of_ended(answer), ());
+    r.expect_answer(epsdelta(&x.left, &x.right, x.tolerances, lent));
 }
 
 fn run_bisimilar(r: &mut Reader, x: Asked, lent: &mut [u8]) {
-    let answer = epsdelta_bisimilar(
-        &x.left,
-        &x.right,
-        x.left_classes,
-        x.right_classes,
-        x.epsilon,
-        x.rho,
-        lent,
-    );
-    outcomes::expect_verdict(r, answer);
+    r.expect_answer(epsdelta_bisimilar(&x.left, &x.right, x.tolerances, lent));
 }
 
 fn run_least(r: &mut Reader, x: Asked, lent: &mut [u8]) {
-    let answer = min_epsilon(
-        &x.left,
-        &x.right,
-        x.left_classes,
-        x.right_classes,
-        x.rho,
-        lent,
-    );
-    outcomes::expect_least(r, answer);
+    r.expect_answer(min_epsilon(&x.left, &x.right, x.tolerances.rho, lent));
 }
 
 // The classes, the tolerances and the bytes; each entry gets the bytes as they are at first.
@@ -82,18 +54,23 @@ fn run_lent(r: &mut Reader, counts: &mut [u64; 48], bytes: &mut [u8], left: Wlts
     let mut left_classes = [0u32; 2112];
     let mut right_classes = [0u32; 2112];
     let mut listed = [0u8; 512];
-    let left_classes = r.list_field(&mut left_classes);
-    let right_classes = r.list_field(&mut right_classes);
-    let epsilon = r.real_field();
-    let rho = r.real_field();
+    let left = Side {
+        model: left,
+        classes: r.list_field(&mut left_classes),
+    };
+    let right = Side {
+        model: right,
+        classes: r.list_field(&mut right_classes),
+    };
+    let tolerances = Tolerances {
+        epsilon: r.real_field(),
+        rho: r.real_field(),
+    };
     let l = store::read(r, &mut listed, bytes.len());
     let x = Asked {
         left,
         right,
-        left_classes,
-        right_classes,
-        epsilon,
-        rho,
+        tolerances,
         listed: l.listed,
     };
     let lent = lists::front_mut(bytes, l.room);
@@ -128,6 +105,6 @@ pub fn run_related(r: &mut Reader, counts: &mut [u64; 48], bytes: &mut [u8]) {
     let t = StateId(r.short_field());
     let lent = lists::front_mut(bytes, l.room);
     store::fill(lent, l.listed);
-    outcomes::expect_verdict(r, related(left, right, lent, s, t));
+    r.expect_answer(related(left, right, lent, s, t));
     r.count(counts, entries::RELATED);
 }

@@ -1,23 +1,17 @@
 -- What the exported functions on relations return, and what the bytes and references lent to them then hold.
-use Rattle.std.specs.Prelude.{ℕ, List, [], ◌∷◌, Float}
-use Rattle.epsdelta.specs.declared.relation.Ended.{Ended}
-use Rattle.epsdelta.specs.declared.relation.Ended.TheVariants as ended
+use Rattle.std.specs.Prelude.{ℕ, Bool, true, false, Option, Some, None, Result, Ok, Err, List, [], ◌∷◌, Float}
 use Rattle.epsdelta.specs.Outcome as epsdelta
-use Rattle.bisimilar.specs.declared.related.Verdict.{Verdict}
-use Rattle.bisimilar.specs.declared.related.Verdict.TheVariants as verdict
-use Rattle.min_epsilon.specs.declared.least.Least.{Least}
-use Rattle.min_epsilon.specs.declared.least.Least.TheVariants as least
 
 -- 0, or the refusal's number
-abbrev pub of_ended : Ended → ℕ
-of_ended ended.Related = 0
-of_ended (ended.Refused k) = k
+abbrev pub of_ended : Result (Unit {0}) ℕ → ℕ
+of_ended (Ok x) = 0
+of_ended (Err k) = k
 
 -- the number returned, and what the reference then holds: 1 for related, 0 for not; a refusal keeps it
-abbrev pub of_verdict : Verdict → ℕ → List ℕ
-of_verdict verdict.Related x = 0 ∷ 1 ∷ []
-of_verdict verdict.Unrelated x = 0 ∷ 0 ∷ []
-of_verdict (verdict.Refused k) x = k ∷ x ∷ []
+abbrev pub of_verdict : Result Bool ℕ → ℕ → List ℕ
+of_verdict (Ok true) x = 0 ∷ 1 ∷ []
+of_verdict (Ok false) x = 0 ∷ 0 ∷ []
+of_verdict (Err k) x = k ∷ x ∷ []
 
 -- the number returned, and what the references then hold: whether there is a least ε, and that
 pub record Sought : Type 0 where
@@ -30,10 +24,10 @@ abbrev pub sought : ℕ → ℕ → Float → Sought
 sought k p ε = record { number = k; present = p; epsilon = ε }
 
 -- where there is none, ε is kept; a refusal keeps both
-abbrev pub of_least : Least → ℕ → Float → Sought
-of_least (least.At ε) x y = sought 0 1 ε
-of_least least.Absent x y = sought 0 0 y
-of_least (least.Refused k) x y = sought k x y
+abbrev pub of_least : Result (Option Float) ℕ → ℕ → Float → Sought
+of_least (Ok (Some ε)) x y = sought 0 1 ε
+of_least (Ok None) x y = sought 0 0 y
+of_least (Err k) x y = sought k x y
 
 -- what is told, and the bytes of the relation
 pub record Left (A : Type 0) : Type 0 where
@@ -45,13 +39,13 @@ abbrev pub leaves : {A : Type 0} → A → List ℕ → Left A
 leaves x store = record { told = x; relation = store }
 
 -- the answer of `epsdelta`, and the bytes as it leaves them
-abbrev pub answered : epsdelta.Outcome Ended → Left ℕ
+abbrev pub answered : epsdelta.Outcome (Result (Unit {0}) ℕ) → Left ℕ
 answered o = leaves (of_ended o.answer) o.relation
 
 -- the answer of `epsdelta_bisimilar`, and the bytes as it leaves them
-abbrev pub judged : epsdelta.Outcome Verdict → ℕ → Left (List ℕ)
+abbrev pub judged : epsdelta.Outcome (Result Bool ℕ) → ℕ → Left (List ℕ)
 judged o x = leaves (of_verdict o.answer x) o.relation
 
 -- the answer of `min_epsilon`, and the bytes as it leaves them
-abbrev pub searched : epsdelta.Outcome Least → ℕ → Float → Left Sought
+abbrev pub searched : epsdelta.Outcome (Result (Option Float) ℕ) → ℕ → Float → Left Sought
 searched o x y = leaves (of_least o.answer x y) o.relation

@@ -7,10 +7,7 @@ ghost use Rattle.replies.specs.Relations.{of_ended, of_verdict, sought, of_least
 
 use bisim_core::ids::{LabelId, StateId};
 use bisim_core::wlts::Shape;
-use bisimilar::related::Verdict;
-use epsdelta::relation::Ended;
 use flow_core::rows::Answer;
-use min_epsilon::least::Least;
 use numbers::refusal::{Refusal, code};
 
 pub fn put_interned(
@@ -137,44 +134,37 @@ pub fn put_flow(answer: Answer, flow: &mut f64, phases: &mut usize, pushes: &mut
 }
 
 // 0, or the refusal's number.
-pub fn number_of(ended: Ended) -> u32
-    ensures { result ≡ of_ended ended }
+pub fn number_of(ended: Result<(), Refusal>) -> u32
+    ensures { result ≡ of_ended (numbered ended) }
 {
-    match ended {
-        Ended::Related => 0,
-        Ended::Refused(k) => k,
+    code(&ended)
+}
+
+pub fn put_verdict(verdict: Result<bool, Refusal>, related: &mut u32) -> u32
+    ensures { result ∷ related.new ∷ [] ≡ of_verdict (numbered verdict) related.old }
+{
+    match verdict {
+        Ok(holds) => {
+            *related = u32::from(holds);
+            0
+        }
+        Err(_) => code(&verdict),
     }
 }
 
-pub fn put_verdict(answer: Verdict, related: &mut u32) -> u32
-    ensures { result ∷ related.new ∷ [] ≡ of_verdict answer related.old }
+pub fn put_least(least: Result<Option<f64>, Refusal>, any: &mut u32, epsilon: &mut f64) -> u32
+    ensures { sought result any.new epsilon.new ≡ of_least (numbered least) any.old epsilon.old }
 {
-    match answer {
-        Verdict::Related => {
-            *related = 1;
-            0
-        }
-        Verdict::Unrelated => {
-            *related = 0;
-            0
-        }
-        Verdict::Refused(k) => k,
-    }
-}
-
-pub fn put_least(answer: Least, any: &mut u32, epsilon: &mut f64) -> u32
-    ensures { sought result any.new epsilon.new ≡ of_least answer any.old epsilon.old }
-{
-    match answer {
-        Least::At(e) => {
+    match least {
+        Ok(Some(e)) => {
             *any = 1;
             *epsilon = e;
             0
         }
-        Least::Absent => {
+        Ok(None) => {
             *any = 0;
             0
         }
-        Least::Refused(k) => k,
+        Err(_) => code(&least),
     }
 }

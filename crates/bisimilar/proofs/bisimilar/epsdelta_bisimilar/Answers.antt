@@ -1,13 +1,21 @@
--- `bisimilar::epsdelta_bisimilar` meets its contract: the relation, made or refused, is read at the initial states and cleared (Judging).
+-- The relation, made or refused, is read at the initial states and cleared (Judging).
+use mathlib.Core.Path.{refl, ◌∙◌}
 use Rattle.bisim_core.specs.Data.{columns_of}
-use Rattle.bisimilar.proofs.Judging.{ended_by}
+use Rattle.bisimilar.proofs.Judging.{handed_on, ended_by}
 use Rattle.bisimilar.proofs.bisimilar.epsdelta_bisimilar.Goals as goal
+
+pub returns-in_err-epsdelta_unless : goal.returns-in_err-epsdelta_unless
+returns-in_err-epsdelta_unless c =
+    let L = c.args.left.now in
+    let R = c.args.right.now in
+    let t = c.args.tolerances in
+    handed_on c.from_residual.result _ c.epsdelta_unless.new.relation c.from_residual.ensures.1
+    ∙ ended_by L.model.shape (columns_of L.model) R.model.shape (columns_of R.model) L.classes.now R.classes.now t.epsilon t.rho c.args.relation.now _ _ c.one_absent.ensures refl refl c.in_err-epsdelta_unless.ensures
 
 pub returns : goal.returns
 returns c =
-    let a = c.args in
-    let SL = a.left.now.shape in
-    let ML = columns_of a.left.now in
-    let SR = a.right.now.shape in
-    let MR = columns_of a.right.now in
-    ended_by SL ML SR MR a.left_classes.now a.right_classes.now a.epsilon a.rho a.relation.now c.one_absent.ensures c.start.ensures c.start-2.ensures c.epsdelta_unless-ended.ensures c.conclude.ensures
+    let L = c.args.left.now in
+    let R = c.args.right.now in
+    let t = c.args.tolerances in
+    c.conclude.ensures
+    ∙ ended_by L.model.shape (columns_of L.model) R.model.shape (columns_of R.model) L.classes.now R.classes.now t.epsilon t.rho c.args.relation.now _ _ c.one_absent.ensures c.start.ensures c.start-2.ensures c.in_ok-epsdelta_unless.ensures

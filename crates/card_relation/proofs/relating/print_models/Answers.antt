@@ -1,6 +1,6 @@
 -- `relating::print_models` meets its contract: what `epsdelta` ends with is the definition's, and `finish` prints it.
 use lib.ListN.{replicate}
-use Rattle.bisim_core.specs.Data.{columns, columns_of}
+use Rattle.bisim_core.specs.Data.{columns_of}
 use Rattle.epsdelta_theory.specs.Refusal.{epsdelta_refusal}
 use Rattle.epsdelta_theory.specs.Epsdelta.{given}
 use Rattle.epsdelta_theory.specs.Claim.{final}

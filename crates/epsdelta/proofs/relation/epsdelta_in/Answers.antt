@@ -1,30 +1,34 @@
--- `relation::epsdelta_in` meets its contract: what `union` refuses comes first, then what is left (Entering).
+-- What `union` refuses comes first, then what is left (Entering).
 use lib.ListN.{length}
-use Rattle.bisim_core.specs.Data.{columns, columns_of}
+use Rattle.bisim_core.specs.Data.{columns_of}
 use Rattle.bisim_core.specs.Model.{model}
 use Rattle.epsdelta_theory.specs.Jumps.{union}
-use Rattle.epsdelta.proofs.Entering.{ready, rows_are, done}
+use Rattle.epsdelta_jumps.specs.Union.{joined}
+use Rattle.epsdelta.proofs.Entering.{turned_back, few, ready, rows_are, done}
 use Rattle.epsdelta.proofs.relation.epsdelta_in.Goals as goal
 
-pub finish-requires : goal.finish-requires
-finish-requires c =
+pub returns-in_err-refused : goal.returns-in_err-refused
+unfolding joined
+returns-in_err-refused c =
     let a = c.args in
-    let SL = a.left.now.shape in
-    let ML = columns_of a.left.now in
-    let SR = a.right.now.shape in
-    let MR = columns_of a.right.now in
-    let u = c.union-joined.ensures in
-    ready SL ML SR MR a.exits.now a.starts.now a.targets.now a.probs.now (length a.classes.now) c.requires u.0 u.1 c.refused.ensures
+    turned_back a.left.now.model a.right.now.model a.settings.absent a.left.now.classes.now a.right.now.classes.now a.settings.tolerances.epsilon a.settings.tolerances.rho a.relation.now c.from_residual.result _ c.from_residual.ensures.1 (c.in_err-refused.ensures _ _ c.union.ensures.answer)
+
+pub finish-requires-clause-models : goal.finish-requires-clause-models
+unfolding joined
+finish-requires-clause-models c = few c.args.left.now.model c.args.right.now.model (c.in_ok-refused.ensures _ _ c.union.ensures.answer)
+
+pub finish-requires-clause-rows : goal.finish-requires-clause-rows
+unfolding joined
+finish-requires-clause-rows c =
+    let a = c.args in
+    ready a.left.now.model a.right.now.model (c.in_ok-refused.ensures _ _ c.union.ensures.answer) a.rows.now c.union.new.rows (length a.classes.now) c.requires c.union.result c.union.ensures.answer c.union.ensures.laid
 
 pub returns : goal.returns
+unfolding joined
 returns c =
     let a = c.args in
-    let SL = a.left.now.shape in
-    let ML = columns_of a.left.now in
-    let SR = a.right.now.shape in
-    let MR = columns_of a.right.now in
-    let u = c.union-joined.ensures in
-    let r = c.refused.ensures in
-    let m = length a.classes.now in
-    done SL ML SR MR a.exits.now a.starts.now a.targets.now a.probs.now m c.requires u.0 u.1 r a.settings.absent a.left_classes.now a.right_classes.now a.settings.epsilon a.settings.rho a.relation.now
-    (c.finish.ensures (union (model SL ML) (model SR MR)) (rows_are SL ML SR MR a.exits.now a.starts.now a.targets.now a.probs.now m c.requires u.0 u.1 r))
+    let L = a.left.now.model in
+    let R = a.right.now.model in
+    let z = c.in_ok-refused.ensures _ _ c.union.ensures.answer in
+    done L R z a.settings.absent a.left.now.classes.now a.right.now.classes.now a.settings.tolerances.epsilon a.settings.tolerances.rho a.relation.now
+    (c.finish.ensures (union (model L.shape (columns_of L)) (model R.shape (columns_of R))) (rows_are L R z a.rows.now c.union.new.rows (length a.classes.now) c.requires c.union.result c.union.ensures.answer c.union.ensures.laid))

@@ -1,40 +1,29 @@
--- `least::below_one` meets its contract: by the run at ε = 0, which leaves every byte zero (Runs).
+-- By the run at ε = 0, which leaves every byte zero (Runs).
 use mathlib.Core.Path.{refl}
 use Rattle.numbers.specs.Real.{nought}
-use Rattle.bisim_core.specs.Data.{columns, columns_of}
 use Rattle.epsdelta_theory.proofs.MinEpsilon.{nought_valid}
-use Rattle.min_epsilon.proofs.Runs.{zero_still, zero_again, unrefused, allowed}
+use Rattle.min_epsilon.specs.Outcome.{alike}
+use Rattle.min_epsilon.proofs.Runs.{zero_still, zero_again, unrefused, allowed, below_one_nought, below_one_between}
 use Rattle.min_epsilon.proofs.least.below_one.Goals as goal
 
--- src/least.rt:155:9
-pub holds-zero-requires : goal.holds-zero-requires
-holds-zero-requires c =
-    let a = c.args in
-    let SL = a.left.now.shape in
-    let ML = columns_of a.left.now in
-    let SR = a.right.now.shape in
-    let MR = columns_of a.right.now in
-    let cl = a.left_classes.now in
-    let cr = a.right_classes.now in
-    allowed SL ML SR MR cl cr a.rho nought a.relation.now a.relation.now c.requires refl nought_valid
+pub holds-requires : goal.holds-requires
+holds-requires c = allowed c.args.left.now c.args.right.now c.args.rho nought c.args.relation.now c.args.relation.now c.requires refl nought_valid
 
--- src/least.rt:174:5
-pub bisect-requires : goal.bisect-requires
-bisect-requires c =
+pub returns-then-holds : goal.returns-then-holds
+returns-then-holds c =
     let a = c.args in
-    let SL = a.left.now.shape in
-    let ML = columns_of a.left.now in
-    let SR = a.right.now.shape in
-    let MR = columns_of a.right.now in
-    let cl = a.left_classes.now in
-    let cr = a.right_classes.now in
-    let h = c.holds-zero in
-    (h.ensures.0, unrefused SL ML SR MR cl cr a.rho h.new.relation a.relation.now c.requires h.ensures.1, zero_still h.new.relation a.relation.now h.ensures.1)
+    let h = c.holds in
+    (below_one_nought (alike a.left.now a.right.now a.rho) h.result h.ensures.0 c.if-holds.true, h.ensures.1)
 
--- src/least.rt:134:1
+pub bisect-requires-clause-unrefused : goal.bisect-requires-clause-unrefused
+bisect-requires-clause-unrefused c = unrefused c.args.left.now c.args.right.now c.args.rho c.holds.new.relation c.args.relation.now c.requires c.holds.ensures.1
+
+pub bisect-requires-clause-cleared : goal.bisect-requires-clause-cleared
+bisect-requires-clause-cleared c = zero_still c.holds.new.relation c.args.relation.now c.holds.ensures.1
+
 pub returns : goal.returns
 returns c =
     let a = c.args in
-    let h = c.holds-zero in
+    let h = c.holds in
     let b = c.bisect in
-    (b.ensures.0, zero_again b.new.relation h.new.relation a.relation.now h.ensures.1 b.ensures.1)
+    (below_one_between (alike a.left.now a.right.now a.rho) h.result b.result h.ensures.0 c.if-holds.false b.ensures.0, zero_again b.new.relation h.new.relation a.relation.now h.ensures.1 b.ensures.1)

@@ -1,14 +1,13 @@
--- `least::bisect` meets its contract: the loop goes as the definition's halvings do (Halvings), and each run leaves every byte zero.
+-- The loop goes as the definition's halvings do (Halvings), and each run leaves every byte zero.
 use mathlib.Core.Path.{◌≡◌}
 use lib.ListN.{length, replicate}
-use Rattle.bisim_core.specs.Data.{columns, columns_of}
-use Rattle.epsdelta_theory.specs.MinEpsilon.{alike_at}
+use Rattle.min_epsilon.specs.Outcome.{alike}
 use Rattle.min_epsilon.proofs.Halvings.{to_come, Going}
 use Rattle.min_epsilon.proofs.least.bisect.Given as goal
 
 abbrev pub invariant-loop-hi : goal.invariant-loop-hi
 invariant-loop-hi l =
-    (l.relation ≡ replicate (length l.initial.relation) 0) × Going (alike_at l.left.shape (columns_of l.left) l.right.shape (columns_of l.right) l.left_classes l.right_classes l.rho) l.lo l.hi
+    (l.relation ≡ replicate (length l.initial.relation) 0) × Going (alike l.left l.right l.rho) l.lo l.hi
 
 abbrev pub decreases-loop-hi : goal.decreases-loop-hi
 decreases-loop-hi l =

@@ -1,31 +1,22 @@
--- `least::min_epsilon` meets its contract: by the run at ε = 1 (Answering); the claim is epsdelta_theory's law of every search.
-use Rattle.bisim_core.specs.Data.{columns, columns_of}
-use Rattle.epsdelta_theory.proofs.MinEpsilon.{min_epsilon_searched}
-use Rattle.min_epsilon.proofs.Answering.{next_allowed}
+-- By the run at ε = 1 (Answering); the claim is epsdelta_theory's law of every search.
+use mathlib.Core.Path.{◌∙◌}
+use Rattle.bisimilar.proofs.Judging.{handed_on}
+use Rattle.min_epsilon.proofs.Answering.{next_allowed, ends_refused, ends_absent, ends_at}
 use Rattle.min_epsilon.proofs.least.min_epsilon.Goals as goal
 
--- src/least.rt:283:5
-pub after_one-requires : goal.after_one-requires
-after_one-requires c =
+pub returns-in_err-epsdelta_bisimilar-clause-relation_after : goal.returns-in_err-epsdelta_bisimilar-clause-relation_after
+returns-in_err-epsdelta_bisimilar-clause-relation_after c =
     let a = c.args in
-    let SL = a.left.now.shape in
-    let ML = columns_of a.left.now in
-    let SR = a.right.now.shape in
-    let MR = columns_of a.right.now in
-    let cl = a.left_classes.now in
-    let cr = a.right_classes.now in
-    let r = c.epsdelta_bisimilar-first in
-    next_allowed SL ML SR MR cl cr a.rho a.relation.now r.new.relation r.result r.ensures
+    let out = c.epsdelta_bisimilar.new.relation in
+    handed_on c.from_residual.result _ out c.from_residual.ensures.1 ∙ ends_refused a.left.now a.right.now a.rho a.relation.now out _ c.in_err-epsdelta_bisimilar.ensures
 
--- src/least.rt:243:1
-pub returns : goal.returns
-returns c =
-    let a = c.args in
-    let SL = a.left.now.shape in
-    let ML = columns_of a.left.now in
-    let SR = a.right.now.shape in
-    let MR = columns_of a.right.now in
-    let cl = a.left_classes.now in
-    let cr = a.right_classes.now in
-    let r = c.epsdelta_bisimilar-first in
-    record { relation_after = c.after_one.ensures a.relation.now r.ensures; searched = min_epsilon_searched SL ML SR MR cl cr a.rho }
+pub below_one-requires : goal.below_one-requires
+below_one-requires c = next_allowed c.args.left.now c.args.right.now c.args.rho c.args.relation.now c.epsdelta_bisimilar.new.relation _ c.in_ok-epsdelta_bisimilar.ensures
+
+pub returns-then-not-branch-clause-relation_after : goal.returns-then-not-branch-clause-relation_after
+returns-then-not-branch-clause-relation_after c = ends_absent c.args.left.now c.args.right.now c.args.rho c.args.relation.now c.epsdelta_bisimilar.new.relation _ c.in_ok-epsdelta_bisimilar.ensures c.if-not-branch.true
+
+pub returns-clause-relation_after : goal.returns-clause-relation_after
+returns-clause-relation_after c =
+    let b = c.below_one in
+    ends_at c.args.left.now c.args.right.now c.args.rho c.args.relation.now c.epsdelta_bisimilar.new.relation _ c.in_ok-epsdelta_bisimilar.ensures b.result b.new.relation c.if-not-branch.false b.ensures.0 b.ensures.1
