@@ -36,6 +36,7 @@ fn discount_outside(gamma: f64) -> bool
 }
 
 // Turned back with the first of these checks that fails.
+#[tactic(auto, unfolding(crate::specs::Sides::rest_refusal))]
 pub fn rest_refusal(rest: Rest) -> Result<(), Refusal>
     ensures { code result ≡ rest_refusal rest.gamma rest.options (rest.lefts ∷ rest.rights ∷ rest.codes ∷ []) rest.records }
 {

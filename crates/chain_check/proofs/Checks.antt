@@ -1,6 +1,6 @@
 -- The checks of a row and of all rows, as the code makes them.
 use mathlib.Core.Path.{◌≡◌, refl, sym, ap, ◌∙◌}
-use mathlib.Core.Bool.{Bool, true, false, not, ◌&&◌}
+use mathlib.Core.Bool.{Bool, ◌&&◌}
 use mathlib.Core.Logic.{◌⊎◌, inl, inr}
 use Rattle.std.specs.List.{list_all, range_with_len}
 use Prim.Native.Nat.{ℕ, zero, suc, ◌+◌, ◌-◌, ◌≤◌, ◌<◌}
@@ -11,18 +11,14 @@ use lib.Dec.{ltb, leb}
 use lib.Ieee.{Float}
 use lib.ListN.{length, get_or, take, drop, length-take, drop_of_length-le}
 use lib.Seq.{slice}
-use borrow.Author.Tests.{lt-ltb, le-ltb, ne_eqb}
-use Rattle.numbers.specs.Refuse.{check}
 use Rattle.numbers.specs.Lists.{span, all}
 use Rattle.numbers.proofs.Bools.{lt_or_ge}
-use Rattle.numbers.proofs.Refuses.{check_hit, check_skip, hit, skip}
 use Rattle.numbers.proofs.Parts.{drop_take}
 use Rattle.epsdelta_theory.specs.Jumps.{Jump, jumps_of}
 use Rattle.epsdelta_theory.proofs.RowReads.{jumps_length, jumps_targets, jumps_rates, starts_up}
-use Rattle.chain_theory.specs.Columns.{ChainColumns, chain_columns, entries, chain_of}
-use Rattle.chain_theory.specs.Check.{within, ascends, probable, whole, proper, misshapen, improper, chain_refusal}
-use Rattle.chain_theory.specs.declared.ChainShape.{ChainShape}
-use Rattle.chain_theory.proofs.Shaped.{Rows, shaped}
+use Rattle.chain_theory.specs.Columns.{chain_columns, entries}
+use Rattle.chain_theory.specs.Check.{ascends, probable, whole, proper}
+use Rattle.chain_theory.proofs.Shaped.{Rows}
 
 -- ---- a row, by its columns
 
@@ -64,41 +60,3 @@ unfolding span all
 rows_all t f e a zero = refl
 rows_all t f e a (suc n) =
     ap (λ (b : Bool). b && list_all t (range_with_len (a + 1) n)) (e a) ∙ ap (λ (b : Bool). proper (f a) && b) (ap (λ (k : ℕ). list_all t (range_with_len k n)) (add-one a) ∙ rows_all t f e (suc a) n)
-
--- ---- the first check that fails
-
-module _ (lo hi : Float) (H : ChainShape) (C : ChainColumns) where
-  pub is_4 : misshapen H C ≡ true → 4 ≡ chain_refusal lo hi H C
-  unfolding chain_refusal
-  is_4 a = sym (check_hit 4 _ _ a)
-
-  module _ (a : misshapen H C ≡ false) where
-    pub is_7 : length C.observations < H.states → 7 ≡ chain_refusal lo hi H C
-    unfolding chain_refusal
-    is_7 b = sym (check_skip 4 _ _ _ a (check_hit 7 _ _ (lt-ltb _ _ b)))
-
-    module _ (b : H.states ≤ length C.observations) where
-      pub is_12 : all (within lo hi) (take H.states C.observations) ≡ false → 12 ≡ chain_refusal lo hi H C
-      unfolding chain_refusal
-      is_12 c = sym (check_skip 4 _ _ _ a (check_skip 7 _ _ _ (le-ltb _ _ b) (check_hit 12 _ _ (ap not c))))
-
-      module _ (c : all (within lo hi) (take H.states C.observations) ≡ true) where
-        last : (r : ℕ) → check 13 (improper H C) 0 ≡ r → r ≡ chain_refusal lo hi H C
-        unfolding chain_refusal
-        last r e = sym (check_skip 4 _ _ _ a (check_skip 7 _ _ _ (le-ltb _ _ b) (check_skip 12 _ _ _ (ap not c) e)))
-
-        -- a state is there: the initial one
-        some : (H.states ≡ 0) → ⊥
-        some d = let h = (shaped H C a).initial in omega arith
-
-        pub is_large : 2000 < H.states → 13 ≡ chain_refusal lo hi H C
-        is_large e = last 13 (check_hit 13 _ _ (sym (skip _ _ _ (ne_eqb _ _ some) (hit _ _ (sym (lt-ltb _ _ e))))))
-
-        module _ (e : H.states ≤ 2000) where
-          pub is_improper : all proper (map (entries C) (span 0 H.states)) ≡ false → 13 ≡ chain_refusal lo hi H C
-          unfolding chain_of
-          is_improper f = last 13 (check_hit 13 _ _ (sym (skip _ _ _ (ne_eqb _ _ some) (skip _ _ _ (le-ltb _ _ e) (sym (ap not f))))))
-
-          pub is_none : all proper (map (entries C) (span 0 H.states)) ≡ true → 0 ≡ chain_refusal lo hi H C
-          unfolding chain_of
-          is_none f = last 0 (check_skip 13 _ _ _ (sym (skip _ _ _ (ne_eqb _ _ some) (skip _ _ _ (le-ltb _ _ e) (sym (ap not f))))) refl)

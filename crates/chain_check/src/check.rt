@@ -10,6 +10,7 @@ use chain_theory::{Bounds, Chain};
 use numbers::refusal::Refusal;
 
 // Turned back by check 4, 7, 12 or 13; `bounds` are those of the observations. A chain of no states fails 4, since its initial state is none of them.
+#[tactic(auto, unfolding(chain_theory::specs::Check::chain_refusal))]
 pub fn chain_refusal(chain: &Chain, bounds: Bounds) -> Result<(), Refusal>
     ensures { code result ≡ chain_refusal bounds.least bounds.greatest chain.now.shape (of_chain chain.now) }
 {
