@@ -40,16 +40,11 @@ fn steady(model: &Wlts) -> bool
     ensures { result ≡ Model.steady model.now.shape (columns_of model.now) }
 {
     let states = model.shape.states;
-    let offsets = model.offsets;
+    let offsets = &model.offsets[..=states];
     if offsets[0] != 0 || offsets[states] as usize != model.shape.edges {
         return false;
     }
-    for s in 0..states {
-        if offsets[s] > offsets[s + 1] {
-            return false;
-        }
-    }
-    true
+    offsets.is_sorted()
 }
 
 // By label id, then target.
