@@ -9,7 +9,7 @@ use lib.Ieee.{Float, nan, binary64, of_bits, of_fields, div}
 use lib.ListN.{length, get_or, take, drop}
 use lib.Seq.{get_or-take, get_or-drop, take-nil, slice, length-slice}
 use borrow.Author.Tests.{le-leb, eq-eqb}
-use Rattle.std.specs.Prelude.{Option, Some, None, IfSome, unwrap_or}
+use Rattle.std.specs.Prelude.{Option, Some, None, IfSome, unwrap_or, Result, Ok, Err}
 use Rattle.numbers.specs.Bits.{packed}
 use Rattle.numbers.specs.Real.{nought}
 use Rattle.numbers.proofs.Bools.{and_second}
@@ -27,8 +27,7 @@ use Rattle.flow_core.specs.Test.{flow_between}
 use Rattle.flow_core.proofs.Tests.{between_packed}
 use Rattle.flow_core.specs.Outcome.{settled}
 use Rattle.flow_theory.specs.Run.{all_pushes}
-use Rattle.flow_core.specs.declared.rows.Answer.{Answer}
-use Rattle.flow_core.specs.declared.rows.Answer.TheVariants.{Flow, Refused}
+use Rattle.flow_core.specs.declared.Flow.{Flow}
 use Rattle.flow_links.specs.declared.rows.Test.{Test}
 use Rattle.flow_direct.specs.Reaches.{both_reach, reaches, test_both, test_reaches, Known, at_least}
 use Rattle.flow_direct.specs.declared.reach.Ways.{Ways}
@@ -97,8 +96,8 @@ module _ {n : ℕ} {S T : List ℕ} {P : List Float} (F : RowsFit n S T P) where
       sym (and_second _ _ true few (and_second _ _ true same (sym (F.range s h))))
 
   -- two rows of the lists, and the definition's run between them
-  abbrev answer_to : List Bool → ℕ → ℕ → Answer
-  answer_to R s t = let x = run_between n R (row_in S T P s) (row_in S T P t) in Flow x.total (length x.phases) (all_pushes x.phases)
+  abbrev answer_to : List Bool → ℕ → ℕ → Result Flow ℕ
+  answer_to R s t = let x = run_between n R (row_in S T P s) (row_in S T P t) in Ok (record { flow = x.total; phases = length x.phases; pushes = all_pushes x.phases })
 
   -- the answer of the flow test between two rows is that run's, against the bytes of a packed relation
   pub passed_in : (store : List ℕ) (R : List Bool) → store ≡ packed R → (s t : ℕ) → s < n → t < n
@@ -134,14 +133,14 @@ module _ {n : ℕ} {S T : List ℕ} {P : List Float} (F : RowsFit n S T P) where
       K R (even_symmetric n store R z E) s t h k x y q
 
   -- so they do where an answer is plenty
-  pub ample_in : (need plenty : Float) → Plenty n S T P need plenty → (store : List ℕ) (R : List Bool) → store ≡ packed R → Even n store → (s t : ℕ) (r : Answer) → s < n → t < n
+  pub ample_in : (need plenty : Float) → Plenty n S T P need plenty → (store : List ℕ) (R : List Bool) → store ≡ packed R → Even n store → (s t : ℕ) (r : Result Flow ℕ) → s < n → t < n
       → (get_or S (s + 1) 0 ≤ get_or S s 0 + row_most) × (get_or S (t + 1) 0 ≤ get_or S t 0 + row_most) × (at_least plenty r ≡ true) → test_in n S T P plenty R s t ≡ at_least plenty r → (test_in n S T P need R s t ≡ true) × (test_in n S T P need R t s ≡ true)
   ample_in need plenty K store R z E s t r h k (x, y, q) e = K R (even_symmetric n store R z E) s t h k x y (e ∙ q)
 
 -- an answer that is plenty between two rows is plenty, and they are short
-pub ample_is : (a b c d : ℕ) (plenty here : Float) (r : Answer) → Between a b c d plenty here → at_least here r ≡ true → (b ≤ a + row_most) × (d ≤ c + row_most) × (at_least plenty r ≡ true)
-ample_is a b c d plenty here (Flow f p q) B h = B f h
-ample_is a b c d plenty here (Refused k) B h = absurd (false≢true h)
+pub ample_is : (a b c d : ℕ) (plenty here : Float) (r : Result Flow ℕ) → Between a b c d plenty here → at_least here r ≡ true → (b ≤ a + row_most) × (d ≤ c + row_most) × (at_least plenty r ≡ true)
+ample_is a b c d plenty here (Ok f) B h = B f.flow h
+ample_is a b c d plenty here (Err k) B h = absurd (false≢true h)
 
 -- what is known of a flow test, of the definition's
 pub known_test : {X : List Bool → Type 0} (t : Test) (need : Float) (f : List Bool → Bool) (known : Option Bool) → IfSome known (λ passes. passes ≡ test_reaches t need) → ((R : List Bool) → X R → test_reaches t need ≡ f R) → IfSome known (λ passes. (R : List Bool) → X R → f R ≡ passes)

@@ -1,6 +1,7 @@
 // The flow tests that sweeps ask for, on one network that is lent to each of them.
 ghost use Rattle.std.specs.Prelude.{◌≡◌, ℕ, ◌≤◌, ◌<◌, ◌+◌, ◌*◌, ◌-◌, Bool, true, false, List, Float, length};
 ghost use Rattle.numbers.specs.Bits.{packed};
+ghost use Rattle.numbers.specs.Refuse.{numbered};
 ghost use Rattle.epsdelta_theory.proofs.TasksIn.{test_in};
 ghost use Rattle.flow_links.proofs.RowsRead.{Fitting};
 ghost use Rattle.flow_duality.proofs.Places.{Held, Moves, weight};
@@ -13,11 +14,13 @@ use crate::changes::Memory;
 use crate::place::{Place, Terms};
 use crate::rows::test;
 use crate::sweeps::settle;
-use flow::network::{FlowNetwork, new};
+use flow::network::FlowNetwork;
 use flow::rows::flow_rows;
-use flow_core::rows::Answer;
+use flow_check::Ends;
+use flow_core::Flow;
 use flow_links::links::write_links;
 use flow_links::rows::Rows;
+use numbers::refusal::Refusal;
 
 // Rows for the links of a flow test: those of two states with 31 jumps each take 2,046 places.
 #[derive(Drop)]
@@ -72,12 +75,16 @@ fn asked_on(
     memory: &Memory,
     p: Place,
     store: &mut LinkStore,
-) -> Answer
+) -> Result<Flow, Refusal>
     requires { Fitting rows.now × (p.s < rows.now.states) × (p.t < rows.now.states) }
-    ensures { (need : Float) (R : List Bool) → memory.now.relation.now ≡ packed R → (back p.asks ≡ false → test_in rows.now.states rows.now.starts.now rows.now.targets.now rows.now.probs.now need R p.s p.t ≡ at_least need result) × (back p.asks ≡ true → test_in rows.now.states rows.now.starts.now rows.now.targets.now rows.now.probs.now need R p.t p.s ≡ at_least need result) }
+    ensures { (need : Float) (R : List Bool) → memory.now.relation.now ≡ packed R → (back p.asks ≡ false → test_in rows.now.states rows.now.starts.now rows.now.targets.now rows.now.probs.now need R p.s p.t ≡ at_least need (numbered result)) × (back p.asks ≡ true → test_in rows.now.states rows.now.starts.now rows.now.targets.now rows.now.probs.now need R p.t p.s ≡ at_least need (numbered result)) }
 {
     let _link = net.links[0]; // for the proof: a read tells how long the network's arrays are
     let w = lay(rows, memory, p, store);
+    let ends = Ends {
+        source: w.source,
+        sink: w.sink,
+    };
     flow_rows(
         net,
         &mut store.heads,
@@ -85,8 +92,7 @@ fn asked_on(
         &mut store.costs,
         w.places,
         w.nodes,
-        w.source,
-        w.sink,
+        ends,
     )
 }
 
@@ -134,6 +140,5 @@ pub(crate) fn with_rows(terms: &Terms, memory: &mut Memory, first: Place) -> Pla
         caps: [0.0; 2046],
         costs: [0.0; 2046],
     };
-    let made = new(66);
-    on_network(made.net, terms, memory, &mut store, first)
+    on_network(FlowNetwork::empty(), terms, memory, &mut store, first)
 }

@@ -1,6 +1,7 @@
 // Sweeps over the pairs of a relation, until one without a strike. They are left where a flow test is not known without a network, and resumed with its answer.
 ghost use Rattle.std.specs.Prelude.{◌≡◌, ℕ, ◌≤◌, ◌<◌, ◌+◌, ◌*◌, ◌-◌, Bool, true, false, List, Float, length, get_or, IfSome};
 ghost use Rattle.numbers.specs.Bits.{packed};
+ghost use Rattle.numbers.specs.Refuse.{numbered};
 ghost use Rattle.epsdelta_theory.proofs.TasksIn.{RowsFit, test_in};
 ghost use Rattle.flow_links.proofs.RowsRead.{Fitting};
 ghost use Rattle.flow_duality.specs.Spare.{row_most};
@@ -13,8 +14,9 @@ use crate::changes::{Memory, fade, holds, strike, unchanged};
 use crate::place::{Asks, Place, Terms};
 use crate::plenty::plenty_between;
 use crate::rows::test;
-use flow_core::rows::Answer;
+use flow_core::Flow;
 use flow_direct::reach::{Ways, both_ways, enough, verdict};
+use numbers::refusal::Refusal;
 
 // What is known without a network of the flow test from s to t.
 fn judge(terms: &Terms, memory: &Memory, s: usize, t: usize) -> Option<bool>
@@ -194,9 +196,9 @@ pub(crate) fn advance(terms: &Terms, memory: &mut Memory, at: Place) -> Place
 }
 
 // True only if a flow from s to t is plenty: then the test back passes too.
-fn ample(terms: &Terms, at: Place, answer: Answer) -> bool
+fn ample(terms: &Terms, at: Place, answer: Result<Flow, Refusal>) -> bool
     requires { Fitting terms.now.rows × (at.s < terms.now.rows.states) × (at.t < terms.now.rows.states) }
-    ensures { result ≡ true → (get_or terms.now.rows.starts.now (at.s + 1) 0 ≤ get_or terms.now.rows.starts.now at.s 0 + row_most) × (get_or terms.now.rows.starts.now (at.t + 1) 0 ≤ get_or terms.now.rows.starts.now at.t 0 + row_most) × (at_least terms.now.plenty answer ≡ true) }
+    ensures { result ≡ true → (get_or terms.now.rows.starts.now (at.s + 1) 0 ≤ get_or terms.now.rows.starts.now at.s 0 + row_most) × (get_or terms.now.rows.starts.now (at.t + 1) 0 ≤ get_or terms.now.rows.starts.now at.t 0 + row_most) × (at_least terms.now.plenty (numbered answer) ≡ true) }
 {
     enough(answer, plenty_between(terms, at.s, at.t))
 }
@@ -224,9 +226,14 @@ fn tested(terms: &Terms, memory: &mut Memory, at: Place, passes: bool, both: boo
 }
 
 // The answer to the test that a place asks for, and the sweeps from there up to the next that asks.
-pub(crate) fn settle(terms: &Terms, memory: &mut Memory, at: Place, answer: Answer) -> Place
+pub(crate) fn settle(
+    terms: &Terms,
+    memory: &mut Memory,
+    at: Place,
+    answer: Result<Flow, Refusal>,
+) -> Place
     requires { Fitting terms.now.rows × (terms.now.rows.states ≤ length terms.now.rows.exits.now) × Held terms.now.rows.states terms.now.rows.exits.now terms.now.rows.starts.now terms.now.rows.targets.now terms.now.rows.probs.now terms.now.need terms.now.plenty memory.old.relation.now memory.old.changed.now at.s at.t (back at.asks) true
-        × ((x : Float) (R : List Bool) → memory.old.relation.now ≡ packed R → (back at.asks ≡ false → test_in terms.now.rows.states terms.now.rows.starts.now terms.now.rows.targets.now terms.now.rows.probs.now x R at.s at.t ≡ at_least x answer) × (back at.asks ≡ true → test_in terms.now.rows.states terms.now.rows.starts.now terms.now.rows.targets.now terms.now.rows.probs.now x R at.t at.s ≡ at_least x answer)) }
+        × ((x : Float) (R : List Bool) → memory.old.relation.now ≡ packed R → (back at.asks ≡ false → test_in terms.now.rows.states terms.now.rows.starts.now terms.now.rows.targets.now terms.now.rows.probs.now x R at.s at.t ≡ at_least x (numbered answer)) × (back at.asks ≡ true → test_in terms.now.rows.states terms.now.rows.starts.now terms.now.rows.targets.now terms.now.rows.probs.now x R at.t at.s ≡ at_least x (numbered answer))) }
     ensures { Moves terms.now.rows.states terms.now.rows.exits.now terms.now.rows.starts.now terms.now.rows.targets.now terms.now.rows.probs.now terms.now.need terms.now.plenty memory.old.relation.now at.s at.t (back at.asks) at.struck true (weight terms.now.rows.states memory.old.relation.now at.s at.t (back at.asks) at.struck) memory.new.relation.now memory.new.changed.now result.s result.t (back result.asks) result.struck (waits result.asks) × (waits result.asks ≡ false → (result.struck ≡ false) × (terms.now.rows.states ≤ result.s) × (terms.now.rows.states ≤ result.t)) × Same memory.old memory.new }
 {
     let both = ample(terms, at, answer);

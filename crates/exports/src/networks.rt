@@ -1,54 +1,80 @@
 // Networks of links and their maximum flow for C and Rust: over rows of numbers, and on a network that is lent, laid out as C has it.
 ghost use Rattle.std.specs.Prelude.{◌≡◌, length};
-ghost use Rattle.flow_core.specs.Outcome.{ends, Claimed};
+ghost use Rattle.numbers.specs.Refuse.{numbered, code};
+ghost use Rattle.flow_core.specs.Outcome;
+ghost use Rattle.flow_core.specs.Outcome.{Claimed};
 ghost use Rattle.flow.specs.Network;
 ghost use Rattle.flow.specs.Network.{ClaimedOn, leaves, made, added};
 ghost use Rattle.replies.specs.Flows.{told, of_flow};
 ghost use Rattle.exports.specs.Networks.{flow_rows, network_refusal, kept};
 
-use flow::network;
-use flow::network::{FlowNetwork, Made};
-use flow_check::check;
-use flow_core::rows;
-use flow_core::rows::Answer;
+use flow::network::FlowNetwork;
+use flow_check::{Edge, Ends};
+use flow_core::{Flow, rows};
+use numbers::refusal::{Refusal, code};
 use replies::answers;
 
 // The number of starts in a network's rows.
 const STARTS: usize = 67;
 
 // A network that is turned back.
-const NETWORK: u32 = 15;
+const NETWORK: Refusal = Refusal::NetworkOrMasses;
 
+// A network in rows of numbers, its capacities beside it.
+#[derive(Clone, Copy)]
+struct Rows<'a> {
+    heads: &'a [u32],
+    costs: &'a [f64],
+    starts: &'a [u32],
+    list: &'a [u32],
+    nodes: usize,
+}
+
+// The starts as an array.
 fn starts_of(from: &[u32]) -> [u32; 67]
     requires { length from.now ≡ 67 }
     ensures { result ≡ from.now }
 {
     let mut starts = [0u32; 67];
-    let mut i: usize = 0;
-    while i < from.len() {
-        starts[i] = from[i];
-        i += 1;
-    }
+    starts.copy_from_slice(from);
     starts
 }
 
-fn flow_rows(
-    heads: &[u32],
-    caps: &mut [f64],
-    costs: &[f64],
-    starts: &[u32],
-    list: &[u32],
-    nodes: usize,
-    source: usize,
-    sink: usize,
-) -> Answer
-    ensures { ends result caps.new ≡ flow_rows heads.now caps.old costs.now starts.now list.now nodes source sink }
+fn flow_rows(lent: &Rows, caps: &mut [f64], ends: Ends) -> Result<Flow, Refusal>
+    ensures { Outcome.ends (numbered result) caps.new ≡ flow_rows lent.now.heads.now caps.old lent.now.costs.now lent.now.starts.now lent.now.list.now lent.now.nodes ends.source ends.sink }
 {
-    if starts.len() == STARTS {
-        let own = starts_of(starts);
-        return rows::max_flow_rows(heads, caps, costs, &own, list, nodes, source, sink);
+    if lent.starts.len() == STARTS {
+        let own = starts_of(lent.starts);
+        let net = flow_check::Network {
+            heads: lent.heads,
+            costs: lent.costs,
+            starts: &own,
+            list: lent.list,
+            nodes: lent.nodes,
+        };
+        return rows::max_flow_rows(&net, caps, ends);
     }
-    Answer::Refused(NETWORK)
+    Err(NETWORK)
+}
+
+// Whether a network is accepted with these capacities, source and sink.
+fn check_rows(lent: &Rows, caps: &[f64], ends: Ends) -> Result<(), Refusal>
+    ensures { code result ≡ network_refusal lent.now.heads.now caps.now lent.now.costs.now lent.now.starts.now lent.now.list.now lent.now.nodes ends.source ends.sink }
+{
+    if lent.starts.len() == STARTS {
+        let own = starts_of(lent.starts);
+        let net = flow_check::Network {
+            heads: lent.heads,
+            costs: lent.costs,
+            starts: &own,
+            list: lent.list,
+            nodes: lent.nodes,
+        };
+        if net.accepts(caps, ends) {
+            return Ok(());
+        }
+    }
+    Err(NETWORK)
 }
 
 // The maximum flow from source to sink; the capacities are left as the run leaves them.
@@ -72,7 +98,14 @@ pub extern "C" fn tanqesha_max_flow_rows(
     ensures caps_after { caps.new ≡ (flow_rows heads.now caps.old costs.now starts.now list.now nodes source sink).caps }
     ensures claimed { Claimed heads.now caps.old costs.now starts.now list.now nodes source sink }
 {
-    let answer = flow_rows(heads, caps, costs, starts, list, nodes, source, sink);
+    let lent = Rows {
+        heads,
+        costs,
+        starts,
+        list,
+        nodes,
+    };
+    let answer = flow_rows(&lent, caps, Ends { source, sink });
     answers::put_flow(answer, flow, phases, pushes)
 }
 
@@ -90,25 +123,22 @@ pub extern "C" fn tanqesha_network_refusal(
 ) -> u32
     ensures { result ≡ network_refusal heads.now caps.now costs.now starts.now list.now nodes source sink }
 {
-    if starts.len() == STARTS {
-        let own = starts_of(starts);
-        if check::accept(heads, caps, costs, &own, list, nodes, source, sink) {
-            return 0;
-        }
-    }
-    NETWORK
+    let lent = Rows {
+        heads,
+        costs,
+        starts,
+        list,
+        nodes,
+    };
+    code(&check_rows(&lent, caps, Ends { source, sink }))
 }
 
-// A network of so many nodes without links, or the refusal beside the network as it was.
-fn renewed(old: FlowNetwork, nodes: usize) -> Made
-    ensures { result ≡ kept (made nodes) old }
+// Puts a network of so many nodes without links in place of the one lent; a refusal leaves that as it is.
+fn renew(net: &mut FlowNetwork, nodes: usize) -> Result<(), Refusal>
+    ensures { leaves (code result) net.new ≡ kept (made nodes) net.old }
 {
-    let new = network::new(nodes);
-    let refused = new.refused;
-    if refused == 0 {
-        return new;
-    }
-    Made { refused, net: old }
+    *net = FlowNetwork::new(nodes)?;
+    Ok(())
 }
 
 // A network of so many nodes without links.
@@ -116,10 +146,7 @@ fn renewed(old: FlowNetwork, nodes: usize) -> Made
 pub extern "C" fn tanqesha_new_network(nodes: usize, net: &mut FlowNetwork) -> u32
     ensures { leaves result net.new ≡ kept (made nodes) net.old }
 {
-    let old = *net;
-    let out = renewed(old, nodes);
-    *net = out.net;
-    out.refused
+    code(&renew(net, nodes))
 }
 
 // The network with a link from one node to another, and its reverse of capacity 0 and the cost negated.
@@ -133,7 +160,13 @@ pub extern "C" fn tanqesha_add_edge(
 ) -> u32
     ensures { leaves result net.new ≡ added net.old from to capacity cost }
 {
-    network::add_edge(net, from, to, capacity, cost)
+    let edge = Edge {
+        from,
+        to,
+        cap: capacity,
+        cost,
+    };
+    code(&net.add_edge(edge))
 }
 
 // The maximum flow from source to sink on a network: its links keep the capacities that the run leaves.
@@ -151,6 +184,6 @@ pub extern "C" fn tanqesha_max_flow(
         × (net.new ≡ (Network.flow_through net.old source sink).network)
         × ClaimedOn net.old source sink }
 {
-    let answer = network::max_flow(net, source, sink);
+    let answer = net.max_flow(Ends { source, sink });
     answers::put_flow(answer, flow, phases, pushes)
 }

@@ -5,6 +5,8 @@ use mathlib.Core.Bool.{Bool, true, false, cond, ◌&&◌, not, false≢true}
 use Prim.Native.Nat.{ℕ, zero, suc, ◌+◌, ◌*◌, ◌/◌, ◌%◌, ◌≤◌, ◌<◌}
 use mathlib.Core.List.{List, [], map}
 use native.Mathlib.Omega.{arith}
+use Rattle.std.specs.Prelude.{Result, Ok, Err}
+use Rattle.std.specs.Result.{is_ok}
 use lib.Dec.{eqb, leb, leb→le}
 use lib.ListN.{length, get_or, drop, replicate, length-append, length-map, get_or-replicate, get_or-append}
 use lib.Seq.{length-take-le}
@@ -23,7 +25,7 @@ use Rattle.flow_check.proofs.Accepting.{is_infinite, indexable}
 use Rattle.flow_check.proofs.Laying.{list_length}
 use Rattle.flow.specs.declared.network.Link.{Link}
 use Rattle.flow.specs.declared.network.FlowNetwork.{FlowNetwork}
-use Rattle.flow.specs.Network.{heads_of, caps_of, costs_of, made, with_link, fits_on, addable, grown, leaves, added}
+use Rattle.flow.specs.Network.{heads_of, caps_of, costs_of, bare, made, with_link, fits_on, addable, grown, leaves, added}
 use Rattle.flow.proofs.Grows.{EdgeFit, edge_fit, net_fit, row_before, row_forth, row_back, row_size, listed}
 
 -- does the check accept the network
@@ -50,13 +52,24 @@ starts_none : (n i : ℕ) → get_or (starts_of [] n) i 0 ≡ 0
 unfolding node_lists
 starts_none n i = ap (λ (ds : List ℕ). get_or (sums 0 ds) i 0) (degrees_none n) ∙ sums_none n i
 
-pub made_accepted : (n s t : ℕ) → n ≤ 66 → s < n → t < n → s ≢ t → accepts_on (made n).net s t ≡ true
-made_accepted n s t few a b d =
-    rw (le-leb n 66 few, every_none (pair_fits [] [] [] n), lists, every_none (λ i. eqb (get_or (replicate 2176 0) i 0) (get_or (list_of [] n) i 0)), le-leb n 66 few)
+pub bare_accepted : (n s t : ℕ) → n ≤ 66 → s < n → t < n → s ≢ t → accepts_on (bare n) s t ≡ true
+bare_accepted n s t few a b d =
+    rw (every_none (pair_fits [] [] [] n), lists, every_none (λ i. eqb (get_or (replicate 2176 0) i 0) (get_or (list_of [] n) i 0)), le-leb n 66 few)
     (ends_fit_lem [] [] n s t a b d (every_none (λ e. leaves_finite s (get_or [] (rev e) 0) (get_or [] e nan))))
   where
     lists : same_rows (suc n) (replicate 67 0) (starts_of [] n) ≡ true
     lists = every_of (λ i. eqb (get_or (replicate 67 0) i 0) (get_or (starts_of [] n) i 0)) (suc n) (λ i h. eq-eqb (get_or (replicate 67 0) i 0) (get_or (starts_of [] n) i 0) (get_or-replicate {A = ℕ} 67 i 0 0 (omega arith) ∙ sym (starts_none n i)))
+
+pub made_accepted : (n s t : ℕ) (N : FlowNetwork) → made n ≡ Ok N → s < n → t < n → s ≢ t → accepts_on N s t ≡ true
+made_accepted n s t N e a b d = pick (leb n 66) refl e
+  where
+    net_or : Result FlowNetwork ℕ → FlowNetwork
+    net_or (Ok M) = M
+    net_or (Err k) = bare 0
+
+    pick : (y : Bool) → leb n 66 ≡ y → cond {A = Result FlowNetwork ℕ} y (Ok (bare n)) (Err 15) ≡ Ok N → accepts_on N s t ≡ true
+    pick true q r = ap (λ (M : FlowNetwork). accepts_on M s t) (sym (ap net_or r)) ∙ bare_accepted n s t (leb→le n 66 (t_of q)) a b d
+    pick false q r = absurd (false≢true (ap is_ok r))
 
 -- ---- a network with one more link
 

@@ -21,7 +21,7 @@ use Rattle.flow_check.proofs.Relists.{Relisted, laid_over}
 use Rattle.flow.specs.declared.network.Link.{Link}
 use Rattle.flow.specs.declared.network.FlowNetwork.{FlowNetwork}
 use Rattle.numbers.specs.Lists.{over}
-use Rattle.flow.proofs.Packing.{past_end, front_of}
+use Rattle.flow.proofs.Packing.{past_end, front_of, front_rows}
 use Rattle.flow.specs.Network.{heads_of, caps_of, costs_of, with_link, fits_on, grown}
 
 -- the part of a fresh array that holds the first k links
@@ -44,9 +44,9 @@ abbrev blank : List ℕ
 blank = replicate 2176 0
 
 -- the row of heads that was made in the front of a fresh array, as it is read there
-module _ (ls : List Link) (whole : length ls ≡ 2176) (k : ℕ) (few : k ≤ 2176) (h : List ℕ) (made : h ≡ heads_of (length (take k blank)) ls) where
-  pub made_is : h ≡ heads_of k ls
-  made_is = made ∙ ap (λ (i : ℕ). heads_of i ls) (room_length {A = ℕ} k 0 few)
+module _ (ls : List Link) (k : ℕ) (there : k ≤ length ls) (h : List ℕ) (made : h ≡ heads_of (length (take k ls)) (take k ls)) where
+  made_is : h ≡ heads_of k ls
+  made_is = made ∙ front_rows (λ (l : Link). l.head) ls k there
 
   made_length : length h ≡ k
   made_length = ap length made_is ∙ length-take-le k (map (λ (x : Link). x.head) ls) (let q = length-map ls (λ (x : Link). x.head) in omega arith)

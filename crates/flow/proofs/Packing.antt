@@ -31,14 +31,21 @@ module _ {A : Type 0} (f : Link → A) (ls : List Link) (r₀ : List A) (i : ℕ
 
 -- the heads alone
 abbrev pub Heading : List Link → List ℕ → List ℕ → ℕ → Type 0
-Heading ls heads₀ heads i = (i ≤ length heads₀) × Filled (λ (l : Link). l.head) ls heads₀ i heads
+Heading ls heads₀ heads i = (i ≤ length ls) × Filled (λ (l : Link). l.head) ls heads₀ i heads
 
-module _ (ls : List Link) (whole : length ls ≡ 2176) (heads₀ : List ℕ) {heads : List ℕ} {i : ℕ} (within : length heads₀ ≤ 2176) (I : Heading ls heads₀ heads i) where
-  pub row_length : length heads ≡ length heads₀
-  row_length = let u = I.0 in filled_length (λ (l : Link). l.head) ls heads₀ i heads I.1 (omega arith) u
+module _ (ls : List Link) (heads₀ : List ℕ) (size : length heads₀ ≡ length ls) {heads : List ℕ} {i : ℕ} (I : Heading ls heads₀ heads i) where
+  pub heading_on : i < length ls → Heading ls heads₀ (set heads i (get_or ls i past_end).head) (i + 1)
+  heading_on h = (omega arith, filled_on (λ (l : Link). l.head) ls heads₀ i heads I.1 h (omega arith))
 
-  pub heading_on : i < length heads₀ → Heading ls heads₀ (set heads i (get_or ls i past_end).head) (i + 1)
-  heading_on h = (omega arith, filled_on (λ (l : Link). l.head) ls heads₀ i heads I.1 (omega arith) h)
+-- the first n of the first n links
+module _ {A : Type 0} (f : Link → A) where
+  take_map : (ls : List Link) (n : ℕ) → take n (map f (take n ls)) ≡ take n (map f ls)
+  take_map ls zero = refl
+  take_map [] (suc n) = refl
+  take_map (l ∷ ls) (suc n) = ap (λ (r : List A). f l ∷ r) (take_map ls n)
+
+  pub front_rows : (ls : List Link) (n : ℕ) → n ≤ length ls → take (length (take n ls)) (map f (take n ls)) ≡ take n (map f ls)
+  front_rows ls n h = ap (λ (k : ℕ). take k (map f (take n ls))) (length-take-le n ls h) ∙ take_map ls n
 
 -- ---- and back
 

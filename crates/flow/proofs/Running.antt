@@ -5,16 +5,17 @@ use native.Mathlib.Numerals.{add-one}
 use mathlib.Core.List.{List, ◌++◌}
 use native.Mathlib.Omega.{arith}
 use borrow.Author.Tests.{le-leb}
-use lib.ListN.{length, get_or, set, take, drop, take-append-drop}
-use lib.Seq.{length-take-le}
+use lib.ListN.{length, get_or, set, take, drop, take-append-drop, length-append}
+use lib.Seq.{length-take-le, take_at, drop_at}
 use lib.Ieee.{Float}
-use Rattle.flow_core.specs.declared.rows.Answer.{Answer}
+use Rattle.std.specs.Prelude.{Result}
+use Rattle.flow_core.specs.declared.Flow.{Flow}
 use Rattle.flow_core.specs.Outcome as rows
 use Rattle.flow.specs.declared.network.Link.{Link}
 use Rattle.flow.specs.declared.network.FlowNetwork.{FlowNetwork}
 use Rattle.numbers.specs.Lists.{over}
 use Rattle.flow.specs.Network.{heads_of, caps_of, costs_of, with_caps, with_links, Outcome, ends, flow_through, flown, flow_in}
-use Rattle.flow.proofs.Packing.{past_end, fill, fill_next, fill_taken, fill_dropped, fill_over, cap_at, caps_suc, caps_none, caps_with}
+use Rattle.flow.proofs.Packing.{past_end, fill, fill_next, fill_taken, fill_dropped, fill_over, front_rows, cap_at, caps_suc, caps_none, caps_with}
 
 abbrev pub heads_in : List Link → List ℕ → ℕ → List ℕ
 heads_in ls r i = fill (λ (l : Link). l.head) ls r i
@@ -32,7 +33,7 @@ pub record Entered (ls : List Link) (n : ℕ) (hs : List ℕ) (cs ps : List Floa
   pub caps_is : caps ≡ caps_in ls cs i
   pub costs_is : costs ≡ costs_in ls ps i
 
-module _ (ls : List Link) (n : ℕ) (hs : List ℕ) (cs ps : List Float) (few : n ≤ 2176) (whole : length ls ≡ 2176) (wide : n ≤ length hs) (wide_caps : n ≤ length cs) (wide_costs : n ≤ length ps)
+module _ (ls : List Link) (n : ℕ) (hs : List ℕ) (cs ps : List Float) (there : n ≤ length ls) (wide : n ≤ length hs) (wide_caps : n ≤ length cs) (wide_costs : n ≤ length ps)
     {heads : List ℕ} {caps costs : List Float} {i : ℕ} (I : Entered ls n hs cs ps heads caps costs i) where
   pub entered_on : i < n → Entered ls n hs cs ps (set heads i (get_or ls i past_end).head) (set caps i (get_or ls i past_end).cap) (set costs i (get_or ls i past_end).cost) (i + 1)
   entered_on h = record {
@@ -46,12 +47,21 @@ module _ (ls : List Link) (n : ℕ) (hs : List ℕ) (cs ps : List Float) (few : 
   pub entered_all : n ≤ i → (heads ≡ over (heads_of n ls) hs) × (caps ≡ over (caps_of n ls) cs) × (costs ≡ over (costs_of n ls) ps)
   entered_all h =
       let u = I.upto in
-      let e : i ≡ n = omega arith in
-      let there : n ≤ length ls = omega arith in (
+      let e : i ≡ n = omega arith in (
         I.heads_is ∙ ap (heads_in ls hs) e ∙ fill_over (λ (l : Link). l.head) ls hs n there,
         I.caps_is ∙ ap (caps_in ls cs) e ∙ fill_over (λ (l : Link). l.cap) ls cs n there,
         I.costs_is ∙ ap (costs_in ls ps) e ∙ fill_over (λ (l : Link). l.cost) ls ps n there,
       )
+
+-- of the first n links of a network
+pub entered_front : (ls : List Link) (n : ℕ) → n ≤ length ls → (hs : List ℕ) (cs ps : List Float) {heads : List ℕ} {caps costs : List Float}
+    → (heads ≡ over (heads_of (length (take n ls)) (take n ls)) hs) × (caps ≡ over (caps_of (length (take n ls)) (take n ls)) cs) × (costs ≡ over (costs_of (length (take n ls)) (take n ls)) ps)
+    → (heads ≡ over (heads_of n ls) hs) × (caps ≡ over (caps_of n ls) cs) × (costs ≡ over (costs_of n ls) ps)
+entered_front ls n h hs cs ps E = (
+  E.0 ∙ ap (λ (r : List ℕ). over r hs) (front_rows (λ (l : Link). l.head) ls n h),
+  E.1 ∙ ap (λ (r : List Float). over r cs) (front_rows (λ (l : Link). l.cap) ls n h),
+  E.2 ∙ ap (λ (r : List Float). over r ps) (front_rows (λ (l : Link). l.cost) ls n h),
+)
 
 -- the network while capacities are put back: the first j are those of the row
 abbrev pub PutBack : FlowNetwork → List Float → FlowNetwork → ℕ → Type 0
@@ -74,12 +84,12 @@ module _ (N : FlowNetwork) (s t : ℕ) (hs : List ℕ) (cs ps : List Float) wher
   n = N.count
 
   -- what is said of the rows
-  abbrev pub Said : Answer → List Float → Type 0
+  abbrev pub Said : Result Flow ℕ → List Float → Type 0
   Said r z = (rows.ends r (take n z) ≡ rows.flow_on (take n (heads_in N.links hs n)) (take n (caps_in N.links cs n)) (take n (costs_in N.links ps n)) N.starts N.list N.nodes s t)
       × (drop n z ≡ drop n (caps_in N.links cs n))
 
   module _ (few : n ≤ 2176) (whole : length N.links ≡ 2176) where
-    run_is : (r : Answer) (z : List Float) → Said r z → ends r (with_links N (with_caps N.links (take n z))) ≡ flow_through N s t
+    run_is : (r : Result Flow ℕ) (z : List Float) → Said r z → ends r (with_links N (with_caps N.links (take n z))) ≡ flow_through N s t
     run_is r z (e, _) = rw (le-leb n 2176 few)
         (ap (λ (o : rows.Outcome). ends o.answer (with_links N (with_caps N.links o.caps)))
         (e ∙ ap (λ (x : List ℕ). rows.flow_on x (take n (caps_in N.links cs n)) (take n (costs_in N.links ps n)) N.starts N.list N.nodes s t) (fill_taken (λ (l : Link). l.head) N.links hs n (omega arith))
@@ -87,7 +97,7 @@ module _ (N : FlowNetwork) (s t : ℕ) (hs : List ℕ) (cs ps : List Float) wher
         ∙ ap (λ (x : List Float). rows.flow_on (heads_of n N.links) (caps_of n N.links) x N.starts N.list N.nodes s t) (fill_taken (λ (l : Link). l.cost) N.links ps n (omega arith))))
 
     -- the capacities that are left are those of the links, and then what stood there
-    caps_left : (r : Answer) (z : List Float) → Said r z → n ≤ length z → z ≡ over (caps_of n (with_caps N.links (take n z))) cs
+    caps_left : (r : Result Flow ℕ) (z : List Float) → Said r z → n ≤ length z → z ≡ over (caps_of n (with_caps N.links (take n z))) cs
     caps_left r z (_, d) h =
         let l = length-take-le n z h in
         let there : n ≤ length N.links = omega arith in
@@ -96,7 +106,7 @@ module _ (N : FlowNetwork) (s t : ℕ) (hs : List ℕ) (cs ps : List Float) wher
         ∙ ap (λ (m : ℕ). take n z ++ drop m cs) (sym l)
         ∙ ap (λ (y : List Float). over y cs) (sym (caps_with N.links (take n z) n l there))
 
-    pub flow_is : (r : Answer) (z : List Float) → Said r z → n ≤ length z
+    pub flow_is : (r : Result Flow ℕ) (z : List Float) → Said r z → n ≤ length z
         → flown r (with_links N (with_caps N.links (take n z))) (heads_in N.links hs n) z (costs_in N.links ps n) ≡ flow_in N hs cs ps s t
     flow_is r z said h =
         let there : n ≤ length N.links = omega arith in
@@ -107,7 +117,7 @@ module _ (N : FlowNetwork) (s t : ℕ) (hs : List ℕ) (cs ps : List Float) wher
         ∙ ap (λ (o : Outcome). flown o.answer o.network (over (heads_of n N.links) hs) (over (caps_of n o.network.links) cs) (over (costs_of n N.links) ps)) (run_is r z said)
 
     -- the run, with the rows and the network as the loops leave them
-    pub run_done : (r : Answer) (z : List Float) {heads : List ℕ} {caps costs : List Float} {j : ℕ} {N' : FlowNetwork} → (heads ≡ over (heads_of n N.links) hs) × (caps ≡ over (caps_of n N.links) cs) × (costs ≡ over (costs_of n N.links) ps) → PutBack N z N' j → n ≤ j
+    pub run_done : (r : Result Flow ℕ) (z : List Float) {heads : List ℕ} {caps costs : List Float} {j : ℕ} {N' : FlowNetwork} → (heads ≡ over (heads_of n N.links) hs) × (caps ≡ over (caps_of n N.links) cs) × (costs ≡ over (costs_of n N.links) ps) → PutBack N z N' j → n ≤ j
         → (rows.ends r (take n z) ≡ rows.flow_on (take n heads) (take n caps) (take n costs) N.starts N.list N.nodes s t) × (drop n z ≡ drop n caps) → n ≤ length z
         → flown r N' heads z costs ≡ flow_in N hs cs ps s t
     run_done r z {heads = heads} {caps = caps} {costs = costs} {j = j} {N' = N'} E B hj said h =
@@ -119,3 +129,17 @@ module _ (N : FlowNetwork) (s t : ℕ) (hs : List ℕ) (cs ps : List Float) wher
         let ep : costs ≡ costs_in N.links ps n = E.2 ∙ sym (fill_over (λ (l : Link). l.cost) N.links ps n there) in
         let en : N' ≡ with_links N (with_caps N.links (take n z)) = B.1 ∙ ap (λ (m : ℕ). with_links N (with_caps N.links (take m z))) ej in
         rw (eh, ep, en) (flow_is r z (rw (← eh, ← ec, ← ep) said) h)
+
+-- the first n capacities after a run that was lent them, and those past them
+module _ (n : ℕ) (caps new : List Float) (wide : n ≤ length caps) (kept : length new ≡ length (take n caps)) where
+  size : length new ≡ n
+  size = kept ∙ length-take-le n caps wide
+
+  pub lent_front : take n (new ++ drop n caps) ≡ new
+  lent_front = take_at new (drop n caps) n size
+
+  pub lent_rest : drop n (new ++ drop n caps) ≡ drop n caps
+  lent_rest = drop_at new (drop n caps) n size
+
+  pub lent_wide : n ≤ length (new ++ drop n caps)
+  lent_wide = let l = length-append new (drop n caps) in let s = size in omega arith

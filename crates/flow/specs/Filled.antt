@@ -1,11 +1,10 @@
 -- A network that is filled from rows of heads and capacities, and run.
-use Rattle.std.specs.Prelude.{ℕ, zero, suc, ◌%◌, Bool, true, false, ◌&&◌, List, eqb, ltb, leb, length, get_or, set, take, Float}
+use Rattle.std.specs.Prelude.{ℕ, zero, suc, ◌%◌, Bool, true, false, ◌&&◌, List, eqb, ltb, leb, length, get_or, set, take, Err, Float}
 use Rattle.std.specs.Float.{nan}
 use Rattle.std.specs.Float.Ieee.{neg}
 use Rattle.numbers.specs.Real.{nought}
 use Rattle.numbers.specs.Lists.{over, all}
 use Rattle.flow_theory.specs.Rows.{starts_of, list_of}
-use Rattle.flow_core.specs.declared.rows.Answer.TheVariants as says
 use Rattle.flow.specs.declared.network.Link.{Link}
 use Rattle.flow.specs.declared.network.FlowNetwork.{FlowNetwork}
 use Rattle.flow.specs.Network.{Flown, flown, flow_in}
@@ -45,7 +44,7 @@ filled_if false N H c n nodes = N
 -- the run on the network filled from the rows, which has n links; rows that do not fit, 15, leave all as it was
 abbrev pub flow_rows_if : Bool → FlowNetwork → List ℕ → List Float → List Float → ℕ → ℕ → ℕ → ℕ → Flown
 flow_rows_if true N H c p n nodes source sink = flow_in (filled N H c n nodes) H c p source sink
-flow_rows_if false N H c p n nodes source sink = flown (says.Refused 15) N H c p
+flow_rows_if false N H c p n nodes source sink = flown (Err 15) N H c p
 
 abbrev pub flow_rows : FlowNetwork → List ℕ → List Float → List Float → ℕ → ℕ → ℕ → ℕ → Flown
 flow_rows N H c p n nodes source sink = flow_rows_if (rows_fit H (length c) (length p) n nodes) N H c p n nodes source sink

@@ -1,5 +1,5 @@
 -- A network of links: its heads, capacities and costs, and what `new`, `add_edge` and `max_flow` make of it.
-use Rattle.std.specs.Prelude.{ℕ, ◌+◌, List, [], ◌∷◌, map, Bool, true, false, cond, ◌&&◌, leb, take, set, replicate, Float}
+use Rattle.std.specs.Prelude.{ℕ, ◌+◌, List, [], ◌∷◌, map, Bool, true, false, cond, ◌&&◌, leb, take, set, replicate, Result, Ok, Err, Float}
 use Rattle.std.specs.Float.Ieee.{neg}
 use Rattle.numbers.specs.Real.{nought}
 use Rattle.numbers.specs.Lists.{over}
@@ -8,9 +8,7 @@ use Rattle.flow_check.specs.Refusal.{edge_fits, network_fits}
 use Rattle.flow_core.specs.Outcome.{flow_on, Claimed}
 use Rattle.flow.specs.declared.network.Link.{Link}
 use Rattle.flow.specs.declared.network.FlowNetwork.{FlowNetwork}
-use Rattle.flow.specs.declared.network.Made.{Made}
-use Rattle.flow_core.specs.declared.rows.Answer.{Answer}
-use Rattle.flow_core.specs.declared.rows.Answer.TheVariants as says
+use Rattle.flow_core.specs.declared.Flow.{Flow}
 
 -- heads, capacities and costs of the first n links
 abbrev pub heads_of : ℕ → List Link → List ℕ
@@ -38,30 +36,30 @@ with_links N ls = record { links = ls; count = N.count; nodes = N.nodes; starts 
 
 -- how a run ends: its answer, and the network that it leaves
 pub record Outcome : Type 0 where
-  pub answer : Answer
+  pub answer : Result Flow ℕ
   pub network : FlowNetwork
 
-abbrev pub ends : Answer → FlowNetwork → Outcome
+abbrev pub ends : Result Flow ℕ → FlowNetwork → Outcome
 ends a N = record { answer = a; network = N }
 
 -- the run on a network: only the capacities of its links change; over 1,088 added links, which are two links each, are 15
 abbrev pub flow_if : Bool → FlowNetwork → ℕ → ℕ → Outcome
 flow_if true N source sink =
     let o = flow_on (heads_of N.count N.links) (caps_of N.count N.links) (costs_of N.count N.links) N.starts N.list N.nodes source sink in ends o.answer (with_links N (with_caps N.links o.caps))
-flow_if false N source sink = ends (says.Refused 15) N
+flow_if false N source sink = ends (Err 15) N
 
 abbrev pub flow_through : FlowNetwork → ℕ → ℕ → Outcome
 flow_through N source sink = flow_if (leb N.count 2176) N source sink
 
 -- how a run through rows ends: its answer, and the network and the rows of heads, capacities and costs that it leaves
 pub record Flown : Type 0 where
-  pub answer : Answer
+  pub answer : Result Flow ℕ
   pub network : FlowNetwork
   pub heads : List ℕ
   pub caps : List Float
   pub costs : List Float
 
-abbrev pub flown : Answer → FlowNetwork → List ℕ → List Float → List Float → Flown
+abbrev pub flown : Result Flow ℕ → FlowNetwork → List ℕ → List Float → List Float → Flown
 flown a N H c p = record { answer = a; network = N; heads = H; caps = c; costs = p }
 
 -- the run on a network whose links stand in the front of rows meanwhile, with the capacities that it leaves
@@ -74,15 +72,19 @@ flow_in N H c p source sink =
 abbrev pub bare : ℕ → FlowNetwork
 bare n = record { links = replicate 2176 (record { head = 0; cap = nought; cost = nought }); count = 0; nodes = n; starts = replicate 67 0; list = replicate 2176 0 }
 
--- how making a network or adding a link ends: the number of the refusal, and the network that it leaves
-abbrev pub leaves : ℕ → FlowNetwork → Made
-leaves r N = record { refused = r; net = N }
-
--- over 66 nodes are turned back with 15, and the network then has none
-abbrev pub made : ℕ → Made
-made n = cond (leb n 66) (leaves 0 (bare n)) (leaves 15 (bare 0))
+-- over 66 nodes are turned back with 15
+abbrev pub made : ℕ → Result FlowNetwork ℕ
+made n = cond (leb n 66) (Ok (bare n)) (Err 15)
 
 -- ---- adding a link
+
+-- how making a network in place of another or adding a link ends: the number of the refusal, 0 if there is none, and the network that it leaves
+pub record Made : Type 0 where
+  pub refused : ℕ
+  pub net : FlowNetwork
+
+abbrev pub leaves : ℕ → FlowNetwork → Made
+leaves r N = record { refused = r; net = N }
 
 -- link n, and after it its reverse, which has capacity 0 and the cost negated
 abbrev pub with_link : List Link → ℕ → ℕ → ℕ → Float → Float → List Link

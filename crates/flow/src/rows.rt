@@ -1,34 +1,20 @@
 // Links in rows of heads and capacities, put into a network that is lent, and the run on it.
 ghost use Rattle.std.specs.Prelude.{◌≡◌, cond, ◌≤◌, length, take};
+ghost use Rattle.std.specs.Result.{is_ok};
 ghost use Rattle.numbers.specs.Lists.{over};
+ghost use Rattle.numbers.specs.Refuse.{numbered, code};
 ghost use Rattle.flow_theory.specs.Rows.{starts_of, list_of};
+ghost use Rattle.flow_check.specs.Refusal.{refused_unless};
 ghost use Rattle.flow.specs.Network.{flown};
 ghost use Rattle.flow.specs.Filled.{stored, rows_fit, relisted_if, filled_if, flow_rows};
 
 use crate::network;
 use crate::network::{FlowNetwork, Link};
-use flow_check::check;
-use flow_core::rows::Answer;
+use flow_check::{Ends, check};
+use flow_core::Flow;
+use numbers::refusal::Refusal;
 
-// Makes the node lists of the first n heads over the lent lists; false, and these as they were, if the rows, with so many capacities and costs, make no network.
-fn list_rows(
-    heads: &[u32],
-    caps: usize,
-    costs: usize,
-    n: usize,
-    nodes: usize,
-    starts: &mut [u32; 67],
-    list: &mut [u32; 2176],
-) -> bool
-    ensures { (result ≡ rows_fit heads.now caps costs n nodes) × (starts.new ≡ cond result (over (starts_of (take n heads.now) nodes) starts.old) starts.old) × (list.new ≡ cond result (over (list_of (take n heads.now) nodes) list.old) list.old) }
-{
-    if n <= heads.len() && n <= caps && n <= costs {
-        return check::node_lists(&heads[..n], nodes, starts, list);
-    }
-    false
-}
-
-// Makes the node lists of the first n heads over the network's own; false, and the network as it was, if the rows make no network.
+// Makes the node lists of the first n heads over the network's own; the network stays as it was where the rows, with so many capacities and costs, make no network.
 fn list_links(
     net: &mut FlowNetwork,
     heads: &[u32],
@@ -36,12 +22,15 @@ fn list_links(
     costs: usize,
     n: usize,
     nodes: usize,
-) -> bool
-    ensures { (result ≡ rows_fit heads.now caps costs n nodes) × (net.new ≡ relisted_if result net.old (take n heads.now) nodes) }
+) -> Result<(), Refusal>
+    ensures listed { code result ≡ refused_unless (rows_fit heads.now caps costs n nodes) }
+    ensures lists { net.new ≡ relisted_if (rows_fit heads.now caps costs n nodes) net.old (take n heads.now) nodes }
 {
-    list_rows(heads, caps, costs, n, nodes, &mut net.starts, &mut net.list)
+    if n <= heads.len() && n <= caps && n <= costs {
+        return check::node_lists(&heads[..n], nodes, &mut net.starts, &mut net.list);
+    }
+    Err(Refusal::NetworkOrMasses)
 }
-
 // Puts the first n heads and capacities over the network's first links; the links added cost 0, their reverses its negation.
 fn store_links(net: &mut FlowNetwork, heads: &[u32], caps: &[f64], n: usize, nodes: usize)
     requires { (n ≤ 2176) × (n ≤ length heads.now) × (n ≤ length caps.now) }
@@ -60,7 +49,7 @@ fn store_links(net: &mut FlowNetwork, heads: &[u32], caps: &[f64], n: usize, nod
     net.nodes = nodes;
 }
 
-// Fills the network with the links of the rows and their node lists; false, and the network as it was, if the rows, with so many costs, make no network.
+// Fills the network with the links of the rows and their node lists; the network stays as it was where the rows, with so many costs, make no network.
 fn fill(
     net: &mut FlowNetwork,
     heads: &[u32],
@@ -68,14 +57,13 @@ fn fill(
     costs: usize,
     n: usize,
     nodes: usize,
-) -> bool
-    ensures { (result ≡ rows_fit heads.now (length caps.now) costs n nodes) × (net.new ≡ filled_if result net.old heads.now caps.now n nodes) }
+) -> Result<(), Refusal>
+    ensures fits { code result ≡ refused_unless (rows_fit heads.now (length caps.now) costs n nodes) }
+    ensures filled { net.new ≡ filled_if (rows_fit heads.now (length caps.now) costs n nodes) net.old heads.now caps.now n nodes }
 {
-    if list_links(net, heads, caps.len(), costs, n, nodes) {
-        store_links(net, heads, caps, n, nodes);
-        return true;
-    }
-    false
+    list_links(net, heads, caps.len(), costs, n, nodes)?;
+    store_links(net, heads, caps, n, nodes);
+    Ok(())
 }
 
 // The maximum flow from source to sink on a network that is lent and filled with the links of the rows' first n places, two for each added link; the rows keep the capacities and the costs of the links.
@@ -86,13 +74,10 @@ pub fn flow_rows(
     costs: &mut [f64],
     n: usize,
     nodes: usize,
-    source: usize,
-    sink: usize,
-) -> Answer
-    ensures { flown result net.new heads.new caps.new costs.new ≡ flow_rows net.old heads.old caps.old costs.old n nodes source sink }
+    ends: Ends,
+) -> Result<Flow, Refusal>
+    ensures { flown (numbered result) net.new heads.new caps.new costs.new ≡ flow_rows net.old heads.old caps.old costs.old n nodes ends.source ends.sink }
 {
-    if fill(net, heads, caps, costs.len(), n, nodes) {
-        return network::max_flow_in(net, heads, caps, costs, source, sink);
-    }
-    Answer::Refused(15)
+    fill(net, heads, caps, costs.len(), n, nodes)?;
+    network::max_flow_in(net, heads, caps, costs, ends)
 }

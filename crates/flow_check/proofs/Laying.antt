@@ -2,12 +2,13 @@
 use mathlib.Core.Path.{◌≡◌, refl, sym, ap, subst, ◌∙◌}
 use mathlib.Core.Logic.{◌≢◌}
 use mathlib.Core.Bool.{Bool, true, false}
-use Prim.Native.Nat.{ℕ, zero, suc, ◌+◌, ◌-◌, ◌≤◌, ◌<◌}
+use Prim.Native.Nat.{ℕ, zero, suc, ◌+◌, ◌≤◌, ◌<◌}
 use mathlib.Core.List.{List, []}
 use native.Mathlib.Omega.{arith}
 use native.Mathlib.Nat.{le_refl}
 use lib.Dec.{eqb}
 use lib.ListN.{length, get_or, take, drop, length-drop}
+use lib.Pointwise.{pointwise}
 use lib.Seq.{slice, ext_get_or, length-take-le, get_or-take, get_or-drop, take-take, take_all}
 use Rattle.flow_theory.specs.Network.{out, node_lists}
 use borrow.Author.Tests.{eqb-true, eq-eqb, ne_eqb}
@@ -21,6 +22,7 @@ use Rattle.flow_theory.proofs.Enlisted.{sums_first, sizes_node_lists, starts_nex
 use Rattle.numbers.proofs.Alls.{every_at, every_of, every_not}
 use Rattle.numbers.proofs.Bools.{and_t}
 use Rattle.numbers.proofs.Parts.{drop_take}
+use Rattle.flow_check.proofs.Checking.{pointwise_every}
 
 module _ {H : List ℕ} {n : ℕ} (K : Indexable H n) where
   abbrev lists : List (List ℕ)
@@ -129,7 +131,8 @@ module _ {H : List ℕ} {n : ℕ} (K : Indexable H n) (starts list : List ℕ) {
         (λ t. let (a, b) = and_t (same_rows (suc n) starts (starts_of H n)) (same_rows (length H) list (list_of H n)) t in every_of (λ i. eqb (get_or at i 0) (get_or next i 0)) n (λ u h. (eq-eqb _ _) (met a u h ∙ sym (next_at u))))
 
     -- the marks end where the next lists start
-    pub ends_decide : same_rows (length at) at (take (length starts - 1) next) ≡ lists_fit H n starts list
-    ends_decide =
+    pub ends_decide : (k : ℕ) → k ≡ n → n < length starts → pointwise eqb at (take k next) ≡ lists_fit H n starts list
+    ends_decide k q room =
         let d = length-drop 1 starts in
-        ap (λ (k : ℕ). same_rows k at (take (length starts - 1) next)) S.marks ∙ ap (same_rows n at) (take_all (length starts - 1) next (omega arith)) ∙ decide
+        let m = S.marks in
+        ap (λ (x : List ℕ). pointwise eqb x (take k next)) (sym (take_all k at (omega arith))) ∙ pointwise_every at next k (omega arith) (omega arith) ∙ ap (λ (j : ℕ). same_rows j at next) q ∙ decide

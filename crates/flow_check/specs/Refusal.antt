@@ -1,9 +1,9 @@
 -- Refusal 15: which networks are turned back.
-use Rattle.std.specs.Prelude.{ℕ, suc, ◌+◌, ◌/◌, ◌%◌, Bool, false, ◌&&◌, ◌||◌, not, List, eqb, ltb, leb, length, get_or, Float}
+use Rattle.std.specs.Prelude.{ℕ, suc, ◌+◌, ◌/◌, ◌%◌, Bool, true, false, ◌&&◌, ◌||◌, not, List, eqb, ltb, leb, length, get_or, Float}
 use Rattle.std.specs.Float.{inf, nan}
 use Rattle.std.specs.Float.Ieee.{le, eq, neg}
 use Rattle.numbers.specs.Real.{nought, greatest_weight}
-use Rattle.numbers.specs.Lists.{every}
+use Rattle.numbers.specs.Lists.{every, all}
 use Rattle.flow_theory.specs.Network.{rev}
 use Rattle.flow_theory.specs.Rows.{starts_of, list_of}
 
@@ -69,3 +69,14 @@ ends_fit H c nodes source sink = ltb source nodes && (ltb sink nodes && (not (eq
 -- a network that is not refused
 abbrev pub accepts : List ℕ → List Float → List Float → List ℕ → List ℕ → ℕ → ℕ → ℕ → Bool
 accepts H c p starts list nodes source sink = network_fits H c p starts list nodes && ends_fit H c nodes source sink
+
+-- no refusal, or 15
+abbrev pub refused_unless : Bool → ℕ
+refused_unless true = 0
+refused_unless false = 15
+
+-- ---- node lists that are made
+
+-- may the lists of these links between n nodes be made over the lists s and l: there are not too many nodes or links, each head is a node, and there is room
+abbrev pub listable : List ℕ → ℕ → List ℕ → List ℕ → Bool
+listable H n s l = sizes_fit n (length H) (length H) (length H) (length l) && (ltb n (length s) && all (λ v. ltb v n) H)

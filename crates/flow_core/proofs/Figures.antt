@@ -2,6 +2,7 @@
 use mathlib.Core.Path.{◌≡◌, refl}
 use mathlib.Core.Bool.{false}
 use mathlib.Core.List.{List, [], ◌∷◌}
+use Rattle.std.specs.Prelude.{Ok, Err}
 use lib.IntN.{pos, negsuc}
 use lib.Ieee.{Float, fin, inf, le, lt, eq, neg, of_bits}
 use Rattle.numbers.specs.Real.{eps}
@@ -10,7 +11,6 @@ use Rattle.flow_theory.specs.Run.{max_flow}
 use Rattle.flow_theory.specs.Rows.{degrees, sums, joined}
 use Rattle.numbers.specs.Lists.{every}
 use Rattle.flow_core.specs.Outcome.{flow_on}
-use Rattle.flow_core.specs.declared.rows.Answer.TheVariants as says
 
 abbrev none : Float
 none = fin false 0 (pos 0)
@@ -22,21 +22,21 @@ caps = fin false 3 (negsuc 1) ∷ none ∷ fin false 1 (negsuc 0) ∷ none ∷ [
 abbrev free : List Float
 free = none ∷ none ∷ none ∷ none ∷ []
 
-m3 : (flow_on (1 ∷ 0 ∷ 2 ∷ 1 ∷ []) caps free (0 ∷ 1 ∷ 3 ∷ 4 ∷ []) (0 ∷ 1 ∷ 2 ∷ 3 ∷ []) 3 0 2).answer ≡ says.Flow (fin false 1 (negsuc 0)) 1 1
+m3 : (flow_on (1 ∷ 0 ∷ 2 ∷ 1 ∷ []) caps free (0 ∷ 1 ∷ 3 ∷ 4 ∷ []) (0 ∷ 1 ∷ 2 ∷ 3 ∷ []) 3 0 2).answer ≡ Ok (record { flow = fin false 1 (negsuc 0); phases = 1; pushes = 1 })
 unfolding max_flow node_lists degrees sums joined every le lt eq neg of_bits
 m3 = refl
 
 -- one link of 1e-12: flow 0
-m4 : (flow_on (1 ∷ 0 ∷ []) (eps ∷ none ∷ []) (none ∷ none ∷ []) (0 ∷ 1 ∷ 2 ∷ []) (0 ∷ 1 ∷ []) 2 0 1).answer ≡ says.Flow none 0 0
+m4 : (flow_on (1 ∷ 0 ∷ []) (eps ∷ none ∷ []) (none ∷ none ∷ []) (0 ∷ 1 ∷ 2 ∷ []) (0 ∷ 1 ∷ []) 2 0 1).answer ≡ Ok (record { flow = none; phases = 0; pushes = 0 })
 unfolding max_flow node_lists degrees sums joined every le lt eq neg of_bits
 m4 = refl
 
 -- an infinite capacity out of the source is turned back
-infinite_out : (flow_on (1 ∷ 0 ∷ []) (inf false ∷ none ∷ []) (none ∷ none ∷ []) (0 ∷ 1 ∷ 2 ∷ []) (0 ∷ 1 ∷ []) 2 0 1).answer ≡ says.Refused 15
+infinite_out : (flow_on (1 ∷ 0 ∷ []) (inf false ∷ none ∷ []) (none ∷ none ∷ []) (0 ∷ 1 ∷ 2 ∷ []) (0 ∷ 1 ∷ []) 2 0 1).answer ≡ Err 15
 unfolding max_flow node_lists degrees sums joined every le lt eq neg of_bits
 infinite_out = refl
 
 -- node lists in another order are turned back
-lists_other : (flow_on (1 ∷ 0 ∷ 2 ∷ 1 ∷ []) caps free (0 ∷ 1 ∷ 3 ∷ 4 ∷ []) (0 ∷ 2 ∷ 1 ∷ 3 ∷ []) 3 0 2).answer ≡ says.Refused 15
+lists_other : (flow_on (1 ∷ 0 ∷ 2 ∷ 1 ∷ []) caps free (0 ∷ 1 ∷ 3 ∷ 4 ∷ []) (0 ∷ 2 ∷ 1 ∷ 3 ∷ []) 3 0 2).answer ≡ Err 15
 unfolding max_flow node_lists degrees sums joined every le lt eq neg of_bits
 lists_other = refl

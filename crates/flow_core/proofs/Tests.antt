@@ -6,6 +6,7 @@ use mathlib.Core.List.{List, [], ◌∷◌}
 use native.Mathlib.Omega.{arith}
 use native.Mathlib.Numerals.{add-one}
 use lib.ListN.{length, take}
+use Rattle.std.specs.Prelude.{Err}
 use lib.Ieee.{Float, le, of_bits}
 use Rattle.numbers.specs.Real.{nought, greatest_weight}
 use Rattle.numbers.specs.Lists.{all}
@@ -24,9 +25,8 @@ use Rattle.flow_links.proofs.LinkWrites.{links_same}
 use Rattle.flow_links.proofs.Fitting.{Fit, fit, Laid}
 use Rattle.flow_core.specs.Outcome.{settled}
 use Rattle.flow_core.specs.Test.{flow_between}
-use Rattle.flow_core.specs.declared.rows.Answer.TheVariants as says
 
-refused : (us : List ℕ) (vs : List Float) (ts : List ℕ) (ws : List Float) (n : ℕ) → fits us vs ts ws n ≡ false → (R : List Bool) → says.Refused 15 ≡ flow_between us vs ts ws n R
+refused : (us : List ℕ) (vs : List Float) (ts : List ℕ) (ws : List Float) (n : ℕ) → fits us vs ts ws n ≡ false → (R : List Bool) → Err 15 ≡ flow_between us vs ts ws n R
 refused us vs ts ws n f R = ap (λ (b : Bool). (settled b (run_between n R (jumps_of us vs) (jumps_of ts ws)) []).answer) (sym f)
 
 in_range : (ts : List ℕ) (ws : List Float) → all rate_fits ws ≡ true → AllInRange (jumps_of ts ws)

@@ -6,59 +6,61 @@ ghost use Rattle.flow_theory.specs.Levels;
 ghost use Rattle.flow_theory.specs.Network.{Net, nodes};
 ghost use Rattle.flow_theory.specs.Levels.{unset};
 
+use flow_check::Network;
 use numbers::EPS;
 
 // The level of a node that has none.
 pub(crate) const UNSET: usize = 18446744073709551615;
 
+// The nodes that got a level, first in first out: those from `first` on are still to be looked at.
+#[derive(Clone, Copy)]
+struct Queue {
+    nodes: [usize; 66],
+    first: usize,
+    end: usize,
+}
+
 // Looks along the links that leave u: a head without a level gets the next one, and joins the queue.
 fn scan(
-    heads: &[u32],
+    net: &Network,
     caps: &[f64],
     links: &[u32],
     u: usize,
     level: &mut [usize],
-    queue: &mut [usize],
-    tail: usize,
-) -> usize
-    requires { Scannable heads.now links.now caps.now 0 (length links.now) u level.old queue.old tail }
-    ensures { Scanned heads.now links.now caps.now 0 (length links.now) u level.old queue.old level.new queue.new tail result }
+    queue: &mut Queue,
+)
+    requires { Scannable net.now.heads.now links.now caps.now 0 (length links.now) u level.old queue.old.nodes queue.old.end }
+    ensures scanned { Scanned net.now.heads.now links.now caps.now 0 (length links.now) u level.old queue.old.nodes level.new queue.new.nodes queue.old.end queue.new.end }
+    ensures first_kept { queue.new.first ≡ queue.old.first }
 {
-    let mut t = tail;
     for link in links {
         let e = *link as usize;
-        let v = heads[e] as usize;
+        let v = net.heads[e] as usize;
         if caps[e] > EPS && level[v] == UNSET {
             level[v] = level[u] + 1;
-            queue[t] = v;
-            t += 1;
+            queue.nodes[queue.end] = v;
+            queue.end += 1;
         }
     }
-    t
 }
 
 // Sets the levels, from the source on; they come in unset.
-pub(crate) fn levels(
-    heads: &[u32],
-    caps: &[f64],
-    starts: &[u32; 67],
-    list: &[u32],
-    source: usize,
-    level: &mut [usize],
-    queue: &mut [usize],
-)
-    requires { Searchable heads.now list.now starts.now caps.now source level.old queue.old }
-    ensures { (N : Net) → WellFormed N → InRows N heads.now list.now starts.now source → level.old ≡ replicate (nodes N) unset → level.new ≡ Levels.levels N caps.now }
+pub(crate) fn levels(net: &Network, caps: &[f64], source: usize, level: &mut [usize])
+    requires { Searchable net.now.heads.now net.now.list.now net.now.starts.now caps.now source level.old (replicate 66 0) }
+    ensures { (N : Net) → WellFormed N → InRows N net.now.heads.now net.now.list.now net.now.starts.now source → level.old ≡ replicate (nodes N) unset → level.new ≡ Levels.levels N caps.now }
 {
+    let mut queue = Queue {
+        nodes: [0; 66],
+        first: 0,
+        end: 1,
+    };
     level[source] = 0;
-    queue[0] = source;
-    let mut head: usize = 0;
-    let mut tail: usize = 1;
-    while head < tail {
-        let u = queue[head];
-        let from = starts[u] as usize;
-        let to = starts[u + 1] as usize;
-        head += 1;
-        tail = scan(heads, caps, &list[from..to], u, level, queue, tail);
+    queue.nodes[0] = source;
+    while queue.first < queue.end {
+        let u = queue.nodes[queue.first];
+        let from = net.starts[u] as usize;
+        let to = net.starts[u + 1] as usize;
+        queue.first += 1;
+        scan(net, caps, &net.list[from..to], u, level, &mut queue);
     }
 }

@@ -1,5 +1,5 @@
 -- Whether the flow of a flow test is enough.
-use Rattle.std.specs.Prelude.{ℕ, Bool, true, false, ◌&&◌, ◌≡◌, ⊤, List, Float}
+use Rattle.std.specs.Prelude.{ℕ, Bool, true, false, ◌&&◌, ◌≡◌, ⊤, List, Result, Ok, Err, Float}
 use Rattle.std.specs.Float.Ieee.{le}
 use Rattle.epsdelta_theory.specs.Jumps.{jumps_of}
 use Rattle.epsdelta_theory.specs.FlowTest.{run_between}
@@ -8,8 +8,7 @@ use Rattle.flow_links.specs.Fits.{fits}
 use Rattle.flow_links.specs.declared.rows.Test.{Test}
 use Rattle.flow_direct.specs.declared.reach.Ways.{Ways}
 use Rattle.flow_direct.specs.declared.reach.Ways.TheVariants as ways
-use Rattle.flow_core.specs.declared.rows.Answer.{Answer}
-use Rattle.flow_core.specs.declared.rows.Answer.TheVariants as says
+use Rattle.flow_core.specs.declared.Flow.{Flow}
 
 -- targets and rates of both rows, the states and the relation: the rows fit, and the flow of the run is at least what is needed
 abbrev pub reaches : List ℕ → List Float → List ℕ → List Float → ℕ → List Bool → Float → Bool
@@ -34,6 +33,6 @@ Known T need plenty ways.Forth = test_reaches T need ≡ true
 Known T need plenty ways.Unknown = ⊤
 
 -- the same of an answer; a refusal is no flow
-abbrev pub at_least : Float → Answer → Bool
-at_least need (says.Flow f p q) = le need f
-at_least need (says.Refused k) = false
+abbrev pub at_least : Float → Result Flow ℕ → Bool
+at_least need (Ok f) = le need f.flow
+at_least need (Err k) = false

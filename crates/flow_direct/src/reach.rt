@@ -2,6 +2,7 @@
 ghost use Rattle.std.specs.Prelude.{◌≡◌, true, ℕ, ◌≤◌, ◌<◌, ◌*◌, length, get_or, Float, IfSome};
 ghost use Rattle.std.specs.Float.{nan};
 ghost use Rattle.numbers.specs.Real.{nought};
+ghost use Rattle.numbers.specs.Refuse.{numbered};
 ghost use Rattle.flow_links.specs.Lent.{test_fits};
 ghost use Rattle.flow_links.proofs.Fitting.{TestFit};
 ghost use Rattle.flow_routes.proofs.Reaching.{Told};
@@ -9,20 +10,17 @@ ghost use Rattle.flow_direct.specs.Reaches.{at_least, test_reaches, Known};
 
 use crate::give::{Rest, give_rows};
 use crate::settle::search_on;
-use flow_core::rows::Answer;
+use flow_core::Flow;
 use flow_links::rows::Test;
+use numbers::refusal::Refusal;
 
 // Whether an answer is a flow that is enough.
-pub fn enough(answer: Answer, need: f64) -> bool
-    ensures { result ≡ at_least need answer }
+pub fn enough(answer: Result<Flow, Refusal>, need: f64) -> bool
+    ensures { result ≡ at_least need (numbered answer) }
 {
     match answer {
-        Answer::Flow {
-            flow: f,
-            phases: _,
-            pushes: _,
-        } => need <= f,
-        Answer::Refused(_) => false,
+        Ok(f) => need <= f.flow,
+        Err(_) => false,
     }
 }
 

@@ -1,23 +1,20 @@
 -- What `walk` leaves to the push: the links of the path are there, and path and push together are the definition's `augment`.
-use mathlib.Core.Path.{◌≡◌, refl, sym, ap, subst, ◌∙◌}
-use Prim.Native.Nat.{ℕ, zero, suc, ◌≤◌, ◌<◌}
+use mathlib.Core.Path.{◌≡◌, sym, ap, subst, ◌∙◌}
+use Prim.Native.Nat.{ℕ, ◌<◌}
 use mathlib.Core.Bool.{true, false}
-use mathlib.Core.Logic.{◌≢◌, inl, inr}
+use mathlib.Core.Logic.{inl, inr}
 use mathlib.Core.List.{List, [], ◌∷◌, reverse, reverse-reverse}
 use lib.ListN.{length, get_or, take}
+use Rattle.std.specs.Prelude.{Some}
 use lib.Ieee.{Float, of_bits, binary64, inf}
 use Rattle.flow_theory.specs.Network.{Net, tail, residual}
-use Rattle.flow_theory.specs.Augment.{reached, Pushed, push, least, push_path, augment, walk_fuel}
+use Rattle.flow_theory.specs.Augment.{Placed, reached, blocked, Pushed, push, least, push_path, augment, walk_fuel}
 use Rattle.numbers.specs.Lists.{In}
 use Rattle.numbers.proofs.Members.{in_at, in_reverse}
 use Rattle.flow_theory.proofs.Links.{residual_in, rev_in}
 use Rattle.flow_theory.proofs.Paths.{Path, Ended, walk_ok}
-use Rattle.flow_theory.proofs.PathRows.{Walkable, Placed, Routed, routed}
+use Rattle.flow_theory.proofs.PathRows.{Walkable, Routed}
 use Rattle.flow_theory.proofs.Walking.{ending, walk_starts}
-
-routed_some : (n : ℕ) (p nx : List ℕ) → n ≢ 0 → reached (reverse (take n p)) nx ≡ routed n p nx
-routed_some zero p nx h = absurd (h refl)
-routed_some (suc n) p nx h = refl
 
 -- the links of a path have capacity left, so they are there
 on_path : (N : Net) (c : List Float) (L nx p : List ℕ) (u e : ℕ) → Path N c L nx p u → In e p → e < length c
@@ -29,41 +26,34 @@ module _ {N : Net} {starts list : List ℕ} {c : List Float} {L nx : List ℕ} (
   ended : Ended N c L (ending N c L nx)
   ended = walk_ok N W.good c W.began L W.levels (walk_fuel N) (record { at = N.source; path = []; next = nx }) (walk_starts W)
 
-  module _ {f : ℕ} {p nx' : List ℕ} (R : Routed f p nx' (ending N c L nx)) where
-    pub blocked_push : f ≡ 0 → ◌≡◌ {A = Pushed} (record { amount = of_bits binary64 0; cap = c; next = nx' }) (augment N c L nx)
-    unfolding augment push of_bits
-    blocked_push b = ap (push c) (ap (λ (g : ℕ). routed g p nx') (sym b) ∙ R.same)
+  pub blocked_push : {nx' : List ℕ} → blocked nx' ≡ ending N c L nx → ◌≡◌ {A = Pushed} (record { amount = of_bits binary64 0; cap = c; next = nx' }) (augment N c L nx)
+  unfolding augment push of_bits
+  blocked_push e = ap (push c) e
 
-    module _ (is : f ≢ 0) where
-      abbrev n : ℕ
-      n = f
+  module _ {n : ℕ} (p : List ℕ) {nx' : List ℕ} (R : Routed (Some n) p nx' (ending N c L nx)) where
+    same : reached (reverse (take n p)) nx' ≡ ending N c L nx
+    same = R.1
 
-      same : reached (reverse (take n p)) nx' ≡ ending N c L nx
-      same = routed_some f p nx' is ∙ R.same
+    path : Path N c L nx' (reverse (take n p)) N.sink
+    path = (subst (Ended N c L) (sym same) ended).2
 
-      there : n ≤ length p
-      there = R.within
+    known : (i : ℕ) → i < length (take n p) → get_or (take n p) i 0 < length c
+    known i h =
+        let e = get_or (take n p) i 0 in
+        on_path N c L nx' (reverse (take n p)) N.sink e path (in_reverse e (reverse (take n p)) (subst (In e) (sym (reverse-reverse (take n p))) (in_at (take n p) i 0 h)))
 
-      path : Path N c L nx' (reverse (take n p)) N.sink
-      path = (subst (Ended N c L) (sym same) ended).2
+    pub placed : Placed c (take n p)
+    placed = record {
+      link_in = known;
+      rev_in = λ i h. let q = W.caps.size ∙ W.good.pairs in rw q (rev_in (get_or (take n p) i 0) W.good.added (rw (← q) (known i h)));
+    }
 
-      known : (i : ℕ) → i < length (take n p) → get_or (take n p) i 0 < length c
-      known i h =
-          let e = get_or (take n p) i 0 in
-          on_path N c L nx' (reverse (take n p)) N.sink e path (in_reverse e (reverse (take n p)) (subst (In e) (sym (reverse-reverse (take n p))) (in_at (take n p) i 0 h)))
-
-      pub placed : Placed c (take n p)
-      placed = record {
-        link_in = known;
-        rev_in = λ i h. let q = W.caps.size ∙ W.good.pairs in rw q (rev_in (get_or (take n p) i 0) W.good.added (rw (← q) (known i h)));
-      }
-
-      pub reached_push : (x : Float) (d : List Float) → x ≡ least c (inf false) (take n p) → d ≡ push_path x (take n p) c
-          → ◌≡◌ {A = Pushed} (record { amount = x; cap = d; next = nx' }) (augment N c L nx)
-      unfolding augment push
-      reached_push x d a b =
-          let q = reverse-reverse (take n p) in
-          ap (λ (e : List Float). record { amount = x; cap = e; next = nx' }) b
-          ∙ ap (λ (y : Float). record { amount = y; cap = push_path y (take n p) c; next = nx' }) a
-          ∙ ap (λ (es : List ℕ). record { amount = least c (inf false) es; cap = push_path (least c (inf false) es) es c; next = nx' }) (sym q)
-          ∙ ap (push c) same
+    pub reached_push : (x : Float) (d : List Float) → x ≡ least c (inf false) (take n p) → d ≡ push_path x (take n p) c
+        → ◌≡◌ {A = Pushed} (record { amount = x; cap = d; next = nx' }) (augment N c L nx)
+    unfolding augment push
+    reached_push x d a b =
+        let q = reverse-reverse (take n p) in
+        ap (λ (e : List Float). record { amount = x; cap = e; next = nx' }) b
+        ∙ ap (λ (y : Float). record { amount = y; cap = push_path y (take n p) c; next = nx' }) a
+        ∙ ap (λ (es : List ℕ). record { amount = least c (inf false) es; cap = push_path (least c (inf false) es) es c; next = nx' }) (sym q)
+        ∙ ap (push c) same

@@ -55,7 +55,7 @@ module _ {N : Net} {starts list : List ℕ} {c₀ : List Float} {L nx₀ : List 
       pushed = record { amount = x; cap = d; next = nx' }
 
       -- nothing was pushed: the phase is at its end
-      pub phase_ends : le x (of_bits binary64 4427486594234968593) ≡ true → PhaseRan N L t c₀ flow count d
+      pub phase_ends : le x (of_bits binary64 4427486594234968593) ≡ true → PhaseRan N L t c₀ (record { flow = flow; count = count }) d
       unfolding no_push
       phase_ends h =
           let (k, P, s) = spare in

@@ -1,12 +1,14 @@
 -- Words of private contracts: a path and its push over rows.
 use mathlib.Core.Path.{◌≡◌}
-use Prim.Native.Nat.{ℕ, zero, suc, ◌≤◌, ◌<◌}
+use Prim.Native.Nat.{ℕ, ◌≤◌, ◌<◌}
+use Rattle.std.specs.Prelude.{Option, Some, None}
 use mathlib.Core.List.{List, reverse}
 use lib.ListN.{length, get_or, take}
 use mathlib.Core.Bool.{true, false}
 use mathlib.Core.Logic.{◌≢◌, ◌⊎◌}
 use lib.Ieee.{Float}
-use Rattle.flow_theory.specs.Network.{Net, nodes, rev, residual}
+use Rattle.flow_theory.specs.Network.{Net, nodes, residual}
+use Rattle.flow_theory.specs.Augment
 use Rattle.flow_theory.specs.Augment.{Walked, reached, blocked}
 use Rattle.flow_theory.proofs.Links.{WellFormed, Caps}
 use Rattle.flow_theory.proofs.Levels.{Levels}
@@ -43,16 +45,15 @@ pub record Sought (H list : List ℕ) (c : List Float) (L : List ℕ) (want at t
   pub passed : (j : ℕ) → at ≤ j → j < r → Idle H c L want (get_or list j 0)
   pub found : r < to → Leads H c L want (get_or list r 0)
 
--- the links of a path, and their reverses, have capacities
-pub record Placed (c : List Float) (p : List ℕ) : Type 0 where
-  pub link_in : (i : ℕ) → i < length p → get_or p i 0 < length c
-  pub rev_in : (i : ℕ) → i < length p → rev (get_or p i 0) < length c
+abbrev pub Placed : List Float → List ℕ → Type 0
+Placed c p = Augment.Placed c p
 
--- how the code's walk ended: so many links on the path, none where there is none; the definition's path has the last link first
-abbrev pub routed : ℕ → List ℕ → List ℕ → Walked
-routed zero p nx = blocked nx
-routed (suc n) p nx = reached (reverse (take (suc n) p)) nx
+-- what a search of a whole row finds: the place of its first link that leads to the level, if there is one
+abbrev pub Found : List ℕ → List ℕ → List Float → List ℕ → ℕ → Option ℕ → Type 0
+Found H row c L want (Some k) = (k < length row) × Sought H row c L want 0 (length row) k
+Found H row c L want None = Sought H row c L want 0 (length row) (length row)
 
-pub record Routed (n : ℕ) (p nx : List ℕ) (end : Walked) : Type 0 where
-  pub within : n ≤ length p
-  pub same : routed n p nx ≡ end
+-- how the code's walk ended: so many links on the path, if there is one; the definition's path has the last link first
+abbrev pub Routed : Option ℕ → List ℕ → List ℕ → Walked → Type 0
+Routed None p nx end = blocked nx ≡ end
+Routed (Some n) p nx end = (n ≤ length p) × (reached (reverse (take n p)) nx ≡ end)

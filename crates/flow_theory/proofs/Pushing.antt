@@ -8,31 +8,30 @@ use native.Mathlib.Numerals.{add-one}
 use lib.Bits.{bit_xor}
 use lib.ListN.{length, get_or, set, drop, length-set, drop_of_length-le}
 use lib.Seq.{drop-cons}
-use lib.Ieee.{Float, binary64, inf, nan, lt, add, sub}
+use lib.Ieee.{Float, binary64, nan, lt, add, sub}
 use Rattle.numbers.specs.Choice.{choose, smaller}
 use Rattle.flow_theory.specs.Network.{left}
-use Rattle.flow_theory.specs.Augment.{least, push_link, push_path}
+use Rattle.flow_theory.specs.Augment.{Placed, least, push_link, push_path}
 use Rattle.flow_theory.proofs.Links.{rev_xor}
-use Rattle.flow_theory.proofs.PathRows.{Placed}
 
 -- what is still to come of the path leads from x to the least
-pub record Least (c : List Float) (p : List ℕ) (i : ℕ) (x : Float) : Type 0 where
+pub record Least (x₀ : Float) (c : List Float) (p : List ℕ) (i : ℕ) (x : Float) : Type 0 where
   pub ends : i ≤ length p
-  pub same : least c x (drop i p) ≡ least c (inf false) p
+  pub same : least c x (drop i p) ≡ least c x₀ p
 
-module _ {c : List Float} {p : List ℕ} where
-  module _ {i : ℕ} {x : Float} (I : Least c p i x) (more : i < length p) where
-    step_least : (b : Bool) → lt (get_or c (get_or p i 0) nan) x ≡ b → least c (choose b (get_or c (get_or p i 0) nan) x) (drop (suc i) p) ≡ least c (inf false) p
+module _ {x₀ : Float} {c : List Float} {p : List ℕ} where
+  module _ {i : ℕ} {x : Float} (I : Least x₀ c p i x) (more : i < length p) where
+    step_least : (b : Bool) → lt (get_or c (get_or p i 0) nan) x ≡ b → least c (choose b (get_or c (get_or p i 0) nan) x) (drop (suc i) p) ≡ least c x₀ p
     unfolding least smaller
     step_least b t = ap (λ (d : Bool). least c (choose d (get_or c (get_or p i 0) nan) x) (drop (suc i) p)) (sym t) ∙ ap (least c x) (sym (drop-cons p i 0 more)) ∙ I.same
 
-    pub lower : lt (get_or c (get_or p i 0) nan) x ≡ true → (y : Float) → y ≡ get_or c (get_or p i 0) nan → Least c p (i + 1) y
+    pub lower : lt (get_or c (get_or p i 0) nan) x ≡ true → (y : Float) → y ≡ get_or c (get_or p i 0) nan → Least x₀ c p (i + 1) y
     lower t y q = record { ends = omega arith; same = rw (add-one i, q) (step_least true t) }
 
-    pub stays : lt (get_or c (get_or p i 0) nan) x ≡ false → (y : Float) → y ≡ x → Least c p (i + 1) y
+    pub stays : lt (get_or c (get_or p i 0) nan) x ≡ false → (y : Float) → y ≡ x → Least x₀ c p (i + 1) y
     stays t y q = record { ends = omega arith; same = rw (add-one i, q) (step_least false t) }
 
-  pub least_ends : {i : ℕ} {x : Float} → Least c p i x → length p ≤ i → x ≡ least c (inf false) p
+  pub least_ends : {i : ℕ} {x : Float} → Least x₀ c p i x → length p ≤ i → x ≡ least c x₀ p
   unfolding least
   least_ends {i} {x} I le =
       let e = I.ends in

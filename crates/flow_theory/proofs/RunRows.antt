@@ -2,10 +2,11 @@
 use mathlib.Core.Path.{◌≡◌}
 use mathlib.Core.Logic.{◌≢◌}
 use Prim.Native.Nat.{ℕ, ◌≤◌, ◌<◌}
-use mathlib.Core.Bool.{Bool, true, false}
 use mathlib.Core.List.{List, []}
 use lib.ListN.{length, replicate}
 use lib.Ieee.{Float}
+use Rattle.std.specs.Prelude.{Option, Some, None}
+use Rattle.flow_theory.specs.declared.AfterPhase.{AfterPhase}
 use Rattle.flow_theory.specs.Network.{Net, nodes, links}
 use Rattle.flow_theory.specs.Levels.{unset, level_of, levels}
 use Rattle.flow_theory.specs.Run.{PhaseState, phase, FlowRun, all_pushes}
@@ -27,26 +28,19 @@ pub record PhaseReady (N : Net) (starts list : List ℕ) (c : List Float) (L nx 
   pub levels : Levels N c L
   pub fresh : nx ≡ replicate (nodes N) 0
 
--- a round may begin: no level is set, no link is marked, and the queue has a place for each node
-pub record RoundReady (N : Net) (starts list : List ℕ) (c : List Float) (L q nx : List ℕ) : Type 0 where
-  pub base : Runnable N starts list c
-  pub unset : L ≡ replicate (nodes N) unset
-  pub fresh : nx ≡ replicate (nodes N) 0
-  pub room : nodes N ≤ length q
-
 -- the definition's phase from a flow t and capacities c
 abbrev pub phase_from : Net → List ℕ → Float → List Float → PhaseState
 phase_from N L t c = phase N (record { total = t; cap = c; level = []; phases = [] }) L
 
-pub record PhaseRan (N : Net) (L : List ℕ) (t : Float) (c : List Float) (flow : Float) (count : ℕ) (d : List Float) : Type 0 where
-  pub flow_is : flow ≡ (phase_from N L t c).total
-  pub count_is : count ≡ (phase_from N L t c).pushes
+pub record PhaseRan (N : Net) (L : List ℕ) (t : Float) (c : List Float) (p : AfterPhase) (d : List Float) : Type 0 where
+  pub flow_is : p.flow ≡ (phase_from N L t c).total
+  pub count_is : p.count ≡ (phase_from N L t c).pushes
   pub caps_is : d ≡ (phase_from N L t c).cap
 
 -- what a round leaves: a phase where the levels reach the sink, and nothing changed where they do not
-abbrev pub RoundRan : Net → Float → List Float → Bool → Float → ℕ → List Float → Type 0
-RoundRan N t c true flow count d = (level_of (levels N c) N.sink ≢ unset) × PhaseRan N (levels N c) t c flow count d
-RoundRan N t c false flow count d = (level_of (levels N c) N.sink ≡ unset) × (d ≡ c)
+abbrev pub RoundRan : Net → Float → List Float → Option AfterPhase → List Float → Type 0
+RoundRan N t c (Some p) d = (level_of (levels N c) N.sink ≢ unset) × PhaseRan N (levels N c) t c p d
+RoundRan N t c None d = (level_of (levels N c) N.sink ≡ unset) × (d ≡ c)
 
 -- what is reported of a run, and the capacities that it leaves
 pub record Ran (run : FlowRun) (flow : Float) (phases pushes : ℕ) (d : List Float) : Type 0 where

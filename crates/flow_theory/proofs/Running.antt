@@ -1,10 +1,11 @@
 -- A run on its way: a round with a phase is one step of the definition's `run`, and a round whose levels do not reach the sink is its end; the counts stay small.
 use mathlib.Core.Path.{◌≡◌, refl, sym, ap, subst⁻¹, ◌∙◌}
-use mathlib.Core.Bool.{true, false}
 use Prim.Native.Nat.{ℕ, zero, suc, ◌+◌, ◌*◌, ◌≤◌, ◌<◌}
 use mathlib.Core.List.{List, [], ◌∷◌}
 use native.Mathlib.Omega.{arith}
 use lib.ListN.{length}
+use Rattle.std.specs.Prelude.{Some, None}
+use Rattle.flow_theory.specs.declared.AfterPhase.{AfterPhase}
 use lib.Ieee.{Float, of_bits, binary64}
 use Rattle.flow_theory.specs.Network.{Net, nodes}
 use Rattle.flow_theory.specs.Levels.{level_of, levels}
@@ -58,9 +59,9 @@ module _ {N : Net} {starts list : List ℕ} {c₀ : List Float} (R : Runnable N 
         pick zero J e = let f = J.fuel in let l = J.low in absurd (omega arith)
         pick (suc k) J e = (k, J, e)
 
-    pub run_ends : (f : Float) (n : ℕ) {d : List Float} → RoundRan N flow c false f n d → Ran (max_flow N c₀) flow count pushes d
+    pub run_ends : {d : List Float} → RoundRan N flow c None d → Ran (max_flow N c₀) flow count pushes d
     unfolding at_end
-    run_ends f n Q =
+    run_ends Q =
         let (k, J, s) = spare in
         let e : at_end state (levels N c) ≡ max_flow N c₀ = sym (run_end N k state Q.0) ∙ s in
         record {
@@ -70,15 +71,15 @@ module _ {N : Net} {starts list : List ℕ} {c₀ : List Float} (R : Runnable N 
           caps_is = Q.1 ∙ ap (λ (r : FlowRun). r.cap) e;
         }
 
-    module _ {f : Float} {n : ℕ} {d : List Float} (Q : RoundRan N flow c true f n d) where
+    module _ {p : AfterPhase} {d : List Float} (Q : RoundRan N flow c (Some p) d) where
       passed : PhaseState
       passed = phase N state (levels N c)
 
-      flow_is : f ≡ passed.total
+      flow_is : p.flow ≡ passed.total
       unfolding phase passed
       flow_is = Q.1.flow_is
 
-      count_is : n ≡ passed.pushes
+      count_is : p.count ≡ passed.pushes
       unfolding phase passed
       count_is = Q.1.count_is
 
@@ -87,10 +88,10 @@ module _ {N : Net} {starts list : List ℕ} {c₀ : List Float} (R : Runnable N 
       cap_is = Q.1.caps_is
 
       lap : Phase
-      lap = record { sink_level = level_of (levels N c) N.sink; pushes = n }
+      lap = record { sink_level = level_of (levels N c) N.sink; pushes = p.count }
 
       next : FlowRun
-      next = record { total = f; cap = d; level = levels N c; phases = lap ∷ I.phases }
+      next = record { total = p.flow; cap = d; level = levels N c; phases = lap ∷ I.phases }
 
       next_is : next ≡ after_phase N state (levels N c)
       unfolding after_phase next lap passed
@@ -99,7 +100,7 @@ module _ {N : Net} {starts list : List ℕ} {c₀ : List Float} (R : Runnable N 
       onward_runs : (k : ℕ) → Running N I.good state (suc k) → Running N I.good next k
       onward_runs k J = subst⁻¹ (λ (s : FlowRun). Running N I.good s k) next_is (onwards N I.good state k J (levels N c) (levels_ok N I.good c J.caps) Q.0)
 
-      pub run_again : RunsOn N c₀ d f (count + 1) (pushes + n)
+      pub run_again : RunsOn N c₀ d p.flow (count + 1) (pushes + p.count)
       unfolding next lap
       run_again =
           let (k, J, s) = spare in
@@ -108,19 +109,19 @@ module _ {N : Net} {starts list : List ℕ} {c₀ : List Float} (R : Runnable N 
             fuel = k;
             level = levels N c;
             phases = lap ∷ I.phases;
-            phases_is = let p = I.phases_is in omega arith;
-            pushes_is = let p = I.pushes_is in omega arith;
+            phases_is = let z = I.phases_is in omega arith;
+            pushes_is = let z = I.pushes_is in omega arith;
             running = onward_runs k J;
             same = ap (run N k) next_is ∙ sym (run_on N k state Q.0) ∙ s;
           }
 
       -- the counts stay small
-      pub counts_few : (count + 1 < nodes N) × (pushes + n ≤ 1088 * (count + 1))
+      pub counts_few : (count + 1 < nodes N) × (pushes + p.count ≤ 1088 * (count + 1))
       counts_few =
           let A = run_again in
           let l = phases_length A.good.added A.phases A.running.phases in
           let w = A.running.low in
-          let p = A.phases_is in
+          let z = A.phases_is in
           let q = A.pushes_is in
           let two = A.good.pairs in
           let s = R.small in

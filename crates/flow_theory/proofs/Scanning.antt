@@ -185,37 +185,41 @@ module _ {H list : List ℕ} {c : List Float} {a b u : ℕ} {L₀ q₀ L q : Lis
       let r = I.room in
       omega arith
 
--- ---- a part of the row is a row of its own
+-- ---- a part of a row is a row of its own
 
-module _ {H list : List ℕ} {c : List Float} {a b u : ℕ} {L q : List ℕ} {t : ℕ} (S : Scannable H list c a b u L q t) where
-  abbrev part : List ℕ
+module _ (list : List ℕ) {a b : ℕ} (o : a ≤ b) (w : b ≤ length list) where
+  abbrev pub part : List ℕ
   part = take (b - a) (drop a list)
 
-  part_is : part ≡ slice a b list
-  part_is = let o = S.ordered in let e : a + (b - a) ≡ b = omega arith in sym (drop-take a (b - a) list) ∙ ap (λ (n : ℕ). drop a (take n list)) e
+  pub part_is : part ≡ slice a b list
+  part_is = let e : a + (b - a) ≡ b = omega arith in sym (drop-take a (b - a) list) ∙ ap (λ (n : ℕ). drop a (take n list)) e
 
-  part_length : length part ≡ b - a
-  part_length = ap length part_is ∙ length-slice a b list S.within
+  pub part_length : length part ≡ b - a
+  part_length = ap length part_is ∙ length-slice a b list w
 
-  part_at : (j : ℕ) → j < length part → get_or part j 0 ≡ get_or list (a + j) 0
+  pub part_at : (j : ℕ) → j < length part → get_or part j 0 ≡ get_or list (a + j) 0
   part_at j h = let l = part_length in ap (λ (xs : List ℕ). get_or xs j 0) part_is ∙ get_or-drop a (take b list) j 0 ∙ get_or-take b list (a + j) 0 (omega arith)
 
-  pub part_scannable : Scannable H part c 0 (length part) u L q t
+module _ {H list : List ℕ} {c : List Float} {a b u : ℕ} {L q : List ℕ} {t : ℕ} (S : Scannable H list c a b u L q t) where
+  abbrev row : List ℕ
+  row = take (b - a) (drop a list)
+
+  pub part_scannable : Scannable H row c 0 (length row) u L q t
   part_scannable = record {
     ordered = omega arith;
     within = omega arith;
-    links_in = λ j h k. let l = part_length in subst⁻¹ (λ (x : ℕ). (x < length H) × (x < length c)) (part_at j k) (S.links_in (a + j) (omega arith) (omega arith));
+    links_in = λ j h k. let o = S.ordered in let l = part_length list S.ordered S.within in subst⁻¹ (λ (x : ℕ). (x < length H) × (x < length c)) (part_at list S.ordered S.within j k) (S.links_in (a + j) (omega arith) (omega arith));
     heads_in = S.heads_in;
     here = S.here;
     low = S.low;
     room = S.room;
   }
 
-  pub part_scanned : {L' q' : List ℕ} {t' : ℕ} → Scanned H part c 0 (length part) u L q L' q' t t' → Scanned H list c a b u L q L' q' t t'
+  pub part_scanned : {L' q' : List ℕ} {t' : ℕ} → Scanned H row c 0 (length row) u L q L' q' t t' → Scanned H list c a b u L q L' q' t t'
   part_scanned R = record {
     level_length = R.level_length;
     queue_length = R.queue_length;
     longer = R.longer;
     room = R.room;
-    same = λ N h p le. R.same N h p le ∙ ap (λ (es : List ℕ). scan N c u es (record { level = L; queue = slice h t q })) (take-length part ∙ part_is);
+    same = λ N h p le. R.same N h p le ∙ ap (λ (es : List ℕ). scan N c u es (record { level = L; queue = slice h t q })) (take-length row ∙ part_is list S.ordered S.within);
   }

@@ -5,7 +5,7 @@ use Prim.Native.Nat.{ℕ, zero, suc, ◌+◌, ◌-◌, ◌≤◌, ◌<◌}
 use mathlib.Core.List.{List}
 use native.Mathlib.Omega.{arith}
 use native.Mathlib.Numerals.{add-one}
-use lib.ListN.{length, get_or, set}
+use lib.ListN.{length, get_or, set, take, drop}
 use lib.Seq.{get_or-set_same, set-get_or, set-set}
 use lib.Ieee.{Float}
 use Rattle.numbers.proofs.Bools.{eq_or_ne}
@@ -13,6 +13,7 @@ use Rattle.flow_theory.specs.Network.{Net, head}
 use Rattle.flow_theory.proofs.Paths.{gauge}
 use Rattle.flow_theory.proofs.PathRows.{Walkable, Leads, Idle, Seekable, Sought}
 use Rattle.flow_theory.proofs.Outs.{link_in}
+use Rattle.flow_theory.proofs.Scanning.{part_length, part_at}
 use Rattle.flow_theory.proofs.Walking.{Walking, standing, u_in, u_next, row_in, took, took_less, skipped, skipped_less}
 
 -- the links before j are passed
@@ -66,7 +67,7 @@ module _ {N : Net} {starts list : List ℕ} {c : List Float} {L nx₀ p₀ : Lis
           (subst (Walking N c L nx₀ p₀ u len p) q (skipped W room J off more idle), omega arith)
 
   module _ (more : get_or nx u 0 < to - from) where
-    pub seekable : Seekable N.heads list c L (from + get_or nx u 0) to
+    seekable : Seekable N.heads list c L (from + get_or nx u 0) to
     unfolding head
     seekable =
         let r = row_in W room I in
@@ -89,10 +90,10 @@ module _ {N : Net} {starts list : List ℕ} {c : List Float} {L nx₀ p₀ : Lis
           (skips (r - (from + get_or nx u 0)) (omega arith) (λ i h. subst (λ (x : ℕ). Idle N.heads c L (len + 1) (get_or list x 0)) (let z : from + get_or nx u 0 + i ≡ from + (get_or nx u 0 + i) = omega arith in z) (S.passed (from + get_or nx u 0 + i) (omega arith) (omega arith))))
 
       -- no link leads on
-      pub sought_none : to ≤ r → Walking N c L nx₀ p₀ u len p (moved (r - from))
+      sought_none : to ≤ r → Walking N c L nx₀ p₀ u len p (moved (r - from))
       sought_none h = passes.0
 
-      pub sought_none_less : to ≤ r → gauge N L (standing u len p (moved (r - from))) < gauge N L (standing u len p nx)
+      sought_none_less : to ≤ r → gauge N L (standing u len p (moved (r - from))) < gauge N L (standing u len p nx)
       sought_none_less h = let g = passes.1 in omega arith
 
       -- the link at r leads on
@@ -106,11 +107,77 @@ module _ {N : Net} {starts list : List ℕ} {c : List Float} {L nx₀ p₀ : Lis
         leads : Leads N.heads c L (len + 1) (get_or list (from + get_or (moved (r - from)) u 0) 0)
         leads = subst⁻¹ (λ (x : ℕ). Leads N.heads c L (len + 1) (get_or list x 0)) at_r (S.found h)
 
-        pub sought_on : Walking N c L nx₀ p₀ (get_or N.heads (get_or list r 0) 0) (len + 1) (set p len (get_or list r 0)) (moved (r - from))
+        sought_on : Walking N c L nx₀ p₀ (get_or N.heads (get_or list r 0) 0) (len + 1) (set p len (get_or list r 0)) (moved (r - from))
         sought_on = subst (λ (x : ℕ). Walking N c L nx₀ p₀ (get_or N.heads (get_or list x 0) 0) (len + 1) (set p len (get_or list x 0)) (moved (r - from))) at_r (took W room passes.0 off still leads)
 
-        pub sought_on_less : gauge N L (standing (get_or N.heads (get_or list r 0) 0) (len + 1) (set p len (get_or list r 0)) (moved (r - from))) < gauge N L (standing u len p nx)
+        sought_on_less : gauge N L (standing (get_or N.heads (get_or list r 0) 0) (len + 1) (set p len (get_or list r 0)) (moved (r - from))) < gauge N L (standing u len p nx)
         sought_on_less =
             let g = passes.1 in
             let t = subst (λ (x : ℕ). gauge N L (standing (get_or N.heads (get_or list x 0) 0) (len + 1) (set p len (get_or list x 0)) (moved (r - from))) < gauge N L (standing u len p (moved (r - from)))) at_r (took_less W room passes.0 off still leads) in
             omega arith
+
+    -- ---- as the code has it: the rest of u's row, from its mark on
+
+    abbrev row : List ℕ
+    row = take (to - (from + get_or nx u 0)) (drop (from + get_or nx u 0) list)
+
+    starts_in : from + get_or nx u 0 ≤ to
+    starts_in = omega arith
+
+    ends_in : to ≤ length list
+    ends_in = (row_in W room I).1
+
+    row_length : length row ≡ to - (from + get_or nx u 0)
+    row_length = part_length list starts_in ends_in
+
+    row_at : (i : ℕ) → i < length row → get_or row i 0 ≡ get_or list (from + get_or nx u 0 + i) 0
+    row_at = part_at list starts_in ends_in
+
+    pub row_seekable : Seekable N.heads row c L 0 (length row)
+    row_seekable = record {
+      ordered = omega arith;
+      within = omega arith;
+      links_in = λ j a b. let l = row_length in subst⁻¹ (λ (x : ℕ). (x < length N.heads) × (x < length c) × (get_or N.heads x 0 < length L)) (row_at j b) (seekable.links_in (from + get_or nx u 0 + j) (omega arith) (omega arith));
+    }
+
+    -- what is found in the row is found in the list
+    found_in : {k : ℕ} → Sought N.heads row c L (len + 1) 0 (length row) k → Sought N.heads list c L (len + 1) (from + get_or nx u 0) to (from + get_or nx u 0 + k)
+    found_in {k} S = record {
+      begun = omega arith;
+      ends = let l = row_length in let e = S.ends in let s = starts_in in omega arith;
+      passed = λ j a b. let i = j - (from + get_or nx u 0) in
+          let q : from + get_or nx u 0 + i ≡ j = omega arith in
+          let e = S.ends in
+          subst (λ (x : ℕ). Idle N.heads c L (len + 1) (get_or list x 0)) q (subst (Idle N.heads c L (len + 1)) (row_at i (omega arith)) (S.passed i (omega arith) (omega arith)));
+      found = λ h. let l = row_length in let s = starts_in in subst (Leads N.heads c L (len + 1)) (row_at k (omega arith)) (S.found (omega arith));
+    }
+
+    -- no link leads on
+    module _ (S : Sought N.heads row c L (len + 1) 0 (length row) (length row)) where
+      all_passed : from + get_or nx u 0 + length row ≡ to
+      all_passed = let l = row_length in let s = starts_in in omega arith
+
+      pub none_on : Walking N c L nx₀ p₀ u len p (set nx u (to - from))
+      none_on = subst (λ (x : ℕ). Walking N c L nx₀ p₀ u len p (set nx u (x - from))) all_passed (sought_none (found_in S) (let q = all_passed in omega arith))
+
+      pub none_less : gauge N L (standing u len p (set nx u (to - from))) < gauge N L (standing u len p nx)
+      none_less = subst (λ (x : ℕ). gauge N L (standing u len p (set nx u (x - from))) < gauge N L (standing u len p nx)) all_passed (sought_none_less (found_in S) (let q = all_passed in omega arith))
+
+    -- link k leads on
+    module _ {k : ℕ} (S : (k < length row) × Sought N.heads row c L (len + 1) 0 (length row) k) where
+      ahead : from + get_or nx u 0 + k < to
+      ahead = let l = row_length in let h = S.0 in let s = starts_in in omega arith
+
+      mark_then : from + get_or nx u 0 + k - from ≡ get_or nx u 0 + k
+      mark_then = omega arith
+
+      link_then : get_or list (from + get_or nx u 0 + k) 0 ≡ get_or row k 0
+      link_then = sym (row_at k S.0)
+
+      pub found_on : Walking N c L nx₀ p₀ (get_or N.heads (get_or row k 0) 0) (len + 1) (set p len (get_or row k 0)) (set nx u (get_or nx u 0 + k))
+      found_on = subst (λ (m : ℕ). Walking N c L nx₀ p₀ (get_or N.heads (get_or row k 0) 0) (len + 1) (set p len (get_or row k 0)) (set nx u m)) mark_then
+          (subst (λ (e : ℕ). Walking N c L nx₀ p₀ (get_or N.heads e 0) (len + 1) (set p len e) (set nx u (from + get_or nx u 0 + k - from))) link_then (sought_on (found_in S.1) ahead))
+
+      pub found_less : gauge N L (standing (get_or N.heads (get_or row k 0) 0) (len + 1) (set p len (get_or row k 0)) (set nx u (get_or nx u 0 + k))) < gauge N L (standing u len p nx)
+      found_less = subst (λ (m : ℕ). gauge N L (standing (get_or N.heads (get_or row k 0) 0) (len + 1) (set p len (get_or row k 0)) (set nx u m)) < gauge N L (standing u len p nx)) mark_then
+          (subst (λ (e : ℕ). gauge N L (standing (get_or N.heads e 0) (len + 1) (set p len e) (set nx u (from + get_or nx u 0 + k - from))) < gauge N L (standing u len p nx)) link_then (sought_on_less (found_in S.1) ahead))

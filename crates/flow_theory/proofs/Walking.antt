@@ -18,7 +18,7 @@ use Rattle.flow_theory.specs.Levels.{level_of}
 use Rattle.flow_theory.specs.Augment.{mark, pass_link, admissible, Walk, Walked, reached, blocked, go, stop, step, arrive, look, advance, retreat, walk, walk_fuel}
 use Rattle.flow_theory.proofs.Links.{HasLevel, level_in, residual_in, rev_xor, rev_in}
 use Rattle.flow_theory.proofs.Paths.{Walks, Path, gauge, walk_go, walk_stop, step_on, step_falls, rests_le}
-use Rattle.flow_theory.proofs.PathRows.{Walkable, routed, Leads, Idle}
+use Rattle.flow_theory.proofs.PathRows.{Walkable, Leads, Idle}
 use Rattle.flow_theory.proofs.Outs.{out_length, out_at, link_in}
 use Rattle.flow_theory.proofs.Scanning.{level_at}
 
@@ -291,10 +291,5 @@ module _ {N : Net} {starts list : List ℕ} {c : List Float} {L nx₀ p₀ : Lis
           pub back_less : gauge N L (standing from (len - 1) p (set nx from (get_or nx from 0 + 1))) < gauge N L (standing u len p nx)
           back_less = falls W I.going (standing from (len - 1) p (set nx from (get_or nx from 0 + 1))) homeward
 
-    -- the path is not empty: the sink is not the source
-    some : u ≡ N.sink → (n : ℕ) → len ≡ n → routed n p nx ≡ ending N c L nx₀
-    some h zero z = absurd (W.good.ends (sym (subst (λ (m : ℕ). Path N c L nx (reverse (take m p)) u) z I.going.walks.path) ∙ h))
-    some h (suc n) z = ap (λ (m : ℕ). reached (reverse (take m p)) nx) (sym z) ∙ stops W I.going (reached (reverse (take len p)) nx) (step_reached N c L (standing u len p nx) h)
-
-    pub reached_ends : u ≡ N.sink → routed len p nx ≡ ending N c L nx₀
-    reached_ends h = some h len refl
+    pub reached_ends : u ≡ N.sink → reached (reverse (take len p)) nx ≡ ending N c L nx₀
+    reached_ends h = stops W I.going (reached (reverse (take len p)) nx) (step_reached N c L (standing u len p nx) h)

@@ -4,6 +4,15 @@
 ghost use Rattle.std.specs.Prelude.{◌≡◌};
 ghost use Rattle.flow_theory.specs.Network.{rev};
 
+pub mod path; // path.rt: the push along a path
+
+// The flow after a phase, and the pushes of the phase.
+#[derive(Clone, Copy, Debug, PartialEq)]
+pub struct AfterPhase {
+    pub flow: f64,
+    pub count: usize,
+}
+
 // The reverse of a link, and the link of a reverse: links 2k and 2k + 1 are a pair.
 pub fn reverse(e: usize) -> usize
     ensures { result ≡ rev e }

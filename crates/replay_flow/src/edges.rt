@@ -1,8 +1,11 @@
 // The kind `edge`: a link added to a network.
 use crate::kept::From;
+use crate::lent::Left;
 use crate::nets::Listed;
 use crate::{entries, kept, lent, nets};
-use flow::network::{FlowNetwork, Link, Made};
+use flow::network::{FlowNetwork, Link};
+use flow_check::Edge;
+use numbers::refusal;
 use replay_text::lists::front;
 use replay_text::text::{Reader, narrow};
 
@@ -22,25 +25,17 @@ fn expect_links(r: &mut Reader, links: &[Link]) {
     r.expect_each(links, |link| link.cost);
 }
 
-#[derive(Clone, Copy)]
-struct Asked {
-    from: u64,
-    to: u64,
-    capacity: f64,
-    cost: f64,
-}
-
 // The network with the link asked for, and its reverse, after its links.
-fn with_link(mut net: FlowNetwork, x: Asked) -> FlowNetwork {
+fn with_link(mut net: FlowNetwork, x: Edge) -> FlowNetwork {
     let count = net.count;
     if count < 2175 {
         net.links[count] = Link {
-            head: narrow(x.to),
-            cap: x.capacity,
+            head: narrow(x.to as u64),
+            cap: x.cap,
             cost: x.cost,
         };
         net.links[count + 1] = Link {
-            head: narrow(x.from),
+            head: narrow(x.from as u64),
             cap: 0.0,
             cost: -x.cost,
         };
@@ -49,9 +44,9 @@ fn with_link(mut net: FlowNetwork, x: Asked) -> FlowNetwork {
 }
 
 // What the lists of the answer do not show: past them all is kept, but for a link added there.
-fn same_else(l: Listed, x: Asked, made: Made) -> bool {
+fn same_else(l: Listed, x: Edge, made: Left<()>) -> bool {
     let mut before = l.net;
-    if made.refused == 0 {
+    if made.answer.is_ok() {
         before = with_link(before, x);
     } else if before.count != made.net.count {
         return false;
@@ -69,8 +64,8 @@ fn same_else(l: Listed, x: Asked, made: Made) -> bool {
     )
 }
 
-fn compare(r: &mut Reader, l: Listed, x: Asked, made: Made) {
-    expect(r, made.refused, &made.net);
+fn compare(r: &mut Reader, l: Listed, x: Edge, made: Left<()>) {
+    expect(r, refusal::code(&made.answer), &made.net);
     expect_links(r, front(&made.net.links, two_more(l.links)));
     r.expect_list(front(&made.net.starts, l.starts));
     r.expect_list(front(&made.net.list, two_more(l.list)));
@@ -79,13 +74,13 @@ fn compare(r: &mut Reader, l: Listed, x: Asked, made: Made) {
 
 pub fn run(r: &mut Reader, counts: &mut [u64; 48]) {
     let l = nets::read(r);
-    let x = Asked {
-        from: r.number_field(),
-        to: r.number_field(),
-        capacity: r.real_field(),
+    let x = Edge {
+        from: r.number_field() as usize,
+        to: r.number_field() as usize,
+        cap: r.real_field(),
         cost: r.real_field(),
     };
-    let made = lent::add_edge(l.net, x.from as usize, x.to as usize, x.capacity, x.cost);
+    let made = lent::add_edge(l.net, x);
     compare(r, l, x, made);
     r.count(counts, entries::ADD_EDGE);
 }

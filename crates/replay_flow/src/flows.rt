@@ -2,18 +2,16 @@
 use crate::kept::From;
 use crate::{entries, kept, lent, nets};
 use flow::network::FlowNetwork;
-use flow_core::rows::Answer;
+use flow_check::Ends;
+use flow_core::Flow;
+use numbers::refusal::Refusal;
 use replay_text::lists::front;
 use replay_text::text::Reader;
 
-fn expect(r: &mut Reader, a: Answer) {
-    match a {
-        Answer::Flow {
-            flow,
-            phases,
-            pushes,
-        } => r.expect_numbered(0, (flow, phases, pushes)),
-        Answer::Refused(k) => r.expect_numbered(k, (0.0, 0usize, 0usize)),
+fn expect(r: &mut Reader, answer: Result<Flow, Refusal>) {
+    match answer {
+        Ok(f) => r.expect_numbered(0, (f.flow, f.phases, f.pushes)),
+        Err(k) => r.expect_numbered(k.number(), (0.0, 0usize, 0usize)),
     }
 }
 
@@ -34,9 +32,11 @@ fn same_else(before: &FlowNetwork, after: &FlowNetwork, n: usize) -> bool {
 
 pub fn run(r: &mut Reader, counts: &mut [u64; 48]) {
     let l = nets::read(r);
-    let source = r.number_field() as usize;
-    let sink = r.number_field() as usize;
-    let ran = lent::max_flow(l.net, source, sink);
+    let ends = Ends {
+        source: r.number_field() as usize,
+        sink: r.number_field() as usize,
+    };
+    let ran = lent::max_flow(l.net, ends);
     expect(r, ran.answer);
     r.expect_each(front(&ran.net.links, l.links), |link| link.cap);
     r.compared(same_else(&l.net, &ran.net, l.links));

@@ -1,8 +1,8 @@
 // The kind `nodes`: a new network.
 use crate::kept::From;
 use crate::{entries, kept, nets};
-use flow::network;
-use flow::network::{FlowNetwork, Made};
+use flow::network::FlowNetwork;
+use numbers::refusal::Refusal;
 use replay_text::text::Reader;
 
 // A new network has no links, and zeros in all rows.
@@ -20,17 +20,18 @@ fn is_blank(net: &FlowNetwork) -> bool {
         )
 }
 
-fn compare(r: &mut Reader, made: Made) {
-    if made.refused != 0 {
-        r.expect_numbered(made.refused, 0usize);
-        return;
+fn compare(r: &mut Reader, made: Result<FlowNetwork, Refusal>) {
+    match made {
+        Ok(net) => {
+            r.expect_numbered(0, net.nodes);
+            r.compared(is_blank(&net));
+        }
+        Err(k) => r.expect_numbered(k.number(), 0usize),
     }
-    r.expect_numbered(0, made.net.nodes);
-    r.compared(is_blank(&made.net));
 }
 
 pub fn run(r: &mut Reader, counts: &mut [u64; 48]) {
     let nodes = r.number_field() as usize;
-    compare(r, network::new(nodes));
+    compare(r, FlowNetwork::new(nodes));
     r.count(counts, entries::NEW);
 }

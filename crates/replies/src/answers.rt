@@ -7,7 +7,7 @@ ghost use Rattle.replies.specs.Relations.{of_ended, of_verdict, sought, of_least
 
 use bisim_core::ids::{LabelId, StateId};
 use bisim_core::wlts::Shape;
-use flow_core::rows::Answer;
+use flow_core::Flow;
 use numbers::refusal::{Refusal, code};
 
 pub fn put_interned(
@@ -115,21 +115,22 @@ pub fn put_built(built: Result<Shape, Refusal>, edges: &mut usize, labels: &mut 
     }
 }
 
-pub fn put_flow(answer: Answer, flow: &mut f64, phases: &mut usize, pushes: &mut usize) -> u32
-    ensures { told result flow.new phases.new pushes.new ≡ of_flow answer flow.old phases.old pushes.old }
+pub fn put_flow(
+    answer: Result<Flow, Refusal>,
+    flow: &mut f64,
+    phases: &mut usize,
+    pushes: &mut usize,
+) -> u32
+    ensures { told result flow.new phases.new pushes.new ≡ of_flow (numbered answer) flow.old phases.old pushes.old }
 {
     match answer {
-        Answer::Flow {
-            flow: f,
-            phases: p,
-            pushes: q,
-        } => {
-            *flow = f;
-            *phases = p;
-            *pushes = q;
+        Ok(f) => {
+            *flow = f.flow;
+            *phases = f.phases;
+            *pushes = f.pushes;
             0
         }
-        Answer::Refused(k) => k,
+        Err(_) => code(&answer),
     }
 }
 

@@ -63,9 +63,7 @@ pub fn ship_rows(
     }
     let nodes = left.len() + right.len() + 2;
     let mut starts = [0u32; 67];
-    if !check::node_lists(links.heads, nodes, &mut starts, list) {
-        return None;
-    }
+    check::node_lists(links.heads, nodes, &mut starts, list).ok()?;
     let net = Network {
         heads: links.heads,
         costs: links.prices,

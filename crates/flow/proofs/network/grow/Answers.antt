@@ -10,12 +10,13 @@ use Rattle.flow.proofs.network.grow.Goals as goal
 
 pub returns : goal.returns
 returns c =
-    let whole : length c.args.links ≡ 2176 = search rules in
-    let few : c.args.net.count + 2 ≤ 2176 = let p = c.requires.0 in omega arith in
-    let places : c.args.net.nodes < length c.args.net.starts = let p = c.requires.1 in
-    let q : length c.args.net.starts ≡ 67 = search rules in
+    let N = c.args.net.now in
+    let whole : length N.links ≡ 2176 = search rules in
+    let there : N.count + 2 ≤ length N.links = let p = c.requires.0 in omega arith in
+    let places : N.nodes < length N.starts = let p = c.requires.1 in
+    let q : length N.starts ≡ 67 = search rules in
     omega arith in
-    let room : length (heads_of (c.args.net.count + 2) c.args.links) ≤ length c.args.net.list = let p = c.requires.2.small in
-    let q : length c.args.net.list ≡ 2176 = search rules in
+    let room : length (heads_of (N.count + 2) N.links) ≤ length N.list = let p = c.requires.2.small in
+    let q : length N.list ≡ 2176 = search rules in
     omega arith in
-    grows c.args.net c.args.links c.requires.1 c.requires.2 places room _ (front_is c.args.links whole (c.args.net.count + 2) few c.unpack_heads.new.heads c.unpack_heads.ensures) _ _ _ (c.node_lists.ensures.value, (c.node_lists.ensures.new_starts_after, c.node_lists.ensures.new_list_after))
+    grows N N.links c.requires.1 c.requires.2 places room _ (front_is N.links (N.count + 2) there c.unpack_heads.new.heads c.unpack_heads.ensures) _ _ _ (c.node_lists.ensures.value, (c.node_lists.ensures.new_starts_after, c.node_lists.ensures.new_list_after))

@@ -1,12 +1,13 @@
 -- `network::net_fits` meets its contract: the links stand in front of the rows (Grows.fits_rows).
 use Rattle.std.proofs.Common.{rules, ◌≡◌, ◌≤◌, length, arith}
 use mathlib.Core.Path.{◌∙◌}
+use Rattle.flow.proofs.Running.{entered_front}
 use Rattle.flow.proofs.Grows.{fits_rows}
 use Rattle.flow.proofs.network.net_fits.Goals as goal
 
 pub returns : goal.returns
 returns c =
-    let N = c.args.net in
+    let N = c.args.net.now in
     let whole : length N.links ≡ 2176 = search rules in
     let few : N.count ≤ length N.links = let p = c.requires in omega arith in
-    c.network_fits.ensures ∙ fits_rows N few _ _ _ _ _ _ c.unpack.ensures
+    c.fits.ensures ∙ fits_rows N few _ _ _ _ _ _ (entered_front N.links N.count few _ _ _ c.unpack.ensures)

@@ -1,6 +1,7 @@
--- `augment::seek` meets its contract. The loop's invariant: the links before j do not lead to the level (Seeking).
+-- `augment::seek` meets its contract. The loop's invariant: the links before k do not lead to the level (Seeking).
+use lib.ListN.{length}
 use Rattle.flow_theory.proofs.Seeking.{Seeking}
 use Rattle.flow_core.proofs.augment.seek.Given as goal
 
-abbrev pub invariant-loop-j : goal.invariant-loop-j
-invariant-loop-j l = Seeking l.heads l.list l.caps l.level l.want l.at l.to l.j
+abbrev pub invariant-loop-k : goal.invariant-loop-k
+invariant-loop-k l = Seeking l.phase.net.heads.now l.row l.caps l.phase.level.now l.want 0 (length l.row) l.k

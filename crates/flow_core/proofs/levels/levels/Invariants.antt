@@ -4,8 +4,8 @@ use lib.ListN.{length}
 use Rattle.flow_theory.proofs.Searching.{Outer}
 use Rattle.flow_core.proofs.levels.levels.Given as goal
 
-abbrev pub invariant-loop-head : goal.invariant-loop-head
-invariant-loop-head l = Outer l.heads l.list l.starts l.caps l.source l.initial.level l.initial.queue l.level l.queue l.head l.tail
+abbrev pub invariant-loop-queue : goal.invariant-loop-queue
+invariant-loop-queue l = Outer l.net.heads.now l.net.list.now l.net.starts.now l.caps l.source l.initial.level l.initial.queue.nodes l.level l.queue.nodes l.queue.first l.queue.end
 
-abbrev pub decreases-loop-head : goal.decreases-loop-head
-decreases-loop-head l = length l.initial.queue - l.head
+abbrev pub decreases-loop-queue : goal.decreases-loop-queue
+decreases-loop-queue l = length l.initial.queue.nodes - l.queue.first

@@ -1,6 +1,6 @@
 use lib.ListN.{length-set}
 use Rattle.flow_theory.proofs.Pushing.{back_in, pushed_on, push_ends}
-use Rattle.flow_core.proofs.augment.push_path.Goals as goal
+use Rattle.flow_theory.proofs.path.push_path.Goals as goal
 
 pub bounds-caps-e-in-loop-e-2 : goal.bounds-caps-e-in-loop-e-2
 bounds-caps-e-in-loop-e-2 c = rw length-set (back_in c.requires c.loop-e.invariant c.loop-e-test.true)

@@ -1,6 +1,0 @@
--- `augment::least` meets its contract. The loop's invariant: the least of x and what is still to come of the path is the least of the whole (Pushing.Least).
-use Rattle.flow_theory.proofs.Pushing.{Least}
-use Rattle.flow_core.proofs.augment.least.Given as goal
-
-abbrev pub invariant-loop-e : goal.invariant-loop-e
-invariant-loop-e l = Least l.caps l.path l.e-index l.x
