@@ -6,7 +6,7 @@ use Rattle.std.specs.Result.{is_ok}
 use mathlib.Core.List.{List, map}
 use native.Mathlib.Omega.{arith}
 use native.Mathlib.Nat.{mul-le-mul}
-use lib.ListN.{length, get_or, take, drop, length-append, length-map}
+use lib.ListN.{length, get_or, take, drop, length-append, length-drop, length-map}
 use lib.Seq.{slice, take_at}
 use lib.Dec.{leb}
 use lib.Ieee.{Float, binary64, mul, div}
@@ -93,6 +93,17 @@ module _ {a b costs : List Float} {xs ys : List ℕ} {codes places masses : ℕ}
           let n = ap length rows_is ∙ length-append (map (λ (c : Cell). c.row) result.plan) (drop (length (map (λ (c : Cell). c.row) result.plan)) i₀) in
           let k = ap length columns_is ∙ length-append (map (λ (c : Cell). c.column) result.plan) (drop (length (map (λ (c : Cell). c.column) result.plan)) j₀) in
           (M.few_codes, omega arith, omega arith, omega arith)
+
+      -- the list of masses is as long as it was
+      pub masses_size : length x ≡ length x₀
+      masses_size =
+          let u = map (λ (c : Cell). c.mass) result.plan in
+          let f = moved_few a b costs xs ys codes places masses M in
+          let q = M.masses_room in
+          let w = length-map result.plan (λ (c : Cell). c.mass) in
+          let d = length-drop (length u) x₀ in
+          let n = ap (λ (o : Outcome). length o.masses) planned ∙ length-append u (drop (length u) x₀) in
+          omega arith
 
       -- its shares
       pub moved_end : (look : Look) (q p₀ : List ℕ) → q ≡ over (places_by look xs ys i j cells) p₀ → bested p.total cells q x ≡ moved_on look xs ys result p₀ x₀

@@ -2,18 +2,21 @@
 ghost use Rattle.std.specs.Prelude.{◌≡◌, List, map, ℕ, ◌*◌, ◌≤◌, ◌<◌, Float, length, get_or, true, false};
 ghost use Rattle.std.specs.Float.{binary64};
 ghost use Rattle.std.specs.Float.Ieee.{mul, div};
+ghost use Rattle.std.proofs.Math.Seq.{slice};
 ghost use Rattle.numbers.specs.Lists.{over};
 ghost use Rattle.numbers.specs.Real.{sum};
+ghost use Rattle.distance_theory.specs.Lent.{SameShares};
 ghost use Rattle.distance_theory.proofs.Index.{look_up};
 ghost use Rattle.transport_theory.specs.Transport.{transport};
-ghost use Rattle.distance_theory.specs.Couplings.{point_mass};
+ghost use Rattle.distance_theory.specs.Couplings.{expected, point_mass};
+ghost use Rattle.distance_theory.proofs.Held.{shares_of};
 ghost use Rattle.distance_theory.proofs.PairRows.{row_jumps};
 ghost use Rattle.distance_theory.proofs.Bests.{Beside, costs_by, places_by, Movable, moved_on, best_by, bested, bested_as, best_if, best_on};
 
 use crate::shares::{cells_fit, expected_part, lay_shares, place, rows_fit, value_at};
 use bisim_core::ids::StateId;
 use distance_pairs::index::place_of;
-use distance_theory::lent::{Best, Row};
+use distance_theory::lent::{Best, Row, SharesMut};
 use numbers::Real;
 use transport::entry::transport_sized;
 use transport::plan::PlanRows;
@@ -73,22 +76,22 @@ fn move_masses(
     xs: &[u32],
     ys: &[u32],
     codes: &[u64],
-    places: &mut [u32],
-    masses: &mut [f64],
+    shares: &mut SharesMut,
 ) -> Option<Best>
-    requires { Movable of.now.left.now of.now.right.now of.now.costs.now xs.now ys.now (length codes.now) (length places.old) (length masses.old) }
-    ensures { bested_as result places.new masses.new ≡ moved_on (look_up codes.now) xs.now ys.now (transport of.now.left.now of.now.right.now of.now.costs.now) places.old masses.old }
+    requires { Movable of.now.left.now of.now.right.now of.now.costs.now xs.now ys.now (length codes.now) (length shares.old.places.now) (length shares.old.masses.now) }
+    ensures lists { SameShares shares.old shares.new }
+    ensures bested { bested_as result shares.new.places.now shares.new.masses.now ≡ moved_on (look_up codes.now) xs.now ys.now (transport of.now.left.now of.now.right.now of.now.costs.now) shares.old.places.now shares.old.masses.now }
 {
     let mut rows = [0u32; 1024];
     let mut columns = [0u32; 1024];
     let mut plan = PlanRows {
         rows: &mut rows,
         columns: &mut columns,
-        masses,
+        masses: &mut shares.masses[..],
     };
     match transport_sized(of, &mut plan) {
         Ok(moved) => {
-            lay_planned(xs, ys, codes, &plan, moved.cells, places);
+            lay_planned(xs, ys, codes, &plan, moved.cells, &mut shares.places[..]);
             Some(Best {
                 value: moved.total,
                 cells: moved.cells,
@@ -104,12 +107,12 @@ fn best_moved(
     ys: &Row,
     codes: &[u64],
     values: &[f64],
-    places: &mut [u32],
-    masses: &mut [f64],
+    shares: &mut SharesMut,
 ) -> Option<Best>
     requires beside { Beside xs.now.targets.now xs.now.probs.now ys.now.targets.now ys.now.probs.now (length codes.now) }
-    requires ys_in_bounds { (length xs.now.targets.now * length ys.now.targets.now ≤ length places.old) × (length xs.now.targets.now * length ys.now.targets.now ≤ length masses.old) }
-    ensures { bested_as result places.new masses.new ≡ best_if true (best_by false (look_up codes.now) values.now (row_jumps xs.now) (row_jumps ys.now)) places.old masses.old }
+    requires ys_in_bounds { (length xs.now.targets.now * length ys.now.targets.now ≤ length shares.old.places.now) × (length xs.now.targets.now * length ys.now.targets.now ≤ length shares.old.masses.now) }
+    ensures lists { SameShares shares.old shares.new }
+    ensures bested { bested_as result shares.new.places.now shares.new.masses.now ≡ best_if true (best_by false (look_up codes.now) values.now (row_jumps xs.now) (row_jumps ys.now)) shares.old.places.now shares.old.masses.now }
 {
     let mut costs = [0.0f64; 1024];
     let mut fitted = [0.0f64; 32];
@@ -122,25 +125,26 @@ fn best_moved(
         right: &fitted[..n],
         costs: &costs[..cells],
     };
-    move_masses(&of, xs.targets, ys.targets, codes, places, masses)
+    move_masses(&of, xs.targets, ys.targets, codes, shares)
+}
+
+// Σ mass × value of the first `cells` shares.
+fn worth(values: &[f64], shares: &SharesMut, cells: usize) -> f64
+    ensures { result ≡ expected values.now (shares_of (slice 0 cells shares.now.places.now) (slice 0 cells shares.now.masses.now)) }
+{
+    expected_part(values, shares.places, shares.masses, 0, cells)
 }
 
 // A row of one entry: only one coupling exists.
-fn best_alone(
-    xs: &Row,
-    ys: &Row,
-    codes: &[u64],
-    values: &[f64],
-    places: &mut [u32],
-    masses: &mut [f64],
-) -> Best
+fn best_alone(xs: &Row, ys: &Row, codes: &[u64], values: &[f64], shares: &mut SharesMut) -> Best
     requires beside { Beside xs.now.targets.now xs.now.probs.now ys.now.targets.now ys.now.probs.now (length codes.now) }
-    requires ys_in_bounds { (length xs.now.targets.now * length ys.now.targets.now ≤ length places.old) × (length xs.now.targets.now * length ys.now.targets.now ≤ length masses.old) }
-    ensures { bested result.value result.cells places.new masses.new ≡ best_if true (best_by true (look_up codes.now) values.now (row_jumps xs.now) (row_jumps ys.now)) places.old masses.old }
+    requires ys_in_bounds { (length xs.now.targets.now * length ys.now.targets.now ≤ length shares.old.places.now) × (length xs.now.targets.now * length ys.now.targets.now ≤ length shares.old.masses.now) }
+    ensures lists { SameShares shares.old shares.new }
+    ensures bested { bested result.value result.cells shares.new.places.now shares.new.masses.now ≡ best_if true (best_by true (look_up codes.now) values.now (row_jumps xs.now) (row_jumps ys.now)) shares.old.places.now shares.old.masses.now }
 {
     let cells = xs.targets.len() * ys.targets.len();
-    lay_shares(xs, ys, codes, places, masses);
-    let value = expected_part(values, places, masses, 0, cells);
+    lay_shares(xs, ys, codes, shares);
+    let value = worth(values, shares, cells);
     Best { value, cells }
 }
 
@@ -150,20 +154,20 @@ fn cheapest(
     ys: &Row,
     codes: &[u64],
     values: &[f64],
-    places: &mut [u32],
-    masses: &mut [f64],
+    shares: &mut SharesMut,
 ) -> Option<Best>
     requires beside { Beside xs.now.targets.now xs.now.probs.now ys.now.targets.now ys.now.probs.now (length codes.now) }
-    requires ys_in_bounds { (length xs.now.targets.now * length ys.now.targets.now ≤ length places.old) × (length xs.now.targets.now * length ys.now.targets.now ≤ length masses.old) }
-    ensures { bested_as result places.new masses.new ≡ best_if true (best_by (point_mass (row_jumps xs.now) (row_jumps ys.now)) (look_up codes.now) values.now (row_jumps xs.now) (row_jumps ys.now)) places.old masses.old }
+    requires ys_in_bounds { (length xs.now.targets.now * length ys.now.targets.now ≤ length shares.old.places.now) × (length xs.now.targets.now * length ys.now.targets.now ≤ length shares.old.masses.now) }
+    ensures lists { SameShares shares.old shares.new }
+    ensures bested { bested_as result shares.new.places.now shares.new.masses.now ≡ best_if true (best_by (point_mass (row_jumps xs.now) (row_jumps ys.now)) (look_up codes.now) values.now (row_jumps xs.now) (row_jumps ys.now)) shares.old.places.now shares.old.masses.now }
 {
     if xs.targets.len() == 1 {
-        return Some(best_alone(xs, ys, codes, values, places, masses));
+        return Some(best_alone(xs, ys, codes, values, shares));
     }
     if ys.targets.len() == 1 {
-        return Some(best_alone(xs, ys, codes, values, places, masses));
+        return Some(best_alone(xs, ys, codes, values, shares));
     }
-    best_moved(xs, ys, codes, values, places, masses)
+    best_moved(xs, ys, codes, values, shares)
 }
 
 // The cheapest coupling of two rows, over the front of two lists. None where the rows have over 32 entries or are no rows, there are over 4,096 codes, or a list is short: the lists are then as they were.
@@ -172,18 +176,18 @@ pub(crate) fn best_coupling(
     ys: &Row,
     codes: &[u64],
     values: &[f64],
-    places: &mut [u32],
-    masses: &mut [f64],
+    shares: &mut SharesMut,
 ) -> Option<Best>
-    ensures { bested_as result places.new masses.new ≡ best_on (look_up codes.now) xs.now.targets.now xs.now.probs.now ys.now.targets.now ys.now.probs.now (length codes.now) places.old masses.old values.now }
+    ensures lists { SameShares shares.old shares.new }
+    ensures bested { bested_as result shares.new.places.now shares.new.masses.now ≡ best_on (look_up codes.now) xs.now.targets.now xs.now.probs.now ys.now.targets.now ys.now.probs.now (length codes.now) shares.old.places.now shares.old.masses.now values.now }
 {
     let m = xs.targets.len();
     let n = ys.targets.len();
     if !rows_fit(m, xs.probs.len(), n, ys.probs.len(), codes.len()) {
         return None;
     }
-    if !cells_fit(m, n, places.len(), masses.len()) {
+    if !cells_fit(m, n, shares.places.len(), shares.masses.len()) {
         return None;
     }
-    cheapest(xs, ys, codes, values, places, masses)
+    cheapest(xs, ys, codes, values, shares)
 }

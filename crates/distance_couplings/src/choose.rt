@@ -8,9 +8,10 @@ ghost use Rattle.distance_theory.proofs.PairRows.{best_pair};
 use crate::best::best_coupling;
 use crate::pairs::row;
 use chain_theory::Chain;
-use distance_theory::lent::Best;
+use distance_theory::lent::{Best, SharesMut};
 
 // The cheapest coupling of the states x and y over the front of two lists. None where a row can't be read or has over 32 entries, there are over 4,096 codes, or a list is short: the lists are then as they were.
+// Stays: the two lists are apart, as those of `lay_pair`.
 pub fn best_pair(
     x: usize,
     y: usize,
@@ -25,5 +26,5 @@ pub fn best_pair(
 {
     let xs = row(left, x)?;
     let ys = row(right, y)?;
-    best_coupling(&xs, &ys, codes, values, places, masses)
+    best_coupling(&xs, &ys, codes, values, &mut SharesMut { places, masses })
 }

@@ -7,7 +7,7 @@ ghost use Rattle.distance_theory.proofs.PairRows.{RowRead, lay_pair};
 
 use crate::shares::lay_independent;
 use chain_theory::Chain;
-use distance_theory::lent::Row;
+use distance_theory::lent::{Row, SharesMut};
 
 // The entries of state x, where they can be read.
 pub fn row<'a>(chain: &Chain<'a>, x: usize) -> Option<Row<'a>>
@@ -21,6 +21,7 @@ pub fn row<'a>(chain: &Chain<'a>, x: usize) -> Option<Row<'a>>
 }
 
 // The independent coupling of the states x and y over the front of two lists. None where a row can't be read or has over 32 entries, there are over 4,096 codes, or a list is short: the lists are then as they were.
+// Stays: the two lists are apart; a `SharesMut` of parts of a lent store's fields, made in the loop over the pairs, isn't covered by the borrow checker.
 pub fn lay_pair(
     x: usize,
     y: usize,
@@ -34,5 +35,5 @@ pub fn lay_pair(
 {
     let xs = row(left, x)?;
     let ys = row(right, y)?;
-    lay_independent(&xs, &ys, codes, places, masses)
+    lay_independent(&xs, &ys, codes, &mut SharesMut { places, masses })
 }

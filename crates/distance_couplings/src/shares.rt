@@ -5,6 +5,7 @@ ghost use Rattle.std.proofs.Math.Seq.{slice};
 ghost use Rattle.numbers.specs.Lists.{over};
 ghost use Rattle.distance_theory.specs.Pairs.{pair};
 ghost use Rattle.distance_theory.specs.Couplings.{expected};
+ghost use Rattle.distance_theory.specs.Lent.{SameShares};
 ghost use Rattle.distance_theory.proofs.Index.{look_up};
 ghost use Rattle.distance_theory.proofs.Held.{shares_of};
 ghost use Rattle.distance_theory.proofs.PairRows.{row_jumps};
@@ -12,7 +13,7 @@ ghost use Rattle.distance_theory.proofs.Bests.{ats, parts, independent_by, Besid
 
 use bisim_core::ids::StateId;
 use distance_pairs::index::place_of;
-use distance_theory::lent::Row;
+use distance_theory::lent::{Row, SharesMut};
 
 // The value at a place; NaN past the last.
 pub fn value_at(values: &[f64], i: usize) -> f64
@@ -44,19 +45,20 @@ pub(crate) fn place(codes: &[u64], x: u32, y: u32) -> u32
 }
 
 // The independent coupling of two rows over the front of two lists: each entry with each, the probabilities multiplied.
-pub(crate) fn lay_shares(xs: &Row, ys: &Row, codes: &[u64], places: &mut [u32], masses: &mut [f64])
+pub(crate) fn lay_shares(xs: &Row, ys: &Row, codes: &[u64], shares: &mut SharesMut)
     requires beside { Beside xs.now.targets.now xs.now.probs.now ys.now.targets.now ys.now.probs.now (length codes.now) }
-    requires ys_in_bounds { (length xs.now.targets.now * length ys.now.targets.now ≤ length places.old) × (length xs.now.targets.now * length ys.now.targets.now ≤ length masses.old) }
-    ensures { (places.new ≡ over (ats (independent_by (look_up codes.now) (row_jumps xs.now) (row_jumps ys.now))) places.old)
-        × (masses.new ≡ over (parts (independent_by (look_up codes.now) (row_jumps xs.now) (row_jumps ys.now))) masses.old) }
+    requires ys_in_bounds { (length xs.now.targets.now * length ys.now.targets.now ≤ length shares.old.places.now) × (length xs.now.targets.now * length ys.now.targets.now ≤ length shares.old.masses.now) }
+    ensures lists { SameShares shares.old shares.new }
+    ensures laid { (shares.new.places.now ≡ over (ats (independent_by (look_up codes.now) (row_jumps xs.now) (row_jumps ys.now))) shares.old.places.now)
+        × (shares.new.masses.now ≡ over (parts (independent_by (look_up codes.now) (row_jumps xs.now) (row_jumps ys.now))) shares.old.masses.now) }
 {
     let n = ys.targets.len();
     let cells = xs.targets.len() * n;
     for k in 0..cells {
         let i = k / n;
         let j = k % n;
-        places[k] = place(codes, xs.targets[i], ys.targets[j]);
-        masses[k] = xs.probs[i] * ys.probs[j];
+        shares.places[k] = place(codes, xs.targets[i], ys.targets[j]);
+        shares.masses[k] = xs.probs[i] * ys.probs[j];
     }
 }
 
@@ -85,23 +87,18 @@ pub(crate) fn cells_fit(m: usize, n: usize, places: usize, masses: usize) -> boo
 }
 
 // The independent coupling of two rows, over the front of two lists. None where the rows have over 32 entries or are no rows, there are over 4,096 codes, or a list is short: the lists are then as they were.
-pub fn lay_independent(
-    xs: &Row,
-    ys: &Row,
-    codes: &[u64],
-    places: &mut [u32],
-    masses: &mut [f64],
-) -> Option<usize>
-    ensures { laid_as result places.new masses.new ≡ lay_on (look_up codes.now) xs.now.targets.now xs.now.probs.now ys.now.targets.now ys.now.probs.now (length codes.now) places.old masses.old }
+pub fn lay_independent(xs: &Row, ys: &Row, codes: &[u64], shares: &mut SharesMut) -> Option<usize>
+    ensures lists { SameShares shares.old shares.new }
+    ensures laid { laid_as result shares.new.places.now shares.new.masses.now ≡ lay_on (look_up codes.now) xs.now.targets.now xs.now.probs.now ys.now.targets.now ys.now.probs.now (length codes.now) shares.old.places.now shares.old.masses.now }
 {
     let m = xs.targets.len();
     let n = ys.targets.len();
     if !rows_fit(m, xs.probs.len(), n, ys.probs.len(), codes.len()) {
         return None;
     }
-    if !cells_fit(m, n, places.len(), masses.len()) {
+    if !cells_fit(m, n, shares.places.len(), shares.masses.len()) {
         return None;
     }
-    lay_shares(xs, ys, codes, places, masses);
+    lay_shares(xs, ys, codes, shares);
     Some(m * n)
 }

@@ -1,5 +1,6 @@
 -- What is lent to be written.
-use Rattle.std.specs.Prelude.{◌≡◌}
+use Rattle.std.specs.Prelude.{◌≡◌, length}
+use Rattle.distance_theory.specs.declared.lent.SharesMut.{SharesMut}
 use Rattle.distance_theory.specs.declared.lent.PairsMut.{PairsMut}
 use Rattle.distance_theory.specs.declared.lent.Scratch.{Scratch}
 use Rattle.distance_theory.specs.declared.lent.Store.{Store}
@@ -14,6 +15,10 @@ SameStore a b = (b.starts.ghost_name ≡ a.starts.ghost_name) × (b.lengths.ghos
 
 abbrev pub SameScratch : Scratch → Scratch → Type 0
 SameScratch a b = (b.lefts.ghost_name ≡ a.lefts.ghost_name) × (b.rights.ghost_name ≡ a.rights.ghost_name) × (b.codes.ghost_name ≡ a.codes.ghost_name) × (b.places.ghost_name ≡ a.places.ghost_name) × (b.masses.ghost_name ≡ a.masses.ghost_name)
+
+-- as long as they were, too
+abbrev pub SameShares : SharesMut → SharesMut → Type 0
+SameShares a b = (b.places.ghost_name ≡ a.places.ghost_name) × (b.masses.ghost_name ≡ a.masses.ghost_name) × (length b.places.now ≡ length a.places.now) × (length b.masses.now ≡ length a.masses.now)
 
 -- the same couplings, to be read
 abbrev pub Reads : StoreMut → Store → Type 0

@@ -61,6 +61,13 @@ pub struct StoreMut<'a> {
     pub masses: &'a mut [f64],
 }
 
+// The lists that one coupling is laid over the front of: a place of a pair and a mass for each share.
+#[derive(Drop)]
+pub struct SharesMut<'a> {
+    pub places: &'a mut [u32],
+    pub masses: &'a mut [f64],
+}
+
 impl StoreMut<'_> {
     // The couplings that are laid in it.
     pub fn read(&self) -> Store<'_>

@@ -5,5 +5,5 @@ use Rattle.distance_theory.proofs.Index.{look_up}
 use Rattle.distance_couplings.proofs.Moves.{moved_best}
 use Rattle.distance_couplings.proofs.best.best_moved.Goals as goal
 
-pub returns : goal.returns
-returns c = moved_best (look_up c.args.codes.now) c.args.xs.now.targets.now c.args.xs.now.probs.now c.args.ys.now.targets.now c.args.ys.now.probs.now (length c.args.codes.now) c.requires.beside c.args.values.now _ (replicate 32 nought) _ (replicate 1024 nought) c.fit.ensures (c.lay_values.ensures c.args.xs.now.probs.now c.args.ys.now.probs.now c.requires.beside) c.args.places.now c.args.masses.now _ c.move_masses.ensures
+pub returns-clause-bested : goal.returns-clause-bested
+returns-clause-bested c = moved_best (look_up c.args.codes.now) c.args.xs.now.targets.now c.args.xs.now.probs.now c.args.ys.now.targets.now c.args.ys.now.probs.now (length c.args.codes.now) c.requires.beside c.args.values.now _ (replicate 32 nought) _ (replicate 1024 nought) c.fit.ensures (c.lay_values.ensures c.args.xs.now.probs.now c.args.ys.now.probs.now c.requires.beside) c.args.shares.now.places.now c.args.shares.now.masses.now _ c.move_masses.ensures.bested

@@ -8,17 +8,17 @@ use Rattle.distance_theory.proofs.Bests.{independent_by, lay_if, beside, no_rows
 use Rattle.distance_couplings.proofs.Moves.{laid_all}
 use Rattle.distance_couplings.proofs.shares.lay_independent.Goals as goal
 
-pub returns-then-not-rows_fit : goal.returns-then-not-rows_fit
-returns-then-not-rows_fit c = ap (λ (b : Bool). lay_if b (independent_by (look_up c.args.codes.now) (jumps_of c.args.xs.now.targets.now c.args.xs.now.probs.now) (jumps_of c.args.ys.now.targets.now c.args.ys.now.probs.now)) c.args.places.now c.args.masses.now) (no_rows (length c.args.xs.now.targets.now) (length c.args.xs.now.probs.now) (length c.args.ys.now.targets.now) (length c.args.ys.now.probs.now) (length c.args.codes.now) (length c.args.places.now) (length c.args.masses.now) c.rows_fit.result c.rows_fit.ensures (ap not c.if-not-rows_fit.true))
+pub returns-then-not-rows_fit-clause-laid : goal.returns-then-not-rows_fit-clause-laid
+returns-then-not-rows_fit-clause-laid c = ap (λ (b : Bool). lay_if b (independent_by (look_up c.args.codes.now) (jumps_of c.args.xs.now.targets.now c.args.xs.now.probs.now) (jumps_of c.args.ys.now.targets.now c.args.ys.now.probs.now)) c.args.shares.now.places.now c.args.shares.now.masses.now) (no_rows (length c.args.xs.now.targets.now) (length c.args.xs.now.probs.now) (length c.args.ys.now.targets.now) (length c.args.ys.now.probs.now) (length c.args.codes.now) (length c.args.shares.now.places.now) (length c.args.shares.now.masses.now) c.rows_fit.result c.rows_fit.ensures (ap not c.if-not-rows_fit.true))
 
 pub cells_fit-requires : goal.cells_fit-requires
 cells_fit-requires c = let B = beside c.args.xs.now.targets.now c.args.xs.now.probs.now c.args.ys.now.targets.now c.args.ys.now.probs.now (length c.args.codes.now) c.rows_fit.result c.rows_fit.ensures (ap not c.if-not-rows_fit.false) in (B.few_left, B.few_right)
 
-pub returns-then-not-cells_fit : goal.returns-then-not-cells_fit
-returns-then-not-cells_fit c = ap (λ (b : Bool). lay_if b (independent_by (look_up c.args.codes.now) (jumps_of c.args.xs.now.targets.now c.args.xs.now.probs.now) (jumps_of c.args.ys.now.targets.now c.args.ys.now.probs.now)) c.args.places.now c.args.masses.now) (no_cells (length c.args.xs.now.targets.now) (length c.args.xs.now.probs.now) (length c.args.ys.now.targets.now) (length c.args.ys.now.probs.now) (length c.args.codes.now) (length c.args.places.now) (length c.args.masses.now) c.rows_fit.result c.rows_fit.ensures (ap not c.if-not-rows_fit.false) c.cells_fit.result c.cells_fit.ensures (ap not c.if-not-cells_fit.true))
+pub returns-then-not-cells_fit-clause-laid : goal.returns-then-not-cells_fit-clause-laid
+returns-then-not-cells_fit-clause-laid c = ap (λ (b : Bool). lay_if b (independent_by (look_up c.args.codes.now) (jumps_of c.args.xs.now.targets.now c.args.xs.now.probs.now) (jumps_of c.args.ys.now.targets.now c.args.ys.now.probs.now)) c.args.shares.now.places.now c.args.shares.now.masses.now) (no_cells (length c.args.xs.now.targets.now) (length c.args.xs.now.probs.now) (length c.args.ys.now.targets.now) (length c.args.ys.now.probs.now) (length c.args.codes.now) (length c.args.shares.now.places.now) (length c.args.shares.now.masses.now) c.rows_fit.result c.rows_fit.ensures (ap not c.if-not-rows_fit.false) c.cells_fit.result c.cells_fit.ensures (ap not c.if-not-cells_fit.true))
 
 pub lay_shares-requires : goal.lay_shares-requires
-lay_shares-requires c = record { beside = beside c.args.xs.now.targets.now c.args.xs.now.probs.now c.args.ys.now.targets.now c.args.ys.now.probs.now (length c.args.codes.now) c.rows_fit.result c.rows_fit.ensures (ap not c.if-not-rows_fit.false); ys_in_bounds = cells_room (length c.args.xs.now.targets.now) (length c.args.ys.now.targets.now) (length c.args.places.now) (length c.args.masses.now) c.cells_fit.result c.cells_fit.ensures (ap not c.if-not-cells_fit.false) }
+lay_shares-requires c = record { beside = beside c.args.xs.now.targets.now c.args.xs.now.probs.now c.args.ys.now.targets.now c.args.ys.now.probs.now (length c.args.codes.now) c.rows_fit.result c.rows_fit.ensures (ap not c.if-not-rows_fit.false); ys_in_bounds = cells_room (length c.args.xs.now.targets.now) (length c.args.ys.now.targets.now) (length c.args.shares.now.places.now) (length c.args.shares.now.masses.now) c.cells_fit.result c.cells_fit.ensures (ap not c.if-not-cells_fit.false) }
 
-pub returns : goal.returns
-returns c = laid_all (look_up c.args.codes.now) c.args.xs.now.targets.now c.args.xs.now.probs.now c.args.ys.now.targets.now c.args.ys.now.probs.now (length c.args.codes.now) (beside c.args.xs.now.targets.now c.args.xs.now.probs.now c.args.ys.now.targets.now c.args.ys.now.probs.now (length c.args.codes.now) c.rows_fit.result c.rows_fit.ensures (ap not c.if-not-rows_fit.false)) _ c.args.places.now _ c.args.masses.now c.lay_shares.ensures.0 c.lay_shares.ensures.1 ∙ ap (λ (b : Bool). lay_if b (independent_by (look_up c.args.codes.now) (jumps_of c.args.xs.now.targets.now c.args.xs.now.probs.now) (jumps_of c.args.ys.now.targets.now c.args.ys.now.probs.now)) c.args.places.now c.args.masses.now) (both_fit (length c.args.xs.now.targets.now) (length c.args.xs.now.probs.now) (length c.args.ys.now.targets.now) (length c.args.ys.now.probs.now) (length c.args.codes.now) (length c.args.places.now) (length c.args.masses.now) c.rows_fit.result c.rows_fit.ensures (ap not c.if-not-rows_fit.false) c.cells_fit.result c.cells_fit.ensures (ap not c.if-not-cells_fit.false))
+pub returns-clause-laid : goal.returns-clause-laid
+returns-clause-laid c = laid_all (look_up c.args.codes.now) c.args.xs.now.targets.now c.args.xs.now.probs.now c.args.ys.now.targets.now c.args.ys.now.probs.now (length c.args.codes.now) (beside c.args.xs.now.targets.now c.args.xs.now.probs.now c.args.ys.now.targets.now c.args.ys.now.probs.now (length c.args.codes.now) c.rows_fit.result c.rows_fit.ensures (ap not c.if-not-rows_fit.false)) _ c.args.shares.now.places.now _ c.args.shares.now.masses.now c.lay_shares.ensures.laid.0 c.lay_shares.ensures.laid.1 ∙ ap (λ (b : Bool). lay_if b (independent_by (look_up c.args.codes.now) (jumps_of c.args.xs.now.targets.now c.args.xs.now.probs.now) (jumps_of c.args.ys.now.targets.now c.args.ys.now.probs.now)) c.args.shares.now.places.now c.args.shares.now.masses.now) (both_fit (length c.args.xs.now.targets.now) (length c.args.xs.now.probs.now) (length c.args.ys.now.targets.now) (length c.args.ys.now.probs.now) (length c.args.codes.now) (length c.args.shares.now.places.now) (length c.args.shares.now.masses.now) c.rows_fit.result c.rows_fit.ensures (ap not c.if-not-rows_fit.false) c.cells_fit.result c.cells_fit.ensures (ap not c.if-not-cells_fit.false))
