@@ -6,6 +6,7 @@ ghost use Rattle.epsdelta_theory.specs.Bisimilar;
 use bisim_core::ids::StateId;
 
 // Whether there is none.
+// Stays: callers' clauses say `absent` of document 01's check 8; that `is_none` meets it is proved here once.
 pub fn absent(initial: Option<StateId>) -> bool
     ensures { result ≡ Refusal.absent initial }
 {

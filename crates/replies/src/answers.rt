@@ -135,6 +135,7 @@ pub fn put_flow(
 }
 
 // 0, or the refusal's number.
+// Stays: the contract of `tanqesha_epsdelta` speaks of `of_ended`, and that `code` meets it is proved here.
 pub fn number_of(ended: Result<(), Refusal>) -> u32
     ensures { result ≡ of_ended (numbered ended) }
 {
