@@ -8,7 +8,6 @@ use mathlib.Core.Bool.{true, false}
 use mathlib.Core.Logic.{◌≢◌, ◌⊎◌}
 use lib.Ieee.{Float}
 use Rattle.flow_theory.specs.Network.{Net, nodes, residual}
-use Rattle.flow_theory.specs.Augment
 use Rattle.flow_theory.specs.Augment.{Walked, reached, blocked}
 use Rattle.flow_theory.proofs.Links.{WellFormed, Caps}
 use Rattle.flow_theory.proofs.Levels.{Levels}
@@ -44,9 +43,6 @@ pub record Sought (H list : List ℕ) (c : List Float) (L : List ℕ) (want at t
   pub ends : r ≤ to
   pub passed : (j : ℕ) → at ≤ j → j < r → Idle H c L want (get_or list j 0)
   pub found : r < to → Leads H c L want (get_or list r 0)
-
-abbrev pub Placed : List Float → List ℕ → Type 0
-Placed c p = Augment.Placed c p
 
 -- what a search of a whole row finds: the place of its first link that leads to the level, if there is one
 abbrev pub Found : List ℕ → List ℕ → List Float → List ℕ → ℕ → Option ℕ → Type 0

@@ -2,6 +2,6 @@
 #![tactic(auto)]
 
 mod search; // search.rt: a shortest path, by Bellman-Ford
-mod path; // path.rt: the path, and the push along it
+mod path; // path.rt: the path to the sink
 mod run; // run.rt: rounds
 pub mod rows; // rows.rt: the rounds on links in rows

@@ -1,6 +1,4 @@
-// The path to the sink, walked back along the links of the search, and the push along it.
-ghost use Rattle.flow_theory.specs.Augment;
-ghost use Rattle.flow_theory.proofs.PathRows.{Placed};
+// The path to the sink, walked back along the links of the search.
 ghost use Rattle.flow_check.specs.Lent.{net_of};
 ghost use Rattle.transport_theory.proofs.WalkRows.{Walkable, Walked};
 ghost use Rattle.std.specs.Prelude.{◌≡◌};
@@ -24,30 +22,4 @@ pub(crate) fn walk(net: &Network, ends: Ends, via: &[usize], path: &mut [usize])
         v = net.heads[e ^ 1] as usize;
     }
     Some(length)
-}
-
-// The least of x and the capacities on the path.
-pub(crate) fn least(caps: &[f64], path: &[usize], x: f64) -> f64
-    requires { Placed caps.now path.now }
-    ensures { result ≡ Augment.least caps.now x path.now }
-{
-    let mut y = x;
-    for e in path {
-        let c = caps[*e];
-        if c < y {
-            y = c;
-        }
-    }
-    y
-}
-
-// Takes x off each link of the path, and gives it to its reverse.
-pub(crate) fn push_path(caps: &mut [f64], path: &[usize], x: f64)
-    requires { Placed caps.old path.now }
-    ensures { caps.new ≡ Augment.push_path x path.now caps.old }
-{
-    for e in path {
-        caps[*e] -= x;
-        caps[*e ^ 1] += x;
-    }
 }

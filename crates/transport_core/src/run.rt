@@ -6,6 +6,7 @@ ghost use Rattle.transport_theory.specs.Transport.{rounds};
 use crate::path;
 use crate::search::{Tree, search};
 use flow_check::{Ends, Network};
+use flow_theory::path::{least, push_path};
 use numbers::{EPS, infinity};
 use transport_theory::is_infinite;
 
@@ -25,11 +26,11 @@ fn push_back(
 {
     let mut path = [0usize; 67];
     let length = path::walk(net, ends, via, &mut path)?;
-    let x = path::least(caps, &path[..length], remaining);
+    let x = least(caps, &path[..length], remaining);
     if x <= EPS {
         return None;
     }
-    path::push_path(caps, &path[..length], x);
+    push_path(caps, &path[..length], x);
     Some(remaining - x)
 }
 

@@ -16,7 +16,7 @@ use Rattle.flow_theory.specs.Augment.{least, push_path}
 use Rattle.flow_theory.specs.Rows.{network}
 use Rattle.flow_theory.proofs.Links.{rev_in}
 use Rattle.flow_theory.proofs.Outs.{network_nodes}
-use Rattle.flow_theory.proofs.PathRows.{Placed}
+use Rattle.flow_theory.specs.Augment.{Placed}
 use Rattle.transport_theory.specs.Links.{Roads}
 use Rattle.transport_theory.specs.Shortest.{infinite, Tree, far, sprout, shortest, search, ends}
 use Rattle.transport_theory.specs.Transport.{Shipment, Turn, more, done, give_up, ship, move, turn, rounds}

@@ -1,25 +1,22 @@
 -- The loops along the path of a round: the walk back, and the least of what remains and the capacities.
 use mathlib.Core.Path.{◌≡◌, refl, sym, ap, subst, ◌∙◌}
 use mathlib.Core.Logic.{◌≢◌}
-use mathlib.Core.Bool.{Bool, true, false}
 use Prim.Native.Nat.{ℕ, suc, ◌+◌, ◌-◌, ◌≤◌, ◌<◌}
 use mathlib.Core.List.{List, [], ◌∷◌, ◌++◌, append-nil}
 use native.Mathlib.Omega.{arith}
 use native.Mathlib.Numerals.{add-one}
 use lib.Bits.{bit_xor}
-use lib.ListN.{length, get_or, set, take, length-set, drop, drop_of_length-le}
-use lib.Seq.{take-suc-set, drop-cons}
-use lib.Ieee.{Float, nan, lt}
+use lib.ListN.{length, get_or, set, take, length-set}
+use lib.Seq.{take-suc-set}
+use lib.Ieee.{Float}
 use borrow.Author.Tests.{eq-eqb, ne_eqb}
-use Rattle.numbers.specs.Choice.{choose, smaller}
 use Rattle.numbers.specs.Lists.{In}
 use Rattle.numbers.proofs.Members.{in_at}
-use Rattle.flow_theory.specs.Network.{Net, nodes, links, rev, head, tail, left}
+use Rattle.flow_theory.specs.Network.{Net, nodes, links, rev, head, tail}
 use Rattle.flow_theory.specs.Rows.{network}
-use Rattle.flow_theory.specs.Augment.{least}
 use Rattle.flow_theory.proofs.Links.{rev_xor}
 use Rattle.flow_theory.proofs.Outs.{network_nodes}
-use Rattle.flow_theory.proofs.PathRows.{Placed}
+use Rattle.flow_theory.specs.Augment.{Placed}
 use Rattle.std.specs.Prelude.{Some, None}
 use Rattle.transport_theory.specs.Shortest.{route, ends}
 use Rattle.transport_theory.proofs.Paths.{route_step, route_home, ends_step, ends_home}
@@ -115,28 +112,3 @@ path_placed N w p n c W size inn = record { link_in = λ i h. rw size (each i h)
   where
     each : (i : ℕ) → i < length (take n p) → (get_or (take n p) i 0 < links N) × (rev (get_or (take n p) i 0) < links N)
     each i h = inn (get_or (take n p) i 0) (subst (In (get_or (take n p) i 0)) W.path_is (in_at (take n p) i 0 h))
-
--- ---- the least of what remains and the capacities on the path
-
--- what is still to come of the path leads from x to the least
-pub record LeastFrom (y : Float) (c : List Float) (p : List ℕ) (i : ℕ) (x : Float) : Type 0 where
-  pub upto : i ≤ length p
-  pub same : least c x (drop i p) ≡ least c y p
-
-module _ {y : Float} {c : List Float} {p : List ℕ} where
-  module _ {i : ℕ} {x : Float} (I : LeastFrom y c p i x) (more : i < length p) where
-    step_least : (b : Bool) → lt (get_or c (get_or p i 0) nan) x ≡ b → least c (choose b (get_or c (get_or p i 0) nan) x) (drop (suc i) p) ≡ least c y p
-    unfolding least smaller left
-    step_least b t = ap (λ (d : Bool). least c (choose d (get_or c (get_or p i 0) nan) x) (drop (suc i) p)) (sym t) ∙ ap (least c x) (sym (drop-cons p i 0 more)) ∙ I.same
-
-    pub lower : lt (get_or c (get_or p i 0) nan) x ≡ true → (z : Float) → z ≡ get_or c (get_or p i 0) nan → LeastFrom y c p (i + 1) z
-    lower t z q = record { upto = omega arith; same = rw (add-one i, q) (step_least true t) }
-
-    pub stays : lt (get_or c (get_or p i 0) nan) x ≡ false → (z : Float) → z ≡ x → LeastFrom y c p (i + 1) z
-    stays t z q = record { upto = omega arith; same = rw (add-one i, q) (step_least false t) }
-
-  pub least_ends : {i : ℕ} {x : Float} → LeastFrom y c p i x → length p ≤ i → x ≡ least c y p
-  unfolding least
-  least_ends {i} {x} I le =
-      let e = I.upto in
-      ap (least c x) (sym (drop_of_length-le p (omega arith))) ∙ I.same
