@@ -1,5 +1,6 @@
 -- What is told and written is the definition's outcome.
 use mathlib.Core.Path.{◌≡◌, refl, sym, ap, ◌∙◌}
+use Rattle.std.specs.Prelude.{Ok, Err}
 use Prim.Native.Nat.{ℕ, zero, suc, min, ◌≤◌}
 use mathlib.Core.List.{List, [], ◌∷◌}
 use lib.ListN.{length}
@@ -9,19 +10,16 @@ use Rattle.bisim_core.specs.declared.wlts.Shape.{Shape}
 use Rattle.bisim_core.specs.Model.{model}
 use Rattle.chain_theory.specs.Columns.{ChainColumns}
 use Rattle.distance_theory.specs.Refusal.{bisim_refusal}
-use Rattle.distance_theory.specs.Outcome.{Run, bisim_run, blank, zeros, noughts, ends, ChainsOutcome, chains_end, chains_settled, bisim_distance}
+use Rattle.distance_theory.specs.Outcome.{Run, bisim_run, blank, zeros, noughts, ends, ChainsOutcome, chains_end, chains_settled, bisim_distance, Measured}
 use Rattle.distance_theory.specs.Outcome.{ran as ranFrom}
 use Rattle.distance_theory.specs.declared.MetricOptions.{MetricOptions}
 use Rattle.distance_theory.specs.declared.PairContribution.{PairContribution}
-use Rattle.distance_theory.specs.declared.Measured.{Measured}
-use Rattle.distance_theory.specs.declared.Measured.TheVariants as says
 use Rattle.distance_words.specs.Told.{row, ran_as}
 use Rattle.distance_contributions.specs.Row.{Stored, written}
 use Rattle.distance_contributions.proofs.Records.{listed_written}
-use Rattle.distance_words.specs.declared.told.Told.{Told}
-use Rattle.distance_words.specs.Told.{told_if, told_of}
-use Rattle.distance.specs.Measuring.{answer_of, Handed, handed, hand_out, memory}
-use Rattle.distance.proofs.Concluding.{none_written, run_few, run_counts}
+use Rattle.distance_words.specs.Told.{Told, told_if, told_of}
+use Rattle.distance.specs.Measuring.{answer_of, row_of, Handed, handed, hand_out, memory}
+use Rattle.distance.proofs.Concluding.{run_few, run_counts}
 use Rattle.bisim_checks.proofs.Passed.{Passed, passed}
 use Rattle.bisim_chains.specs.Made.{left_of, right_of}
 use Rattle.bisim_measure.specs.Measure.{Measuring, measuring, measured_if, bisim_measure}
@@ -57,7 +55,7 @@ module _ (SL : Shape) (ML : Columns) (s : ℕ) (seenL : List Float) (CL : ChainC
   abbrev outcome : Measuring → ChainsOutcome
   outcome w =
       let x = w.ran in
-      chains_end (ends (answer_of x.told) (memory x.lefts x.rights x.codes x.places x.masses (written x.told.records x.told.distance.contributions rs).records)) w.left w.right
+      chains_end (ends (answer_of x.told) (memory x.lefts x.rights x.codes x.places x.masses (row_of x.told rs))) w.left w.right
 
   abbrev swept : Measured → List PairContribution → ChainsOutcome
   swept a q = chains_end (ends a (memory (zeros l) (zeros r) (zeros c) (zeros p) (noughts m) q)) (blank CL) (blank CR)
@@ -65,14 +63,14 @@ module _ (SL : Shape) (ML : Columns) (s : ℕ) (seenL : List Float) (CL : ChainC
   -- a run that was made, for any run of at most 64 contributions
   made : (Y : Run) → Y.distance.contributions ≡ length Y.listed → length Y.listed ≤ 64 → 64 ≤ length rs → (k : ℕ)
       → outcome (measured_if 0 (told_if k Y) CL CR l r c p m) ≡ chains_end (ranFrom k Y (memory l r c p m rs)) (blank CL) (blank CR)
-  made Y e f g zero = ap (λ (q : Stored). swept (says.Distance Y.distance) q.records) (ap (λ (n : ℕ). written (row Y.listed) n rs) e ∙ listed_written Y.listed rs g f)
-  made Y e f g (suc k) = ap (swept (says.Refused (suc k))) (none_written (row []) rs)
+  made Y e f g zero = ap (λ (q : Stored). swept (Ok Y.distance) q.records) (ap (λ (n : ℕ). written (row Y.listed) n rs) e ∙ listed_written Y.listed rs g f)
+  made Y e f g (suc k) = refl
 
   settles : (k : ℕ) → number ≡ k → outcome (measured_if k (told_of ran) CL CR l r c p m) ≡ chains_settled k ran (memory l r c p m rs) CL CR
   settles zero e =
       let P : Passed SL ML s seenL CL SR MR t seenR CR γ o (length l ∷ length r ∷ length c ∷ []) (length rs) = passed SL ML s seenL CL SR MR t seenR CR γ o (length l ∷ length r ∷ length c ∷ []) (length rs) e in
       made ran (counted (model SL ML) s seenL (model SR MR) t seenR γ o (min (length p) (length m))) (few_listed (model SL ML) s seenL (model SR MR) t seenR γ o (min (length p) (length m)) P.asked) P.row ran.refusal
-  settles (suc k) e = ap (λ (q : List PairContribution). chains_end (ends (says.Refused (suc k)) (memory l r c p m q)) CL CR) (none_written (row []) rs)
+  settles (suc k) e = refl
 
   pub concludes : {x : Told} {l' r' c' p' : List ℕ} {m' : List Float} {C' D' : ChainColumns} {a : Measured} {rs' : List PairContribution}
       → measuring (ran_as x l' r' c' p' m') C' D' ≡ bisim_measure SL ML s seenL CL SR MR t seenR CR γ o l r c p m (length rs) → handed a rs' ≡ hand_out x rs

@@ -1,65 +1,52 @@
 // `bisim_distance`, with the row of contribution records that is lent to it.
 ghost use Rattle.std.specs.Prelude.{◌≡◌};
-ghost use Rattle.bisim_core.specs.Data.{columns, columns_of};
+ghost use Rattle.numbers.specs.Refuse.{numbered};
+ghost use Rattle.bisim_core.specs.Data.{columns_of};
 ghost use Rattle.chain_theory.specs.Columns.{chain_columns};
+ghost use Rattle.distance_theory.specs.Lent.{SameScratch};
 ghost use Rattle.distance_theory.specs.Outcome.{ends, chains_end, bisim_distance};
 ghost use Rattle.distance.specs.Measuring.{memory};
 
-use bisim_core::ids::StateId;
-use bisim_core::wlts::{Shape, Wlts};
+use bisim_checks::sides::Observed;
 use bisim_measure::measure::measure;
 use distance::entry::hand_out;
-use distance_theory::{Measured, MetricOptions, PairContribution};
+use distance_theory::lent::Scratch;
+use distance_theory::{Distance, Goal, PairContribution};
+use numbers::refusal::Refusal;
 
-// The distance of a state of one model to a state of another: that of their chains at the common rate, from these states, with observations scaled together. Or the number of the first check that fails. The lists lent for the chains, the lists of pairs and the coupling store are scratch.
+// The distance of a state of one model to a state of another: that of their chains at the common rate, from these states, with observations scaled together. Or the first check that fails. The lists lent for the chains are scratch too.
+// Stays: the lists lent for the chains are lent one by one, as to `measure`.
 pub fn bisim_distance(
-    left: &Wlts,
-    left_state: StateId,
-    left_observations: &[f64],
-    left_chain_offsets: &mut [u32],
-    left_chain_targets: &mut [u32],
-    left_chain_probs: &mut [f64],
-    left_chain_seen: &mut [f64],
-    right: &Wlts,
-    right_state: StateId,
-    right_observations: &[f64],
-    right_chain_offsets: &mut [u32],
-    right_chain_targets: &mut [u32],
-    right_chain_probs: &mut [f64],
-    right_chain_seen: &mut [f64],
-    gamma: f64,
-    options: MetricOptions,
-    lefts: &mut [u32],
-    rights: &mut [u32],
-    codes: &mut [u64],
-    places: &mut [u32],
-    masses: &mut [f64],
+    left: &Observed,
+    left_offsets: &mut [u32],
+    left_targets: &mut [u32],
+    left_probs: &mut [f64],
+    left_seen: &mut [f64],
+    right: &Observed,
+    right_offsets: &mut [u32],
+    right_targets: &mut [u32],
+    right_probs: &mut [f64],
+    right_seen: &mut [f64],
+    goal: Goal,
+    scratch: &mut Scratch,
     records: &mut [PairContribution],
-) -> Measured
-    ensures { chains_end (ends result (memory lefts.new rights.new codes.new places.new masses.new records.new)) (chain_columns left_chain_offsets.new left_chain_targets.new left_chain_probs.new left_chain_seen.new) (chain_columns right_chain_offsets.new right_chain_targets.new right_chain_probs.new right_chain_seen.new) ≡ bisim_distance left.now.shape (columns_of left.now) left_state.0 left_observations.now (chain_columns left_chain_offsets.old left_chain_targets.old left_chain_probs.old left_chain_seen.old) right.now.shape (columns_of right.now) right_state.0 right_observations.now (chain_columns right_chain_offsets.old right_chain_targets.old right_chain_probs.old right_chain_seen.old) gamma options (memory lefts.old rights.old codes.old places.old masses.old records.old) }
+) -> Result<Distance, Refusal>
+    ensures lists { SameScratch scratch.old scratch.new }
+    ensures ends { chains_end (ends (numbered result) (memory scratch.new.lefts.now scratch.new.rights.now scratch.new.codes.now scratch.new.places.now scratch.new.masses.now records.new)) (chain_columns left_offsets.new left_targets.new left_probs.new left_seen.new) (chain_columns right_offsets.new right_targets.new right_probs.new right_seen.new) ≡ bisim_distance left.now.model.shape (columns_of left.now.model) left.now.state.0 left.now.observations.now (chain_columns left_offsets.old left_targets.old left_probs.old left_seen.old) right.now.model.shape (columns_of right.now.model) right.now.state.0 right.now.observations.now (chain_columns right_offsets.old right_targets.old right_probs.old right_seen.old) goal.gamma goal.options (memory scratch.old.lefts.now scratch.old.rights.now scratch.old.codes.now scratch.old.places.now scratch.old.masses.now records.old) }
 {
     let told = measure(
         left,
-        left_state,
-        left_observations,
-        left_chain_offsets,
-        left_chain_targets,
-        left_chain_probs,
-        left_chain_seen,
+        left_offsets,
+        left_targets,
+        left_probs,
+        left_seen,
         right,
-        right_state,
-        right_observations,
-        right_chain_offsets,
-        right_chain_targets,
-        right_chain_probs,
-        right_chain_seen,
-        gamma,
-        options,
-        lefts,
-        rights,
-        codes,
-        places,
-        masses,
+        right_offsets,
+        right_targets,
+        right_probs,
+        right_seen,
+        goal,
+        scratch,
         records.len(),
     );
     hand_out(records, told)

@@ -1,6 +1,6 @@
 -- From the chains that are made and run to what is told of two models.
 use mathlib.Core.Path.{◌≡◌, refl, sym, ap, subst, ◌∙◌}
-use mathlib.Core.Bool.{Bool, true}
+use mathlib.Core.Bool.{Bool, true, false, true≢false}
 use mathlib.Core.Logic.{◌≢◌}
 use Prim.Native.Nat.{ℕ, zero, suc, min}
 use mathlib.Core.List.{List, [], ◌∷◌}
@@ -27,10 +27,15 @@ use Rattle.distance_theory.specs.Refusal.{bisim_refusal}
 use Rattle.distance_theory.specs.Outcome.{Run, run, bisim_run, blank, zeros, noughts}
 use Rattle.distance_theory.specs.declared.MetricOptions.{MetricOptions}
 use Rattle.distance_words.proofs.Run.{fits, roomy, runnable, ran_if, ran_of}
-use Rattle.distance_words.specs.Told.{refused_with, told_of, Ran, ran_as}
-use Rattle.distance_words.specs.declared.told.Told.{Told}
+use Rattle.std.specs.Prelude.{Result, Ok, Err}
+use Rattle.std.specs.Result.{IsErrAnd, is_ok}
+use Rattle.numbers.specs.Refuse.{number, numbered}
+use Rattle.numbers.specs.declared.refusal.Refusal.{Refusal}
+use Rattle.chain_theory.specs.declared.ChainShape.{ChainShape}
+use Rattle.distance_words.specs.Told.{Told, told_of, Ran, ran_as}
+use Rattle.distance_words.specs.declared.told.Answer.{Answer}
 use Rattle.bisim_checks.proofs.Passed.{Side, Passed, passed}
-use Rattle.bisim_chains.specs.Made.{Made, left_of, right_of, made_of, made_if, bisim_made}
+use Rattle.bisim_chains.specs.Made.{Made, made, left_of, right_of, made_of, made_if, bisim_made}
 use Rattle.bisim_measure.specs.Measure.{Measuring, measuring, measured_if, bisim_measure}
 use Rattle.bisim_chains.proofs.Making.{left_size, right_size, seen_size}
 use Rattle.bisim_chains.proofs.Rows.{rows_slender}
@@ -92,28 +97,41 @@ module _ (SL : Shape) (ML : Columns) (s : ℕ) (seenL : List Float) (CL : ChainC
   whole = made_of (model SL ML) s seenL CL (model SR MR) t seenR CR
 
   -- what is told of chains that were refused
-  abbrev told_of_lem : Made → Measuring
-  told_of_lem Y = measuring (ran_as (refused_with Y.chains.refusal) l r c p m) Y.left_lists Y.right_lists
+  abbrev handed : Result (ChainShape × ChainShape) ℕ → Told
+  handed (Ok x) = Err 0
+  handed (Err k) = Err k
 
-  refused_so : (n : ℕ) → (made_if n whole CL CR).chains.refusal ≢ 0 → told_of_lem (made_if n whole CL CR) ≡ measured_if n answer CL CR l r c p m
+  abbrev told_by : Made → Measuring
+  told_by Y = measuring (ran_as (handed Y.chains) l r c p m) Y.left_lists Y.right_lists
+
+  refused_so : (n : ℕ) → is_ok (made_if n whole CL CR).chains ≡ false → told_by (made_if n whole CL CR) ≡ measured_if n answer CL CR l r c p m
   unfolding made_of
-  refused_so zero h = absurd (h refl)
+  refused_so zero h = absurd (true≢false h)
   refused_so (suc n) h = refl
 
-  pub turned_back : (X : Made) (x : Told) → X ≡ bisim_made SL ML s seenL CL SR MR t seenR CR γ o (length l ∷ length r ∷ length c ∷ []) records → X.chains.refusal ≢ 0 → x ≡ refused_with X.chains.refusal
-      → measuring (ran_as x l r c p m) X.left_lists X.right_lists ≡ bisim_measure SL ML s seenL CL SR MR t seenR CR γ o l r c p m records
+  pub turned_back : (x : Refusal) (C D : ChainColumns) → made (Err (number x)) C D ≡ bisim_made SL ML s seenL CL SR MR t seenR CR γ o (length l ∷ length r ∷ length c ∷ []) records
+      → (y : Result Answer Refusal) → IsErrAnd y (λ z. z ≡ x) → measuring (ran_as (numbered y) l r c p m) C D ≡ bisim_measure SL ML s seenL CL SR MR t seenR CR γ o l r c p m records
   unfolding bisim_made bisim_measure
-  turned_back X x e h f =
-      ap (λ (y : Told). measuring (ran_as y l r c p m) X.left_lists X.right_lists) f ∙ ap told_of_lem e ∙ refused_so refusal (subst (λ (Y : Made). Y.chains.refusal ≢ 0) e h)
+  turned_back x C D e (Ok y) i = absurd i
+  turned_back x C D e (Err y) i =
+      ap (λ (z : Refusal). measuring (ran_as (Err (number z)) l r c p m) C D) i ∙ ap told_by e
+      ∙ refused_so refusal (subst (λ (Y : Made). is_ok Y.chains ≡ false) e refl)
 
-  number_is : (n : ℕ) → (made_if n whole CL CR).chains.refusal ≡ n
+  number_is : (n : ℕ) → is_ok (made_if n whole CL CR).chains ≡ true → n ≡ 0
   unfolding made_of
-  number_is zero = refl
-  number_is (suc n) = refl
+  number_is zero h = refl
+  number_is (suc n) h = absurd (true≢false (sym h))
 
-  passes : (X : Made) → X ≡ bisim_made SL ML s seenL CL SR MR t seenR CR γ o (length l ∷ length r ∷ length c ∷ []) records → X.chains.refusal ≡ 0 → refusal ≡ 0
-  unfolding bisim_made
-  passes X e z = sym (number_is refusal) ∙ sym (ap (λ (Y : Made). Y.chains.refusal) e) ∙ z
+  abbrev none : ChainShape
+  none = record { states = 0; entries = 0; initial = record { 0 = 0 } }
+
+  abbrev left_in : Result (ChainShape × ChainShape) ℕ → ChainShape
+  left_in (Ok x) = x.0
+  left_in (Err k) = none
+
+  abbrev right_in : Result (ChainShape × ChainShape) ℕ → ChainShape
+  right_in (Ok x) = x.1
+  right_in (Err k) = none
 
   module _ (z : refusal ≡ 0) where
     facts : Passed SL ML s seenL CL SR MR t seenR CR γ o (length l ∷ length r ∷ length c ∷ []) records
@@ -170,18 +188,21 @@ module _ (SL : Shape) (ML : Columns) (s : ℕ) (seenL : List Float) (CL : ChainC
     told_so : (X : Made) → X ≡ whole
         → length X.left_lists.offsets ≡ length CL.offsets → length X.left_lists.targets ≡ length CL.targets → length X.left_lists.probabilities ≡ length CL.probabilities → length X.left_lists.observations ≡ length CL.observations
         → length X.right_lists.offsets ≡ length CR.offsets → length X.right_lists.targets ≡ length CR.targets → length X.right_lists.probabilities ≡ length CR.probabilities → length X.right_lists.observations ≡ length CR.observations
-        → (Y : Measuring) → Y ≡ measuring (ran_of X.chains.left X.left_lists X.chains.right X.right_lists γ o l r c p m) (blank X.left_lists) (blank X.right_lists) → Y ≡ bisim_measure SL ML s seenL CL SR MR t seenR CR γ o l r c p m records
+        → (Y : Measuring) → Y ≡ measuring (ran_of (left_in X.chains) X.left_lists (right_in X.chains) X.right_lists γ o l r c p m) (blank X.left_lists) (blank X.right_lists) → Y ≡ bisim_measure SL ML s seenL CL SR MR t seenR CR γ o l r c p m records
     unfolding bisim_measure made_of
     told_so X e l₁ l₂ l₃ l₄ r₁ r₂ r₃ r₄ Y f =
-        f ∙ ap (λ (D : ChainColumns). measuring (ran_of X.chains.left X.left_lists X.chains.right X.right_lists γ o l r c p m) D (blank X.right_lists)) (blank_as CL X.left_lists l₁ l₂ l₃ l₄)
-        ∙ ap (λ (D : ChainColumns). measuring (ran_of X.chains.left X.left_lists X.chains.right X.right_lists γ o l r c p m) (blank CL) D) (blank_as CR X.right_lists r₁ r₂ r₃ r₄)
-        ∙ ap (λ (Z : Made). measuring (ran_of Z.chains.left Z.left_lists Z.chains.right Z.right_lists γ o l r c p m) (blank CL) (blank CR)) e
+        f ∙ ap (λ (D : ChainColumns). measuring (ran_of (left_in X.chains) X.left_lists (right_in X.chains) X.right_lists γ o l r c p m) D (blank X.right_lists)) (blank_as CL X.left_lists l₁ l₂ l₃ l₄)
+        ∙ ap (λ (D : ChainColumns). measuring (ran_of (left_in X.chains) X.left_lists (right_in X.chains) X.right_lists γ o l r c p m) (blank CL) D) (blank_as CR X.right_lists r₁ r₂ r₃ r₄)
+        ∙ ap (λ (Z : Made). measuring (ran_of (left_in Z.chains) Z.left_lists (right_in Z.chains) Z.right_lists γ o l r c p m) (blank CL) (blank CR)) e
         ∙ ap (λ (w : Ran). measuring w (blank CL) (blank CR)) ran_so
         ∙ ap (λ (k : ℕ). measured_if k answer CL CR l r c p m) (sym z)
 
-  pub measured : (X : Made) → X ≡ bisim_made SL ML s seenL CL SR MR t seenR CR γ o (length l ∷ length r ∷ length c ∷ []) records → X.chains.refusal ≡ 0
-      → length X.left_lists.offsets ≡ length CL.offsets → length X.left_lists.targets ≡ length CL.targets → length X.left_lists.probabilities ≡ length CL.probabilities → length X.left_lists.observations ≡ length CL.observations
-      → length X.right_lists.offsets ≡ length CR.offsets → length X.right_lists.targets ≡ length CR.targets → length X.right_lists.probabilities ≡ length CR.probabilities → length X.right_lists.observations ≡ length CR.observations
-      → (Y : Measuring) → Y ≡ measuring (ran_of X.chains.left X.left_lists X.chains.right X.right_lists γ o l r c p m) (blank X.left_lists) (blank X.right_lists) → Y ≡ bisim_measure SL ML s seenL CL SR MR t seenR CR γ o l r c p m records
+  pub measured : (h k : ChainShape) (C D : ChainColumns) → made (Ok (h, k)) C D ≡ bisim_made SL ML s seenL CL SR MR t seenR CR γ o (length l ∷ length r ∷ length c ∷ []) records
+      → length C.offsets ≡ length CL.offsets → length C.targets ≡ length CL.targets → length C.probabilities ≡ length CL.probabilities → length C.observations ≡ length CL.observations
+      → length D.offsets ≡ length CR.offsets → length D.targets ≡ length CR.targets → length D.probabilities ≡ length CR.probabilities → length D.observations ≡ length CR.observations
+      → (Y : Measuring) → Y ≡ measuring (ran_of h C k D γ o l r c p m) (blank C) (blank D) → Y ≡ bisim_measure SL ML s seenL CL SR MR t seenR CR γ o l r c p m records
   unfolding bisim_made
-  measured X e z = let k = passes X e z in told_so k X (e ∙ ap (λ (n : ℕ). made_if n whole CL CR) k)
+  measured h k C D e =
+      let X : Made = made (Ok (h, k)) C D in
+      let z = number_is refusal (subst (λ (Y : Made). is_ok Y.chains ≡ true) e refl) in
+      told_so z X (e ∙ ap (λ (n : ℕ). made_if n whole CL CR) z)

@@ -1,5 +1,5 @@
 -- What is told of two models, and what is left in the lists that are lent, the contribution records apart.
-use Rattle.std.specs.Prelude.{ℕ, zero, suc, min, List, [], ◌∷◌, length, Float}
+use Rattle.std.specs.Prelude.{ℕ, zero, suc, min, List, [], ◌∷◌, length, Float, Err}
 use Rattle.bisim_core.specs.Data.{Columns}
 use Rattle.bisim_core.specs.declared.wlts.Shape.{Shape}
 use Rattle.bisim_core.specs.Model.{model}
@@ -7,8 +7,7 @@ use Rattle.chain_theory.specs.Columns.{ChainColumns}
 use Rattle.distance_theory.specs.Refusal.{bisim_refusal}
 use Rattle.distance_theory.specs.Outcome.{bisim_run, blank, zeros, noughts}
 use Rattle.distance_theory.specs.declared.MetricOptions.{MetricOptions}
-use Rattle.distance_words.specs.Told.{refused_with, told_of, Ran, ran_as}
-use Rattle.distance_words.specs.declared.told.Told.{Told}
+use Rattle.distance_words.specs.Told.{Told, told_of, Ran, ran_as}
 
 -- what is told with the lists of pairs and the coupling store, and the lists lent for the chains
 pub record Measuring : Type 0 where
@@ -22,7 +21,7 @@ measuring x C D = record { ran = x; left = C; right = D }
 -- once the arguments have passed every list is all zero; before that, all is as it was
 abbrev pub measured_if : ℕ → Told → ChainColumns → ChainColumns → List ℕ → List ℕ → List ℕ → List ℕ → List Float → Measuring
 measured_if zero t C D l r c p m = measuring (ran_as t (zeros l) (zeros r) (zeros c) (zeros p) (noughts m)) (blank C) (blank D)
-measured_if (suc n) t C D l r c p m = measuring (ran_as (refused_with (suc n)) l r c p m) C D
+measured_if (suc n) t C D l r c p m = measuring (ran_as (Err (suc n)) l r c p m) C D
 
 -- two models, a state and observations of each, the lists lent for their chains, γ, options, the other lists, and how many contribution records there are
 unfoldable pub bisim_measure : Shape → Columns → ℕ → List Float → ChainColumns → Shape → Columns → ℕ → List Float → ChainColumns → Float → MetricOptions → List ℕ → List ℕ → List ℕ → List ℕ → List Float → ℕ → Measuring

@@ -11,7 +11,8 @@ use lib.ListN.{length, take, length-take}
 use lib.Ieee.{Float}
 use borrow.Author.Tests.{ltb-false, le-leb, not-false}
 use Rattle.numbers.specs.Real.{nought, one}
-use Rattle.numbers.specs.Refuse.{check, number, numbered}
+use Rattle.numbers.specs.Refuse.{check, numbered}
+use Rattle.numbers.specs.Refuse.{number as number_of}
 use Rattle.numbers.specs.declared.refusal.Refusal.{Refusal}
 use Rattle.numbers.specs.Lists.{all}
 use Rattle.numbers.proofs.Bools.{or_f}
@@ -125,10 +126,10 @@ module _ (HL : ChainShape) (CL : ChainColumns) (HR : ChainShape) (CR : ChainColu
   abbrev told : Ran
   told = measured_of HL CL HR CR γ o l r c p m records
 
-  pub measure_refused : (a : Result Answer Refusal) (x : Refusal) → IsErrAnd a (λ e. e ≡ x) → number x ≡ refusal → ran_as (numbered a) l r c p m ≡ told
+  pub measure_refused : (a : Result Answer Refusal) (x : Refusal) → IsErrAnd a (λ e. e ≡ x) → number_of x ≡ refusal → ran_as (numbered a) l r c p m ≡ told
   measure_refused (Ok y) x h e = absurd h
   measure_refused (Err y) x h e =
-      stops (number y) (told_of R) l r c p m (number_positive y) ∙ ap (λ (j : ℕ). measured_if j (told_of R) l r c p m) (ap number h ∙ e)
+      stops (number_of y) (told_of R) l r c p m (number_positive y) ∙ ap (λ (j : ℕ). measured_if j (told_of R) l r c p m) (ap number_of h ∙ e)
 
   pub measure_ran : 0 ≡ refusal → {w : Ran} → w ≡ ran_of HL CL HR CR γ o l r c p m → w ≡ told
   measure_ran e f =

@@ -5,5 +5,4 @@ pub mod Ways
 pub mod Whole
 pub mod Chains
 pub mod Explored
-pub mod Fitting
 pub mod Running

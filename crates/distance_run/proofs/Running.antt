@@ -1,11 +1,11 @@
 -- Chains that can be run: what their columns give, and what is told of them.
-use mathlib.Core.Path.{◌≡◌, sym, ap, ◌∙◌}
+use mathlib.Core.Path.{◌≡◌, sym, ap, ap₂, ◌∙◌}
 use Prim.Native.Nat.{ℕ, ◌+◌, ◌-◌, ◌≤◌, ◌<◌, min}
 use mathlib.Core.Bool.{Bool, true, false, not, ◌&&◌}
 use mathlib.Core.List.{List}
 use native.Mathlib.Omega.{arith}
 use lib.Dec.{leb}
-use lib.ListN.{length, take, replicate}
+use lib.ListN.{length, take, replicate, length-take, length-map}
 use lib.Seq.{slice, length-slice}
 use lib.Ieee.{Float}
 use borrow.Author.Tests.{leb-true, le-leb, not-true, not-false}
@@ -17,17 +17,23 @@ use Rattle.chain_theory.specs.Columns.{ChainColumns, begins, chain_of}
 use Rattle.chain_theory.specs.Check.{misshapen}
 use Rattle.chain_theory.specs.declared.ChainShape.{ChainShape}
 use Rattle.chain_theory.proofs.Shaped.{Shaped, shaped}
-use Rattle.distance_theory.specs.Pairs.{most, row_of, pairs}
+use Rattle.distance_theory.specs.Pairs.{Pair, most, row_of, pairs}
 use Rattle.distance_theory.specs.Outcome.{run}
 use Rattle.distance_theory.specs.declared.MetricOptions.{MetricOptions}
-use Rattle.distance_theory.proofs.Discovery.{discovered, listed, listed_if, discover}
+use Rattle.distance_theory.proofs.Discovery.{listed, listed_if, discover, lefts, rights, Found, found, found_in}
+use Rattle.distance_theory.proofs.Index.{index, index_length}
+use Rattle.parts.proofs.Laid.{over_size}
 use Rattle.distance_theory.proofs.Inside.{row_at}
-use Rattle.distance_rounds.proofs.Started.{bare}
-use Rattle.distance_words.specs.Told.{refused_with, told_of, Ran, ran_as}
+use Rattle.std.specs.Prelude.{Result, Ok, Err}
+use Rattle.std.specs.Result.{IsErrAnd}
+use Rattle.numbers.specs.Refuse.{number, numbered}
+use Rattle.numbers.specs.declared.refusal.Refusal.{Refusal}
+use Rattle.distance_words.specs.Told.{Told, told_of, Ran, ran_as}
+use Rattle.distance_words.specs.declared.told.Answer.{Answer}
 use Rattle.distance_words.proofs.Found.{found_of}
-use Rattle.distance_words.specs.declared.told.Told.{Told}
 use Rattle.distance_words.proofs.Run.{slim, fits, roomy, runnable, ran_if, ran_of}
-use Rattle.distance_run.proofs.Explored.{explored_told}
+use Rattle.distance_run.proofs.Chains.{cut}
+use Rattle.distance_run.proofs.Explored.{explored_refused, explored_told, some, left_long, right_long, code_long}
 
 -- ---- one chain
 
@@ -101,10 +107,6 @@ module _ (HL : ChainShape) (CL : ChainColumns) (HR : ChainShape) (CR : ChainColu
     pub right_seen : HR.states ≤ length CR.observations
     right_seen = fit_r.seen
 
-    -- the codes of all pairs that are listed can be read
-    pub known_in : (n k : ℕ) (c : List ℕ) → k ≡ min n 4096 → length c ≡ length c₀ → k ≤ length c
-    known_in n k c g h = let z = leb-true most (length c₀) (and_t (leb most (length r₀)) _ (and_t (leb most (length l₀)) _ long).1).1 in omega arith
-
     -- discovery lists all pairs
     pub discovers : discover HL CL HR CR l₀ r₀ c₀ ≡ listed (pairs (chain_of HL CL) (chain_of HR CR)) l₀ r₀ c₀
     discovers = ap (λ (b : Bool). listed_if b (pairs (chain_of HL CL) (chain_of HR CR)) l₀ r₀ c₀) readable_both
@@ -112,17 +114,56 @@ module _ (HL : ChainShape) (CL : ChainColumns) (HR : ChainShape) (CR : ChainColu
         readable_both : (roomy (length l₀) (length r₀) (length c₀) && ((leb HL.states 2000 && not (misshapen HL CL)) && (leb HR.states 2000 && not (misshapen HR CR)))) ≡ true
         readable_both = rw (long, fit_l.whole, fit_r.whole, le-leb HL.states 2000 fit_l.few, le-leb HR.states 2000 fit_r.few)
 
-    module _ {n : ℕ} {l r c : List ℕ} (d : discovered n l r c ≡ discover HL CL HR CR l₀ r₀ c₀) where
-      pub pairs_told : {k : ℕ} → k ≡ min n 4096 → {t : Told}
-          → t ≡ found_of n l r (take k c) (bare CL) (bare CR) (take HL.states CL.observations) (take HR.states CR.observations) γ o p m → t ≡ answer
-      pairs_told {k} g f = f ∙ explored_told HL CL HR CR γ o fit_l.shape fit_r.shape fit_r.few fit_l.rows fit_r.rows left_seen right_seen asked n l r c l₀ r₀ c₀ (d ∙ discovers) p m k (λ h. omega arith)
+    abbrev first_pairs : List Pair
+    first_pairs = take most (pairs (chain_of HL CL) (chain_of HR CR))
+
+    -- each list is as long as it was
+    pub lengths_kept : (x : Result ℕ ℕ) (l r c : List ℕ) → found x l r c ≡ found_in (discover HL CL HR CR l₀ r₀ c₀) → (length l ≡ length l₀) × (length r ≡ length r₀) × (length c ≡ length c₀)
+    lengths_kept x l r c d =
+        let f : found x l r c ≡ found_in (listed (pairs (chain_of HL CL) (chain_of HR CR)) l₀ r₀ c₀) = d ∙ ap found_in discovers in
+        let (kl, k) = and_t (leb most (length l₀)) _ long in
+        let (kr, kc) = and_t (leb most (length r₀)) _ k in
+        let al = leb-true most (length l₀) kl in
+        let ar = leb-true most (length r₀) kr in
+        let ac = leb-true most (length c₀) kc in
+        let n = length-take most (pairs (chain_of HL CL) (chain_of HR CR)) in
+        let nl = length-map first_pairs (λ (q : Pair). q.left) in
+        let nr = length-map first_pairs (λ (q : Pair). q.right) in
+        let nc = index_length first_pairs in (
+          ap (λ (z : Found). length z.lefts) f ∙ over_size (lefts first_pairs) l₀ (omega arith),
+          ap (λ (z : Found). length z.rights) f ∙ over_size (rights first_pairs) r₀ (omega arith),
+          ap (λ (z : Found). length z.codes) f ∙ over_size (index first_pairs) c₀ (omega arith),
+        )
+
+    module _ {l r c : List ℕ} where
+      pub pairs_refused : (x : Refusal) → found (Err (number x)) l r c ≡ found_in (discover HL CL HR CR l₀ r₀ c₀) → (t : Result Answer Refusal) → IsErrAnd t (λ y. y ≡ x) → numbered t ≡ answer
+      pairs_refused x d = explored_refused HL CL HR CR γ o fit_l.shape fit_r.shape fit_r.few fit_l.rows fit_r.rows left_seen right_seen asked l r c l₀ r₀ c₀ p m x (d ∙ ap found_in discovers)
+
+      module _ (n : ℕ) (d : found (Ok n) l r c ≡ found_in (discover HL CL HR CR l₀ r₀ c₀)) where
+        pub pairs_few : n ≤ most
+        pairs_few = (some HL CL HR CR γ o fit_l.shape fit_r.shape fit_r.few fit_l.rows fit_r.rows left_seen right_seen asked l r c l₀ r₀ c₀ p m n (d ∙ ap found_in discovers)).1
+
+        pub in_lefts : n ≤ length l
+        in_lefts = left_long HL CL HR CR γ o fit_l.shape fit_r.shape fit_r.few fit_l.rows fit_r.rows left_seen right_seen asked l r c l₀ r₀ c₀ p m n (d ∙ ap found_in discovers)
+
+        pub in_rights : n ≤ length r
+        in_rights = right_long HL CL HR CR γ o fit_l.shape fit_r.shape fit_r.few fit_l.rows fit_r.rows left_seen right_seen asked l r c l₀ r₀ c₀ p m n (d ∙ ap found_in discovers)
+
+        pub in_codes : n ≤ length c
+        in_codes = code_long HL CL HR CR γ o fit_l.shape fit_r.shape fit_r.few fit_l.rows fit_r.rows left_seen right_seen asked l r c l₀ r₀ c₀ p m n (d ∙ ap found_in discovers)
+
+        pub pairs_told : {x y z : List ℕ} → (x ≡ take n l) × (y ≡ take n r) × (z ≡ take n c) → {C D : ChainColumns} → C ≡ cut HL CL → D ≡ cut HR CR → {t : Told}
+            → t ≡ found_of (length x) x y z C D C.observations D.observations γ o p m → t ≡ answer
+        pairs_told {x} {y} {z} (e₁, e₂, e₃) {C} {D} f g k =
+            explored_told HL CL HR CR γ o fit_l.shape fit_r.shape fit_r.few fit_l.rows fit_r.rows left_seen right_seen asked l r c l₀ r₀ c₀ p m n (d ∙ ap found_in discovers) f g
+            (k ∙ ap₂ (λ (i j : List ℕ). found_of (length i) i j z C D C.observations D.observations γ o p m) e₁ e₂ ∙ ap (λ (j : List ℕ). found_of (length (take n l)) (take n l) (take n r) j C D C.observations D.observations γ o p m) e₃)
 
   -- ---- the ways that `run` ends
 
-  pub run_refused : {b : Bool} → b ≡ able → not b ≡ true → {t : Told} → t ≡ refused_with 4 → ran_as t l₀ r₀ c₀ p m ≡ whole
-  run_refused {b} e h f = ap (λ (t : Told). ran_as t l₀ r₀ c₀ p m) f ∙ ap (λ (x : Bool). ran_if x answer l₀ r₀ c₀ p m) (sym (not-true b h) ∙ e)
+  pub run_refused : able ≡ false → ran_as (Err 4) l₀ r₀ c₀ p m ≡ whole
+  run_refused h = ap (λ (x : Bool). ran_if x answer l₀ r₀ c₀ p m) (sym h)
 
-  pub run_clears : {b : Bool} → b ≡ able → not b ≡ false → {t : Told} → t ≡ answer → {l r c q : List ℕ} {w : List Float} {x y z u v : ℕ}
+  pub run_clears : able ≡ true → {t : Told} → t ≡ answer → {l r c q : List ℕ} {w : List Float} {x y z u v : ℕ}
       → (l ≡ replicate x 0) × (r ≡ replicate y 0) × (c ≡ replicate z 0) × (q ≡ replicate u 0) × (w ≡ replicate v nought)
       → x ≡ length l₀ → y ≡ length r₀ → z ≡ length c₀ → u ≡ length p → v ≡ length m → ran_as t l r c q w ≡ whole
-  run_clears {b} e h f (zl, zr, zc, zp, zm) hl hr hc hp hm = rw (f, zl, zr, zc, zp, zm, hl, hr, hc, hp, hm) (ap (λ (x : Bool). ran_if x answer l₀ r₀ c₀ p m) (sym (not-false b h) ∙ e))
+  run_clears h f (zl, zr, zc, zp, zm) hl hr hc hp hm = rw (f, zl, zr, zc, zp, zm, hl, hr, hc, hp, hm) (ap (λ (x : Bool). ran_if x answer l₀ r₀ c₀ p m) (sym h))

@@ -19,7 +19,8 @@ use Rattle.distance_theory.specs.Refusal.{run_refusal}
 use Rattle.distance_theory.specs.Outcome.{Run, run}
 use Rattle.distance_theory.specs.declared.MetricOptions.{MetricOptions}
 use Rattle.distance_theory.specs.declared.Distance.{Distance}
-use Rattle.distance_words.specs.Told.{refused_with, told_if, told_of}
+use Rattle.std.specs.Prelude.{Err}
+use Rattle.distance_words.specs.Told.{told_if, told_of}
 
 -- the run of a metric
 abbrev pub time_in : Metric → Float → MetricOptions → Visits
@@ -50,17 +51,17 @@ module _ (G : Metric) (γ : Float) (o : MetricOptions) (store : ℕ) where
   unfolding run_refusal
   refusal_as = refl
 
-  ends_with : (r : ℕ) → R.refusal ≡ suc r → refused_with (suc r) ≡ told_of R
+  ends_with : (r : ℕ) → R.refusal ≡ suc r → Err (suc r) ≡ told_of R
   ends_with r e = ap (λ (i : ℕ). told_if i R) (sym e)
 
-  pub way_17 : most < length G.found → refused_with 17 ≡ told_of R
+  pub way_17 : most < length G.found → Err 17 ≡ told_of R
   way_17 h = ends_with 16 (refusal_as ∙ check_hit 17 _ _ (lt-ltb most (length G.found) h))
 
   module _ (a : length G.found ≤ most) where
     past_17 : (later r : ℕ) → later ≡ r → check 17 (ltb most (length G.found)) later ≡ r
     past_17 later r e = check_skip 17 _ later r (le-ltb most (length G.found) a) e
 
-    pub way_18 : store < room G G.found → refused_with 18 ≡ told_of R
+    pub way_18 : store < room G G.found → Err 18 ≡ told_of R
     way_18 h = ends_with 17 (refusal_as ∙ past_17 _ 18 (check_hit 18 _ _ (lt-ltb store (room G G.found) h)))
 
     module _ (b : room G G.found ≤ store) where
@@ -70,11 +71,11 @@ module _ (G : Metric) (γ : Float) (o : MetricOptions) (store : ℕ) where
       abbrev odd : Bool
       odd = ltb 0 o.max_rounds && not (all (even G) G.found)
 
-      pub way_16 : odd ≡ true → refused_with 16 ≡ told_of R
+      pub way_16 : odd ≡ true → Err 16 ≡ told_of R
       way_16 h = ends_with 15 (refusal_as ∙ past_17 _ 16 (past_18 _ 16 (check_hit 16 odd _ h)))
 
       module _ (c : odd ≡ false) where
-        pub way_19 : lt eps (time_in G γ o).mass ≡ true → refused_with 19 ≡ told_of R
+        pub way_19 : lt eps (time_in G γ o).mass ≡ true → Err 19 ≡ told_of R
         way_19 h = ends_with 18 (refusal_as ∙ past_17 _ 19 (past_18 _ 19 (check_skip 16 odd _ 19 c (check_hit 19 _ 0 h))))
 
         pub way_0 : lt eps (time_in G γ o).mass ≡ false → told_if 0 R ≡ told_of R

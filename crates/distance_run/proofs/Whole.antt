@@ -7,7 +7,7 @@ use mathlib.Core.List.{List, [], ◌∷◌, ◌++◌}
 use native.Mathlib.Omega.{arith}
 use lib.Dec.{ltb}
 use lib.ListN.{length, get_or, take, drop, replicate, length-append, get_or-append}
-use lib.Seq.{take_at}
+use lib.Seq.{take_at, length-take-le}
 use lib.Ieee.{Float, nan, inf, binary64, sub, mul, lt}
 use borrow.Author.Tests.{le-leb}
 use Rattle.numbers.specs.Real.{nought, one, eps, tenth}
@@ -36,12 +36,12 @@ use Rattle.distance_words.proofs.Iterating.{Task, task, Iterated, iterate_from}
 use Rattle.distance_rounds.proofs.Rounded.{Serves, Solves, in_store}
 use Rattle.distance_rounds.proofs.Started.{solved}
 use Rattle.distance_words.proofs.Listing.{listing, listed_of}
+use Rattle.std.specs.Prelude.{Option}
 use Rattle.distance_words.specs.declared.told.Listed.{Listed}
 use Rattle.distance_words.proofs.Found.{account_of}
 use Rattle.distance_words.proofs.Solve.{Solving, uneven, aim_of, fine_of, solve_if, solve_from}
 use Rattle.distance_words.specs.declared.told.Accounted.{Accounted}
-use Rattle.distance_words.specs.declared.told.Told.{Told}
-use Rattle.distance_words.specs.Told.{told_of}
+use Rattle.distance_words.specs.Told.{Told, told_of}
 use Rattle.distance_words.proofs.Found.{tell_if, tell_of, found_from}
 use Rattle.distance_run.proofs.Ways.{time_in, run_of, way_18, way_16, way_19, way_0}
 
@@ -148,10 +148,10 @@ module _ {G : Metric} {l r codes : List ℕ} {C D : ChainColumns} (Y : Ready G l
       found_16 h = ap (found_from n l r u w γ o) (solved_as true true (all_laid rp rm) h) ∙ way_16 G γ o (min (length p) (length m)) fit rs h
 
       abbrev X : Occupied
-      X = visited many F.starts I.lengths I.places I.masses γ (replicate most nought) n
+      X = visited many F.starts I.lengths I.places I.masses γ (take n (replicate most nought)) n
 
-      spends : (X.done ≡ true) × (X.mass ≡ (time_in G γ o).mass) × (X.spent ≡ over (time_in G γ o).spent (replicate most nought))
-      spends = visited_is (stays rp rm) (replicate most nought) γ fit (omega arith) refl
+      spends : (X.done ≡ true) × (X.mass ≡ (time_in G γ o).mass) × (X.spent ≡ over (time_in G γ o).spent (take n (replicate most nought)))
+      spends = visited_is (stays rp rm) (take n (replicate most nought)) γ fit (let z = length-take-le n (replicate most nought) (omega arith) in omega arith) refl
 
       spent_size : length (time_in G γ o).spent ≡ n
       spent_size = (occupancy_wide γ n (solve G o).policy).spent
@@ -162,16 +162,16 @@ module _ {G : Metric} {l r codes : List ℕ} {C D : ChainColumns} (Y : Ready G l
       listed_as : listed_of n l r u w X.spent o ≡ listing true cs
       listed_as =
           let z = spent_size in
-          let a = length-append (time_in G γ o).spent (drop (length (time_in G γ o).spent) (replicate most nought)) in
+          let a = length-append (time_in G γ o).spent (drop (length (time_in G γ o).spent) (take n (replicate most nought))) in
           ap (λ (x : List Float). listed_of n l r u w x o) spends.2
-          ∙ lists (over (time_in G γ o).spent (replicate most nought)) (omega arith)
+          ∙ lists (over (time_in G γ o).spent (take n (replicate most nought))) (omega arith)
           ∙ ap (listing true) (listed_front G o (time_in G γ o).spent _ (omega arith))
 
       abbrev account_as : Accounted
       account_as = record { mass = (time_in G γ o).mass; listed = listing true cs }
 
       account_as_lem : account_of n l r u w F.starts I.lengths I.places I.masses γ o ≡ account_as
-      account_as_lem = ap₂ (λ (x : Float) (y : Listed). record { mass = x; listed = y }) spends.1 listed_as
+      account_as_lem = ap₂ (λ (x : Float) (y : Option Listed). record { mass = x; listed = y }) spends.1 listed_as
 
       value_as : get_or (I.values ++ drop n (replicate most nought)) 0 nan ≡ get_or (solve G o).value 0 nan
       value_as = get_or-append I.values _ nan 0 (let z = (solution rp rm).values_size in omega arith) ∙ ap (λ (v : List Float). get_or v 0 nan) (solution rp rm).values_are

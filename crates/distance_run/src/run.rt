@@ -1,9 +1,11 @@
 // The run of two chains, from the discovery of their pairs on.
-ghost use Rattle.std.specs.Prelude.{◌≡◌, true, ◌&&◌, List, ◌+◌, ◌<◌, min, leb, Float, length, get_or};
+ghost use Rattle.std.specs.Prelude.{◌≡◌, true, ◌<◌, ◌≤◌, ◌+◌, min, leb, length, get_or, take};
 ghost use Rattle.numbers.specs.Lists.{every};
+ghost use Rattle.numbers.specs.Refuse.{numbered};
 ghost use Rattle.chain_theory.specs.Columns.{chain_columns, chain_of};
+ghost use Rattle.chain_theory.specs.Lent.{of_chain};
+ghost use Rattle.distance_theory.specs.Lent.{SamePairs, SameScratch};
 ghost use Rattle.distance_theory.specs.Outcome;
-ghost use Rattle.distance_theory.proofs.Discovery.{discovered, discover};
 ghost use Rattle.distance_words.specs.Told.{told_of, ran_as};
 ghost use Rattle.distance_words.proofs.Run.{ran_of};
 ghost use Rattle.distance_words.proofs.Run;
@@ -11,10 +13,12 @@ ghost use Rattle.distance_words.proofs.Run;
 use crate::found::run_found;
 use crate::scratch::clear;
 use chain_check::shape::misshapen;
-use chain_theory::{Chain, ChainShape};
+use chain_theory::Chain;
 use distance_pairs::discover::discover_from;
-use distance_theory::MetricOptions;
-use distance_words::told::{Told, refused};
+use distance_theory::Goal;
+use distance_theory::lent::{Pairs, PairsMut, Scratch};
+use distance_words::told::Answer;
+use numbers::refusal::Refusal;
 
 // Rows of at most 32 entries.
 fn slim(states: usize, offsets: &[u32]) -> bool
@@ -25,132 +29,75 @@ fn slim(states: usize, offsets: &[u32]) -> bool
 }
 
 // A chain of at most 2,000 states that check 4 lets pass, with rows of at most 32 entries and an observation of each state.
-fn fits(chain: ChainShape, offsets: &[u32], targets: &[u32], probs: &[f64], seen: &[f64]) -> bool
-    ensures { result ≡ Run.fits chain (chain_columns offsets.now targets.now probs.now seen.now) }
+fn fits(chain: &Chain) -> bool
+    ensures { result ≡ Run.fits chain.now.shape (of_chain chain.now) }
 {
-    let lent = Chain {
-        shape: chain,
-        offsets,
-        targets,
-        probs,
-        observations: seen,
-    };
-    chain.states <= 2000
-        && !misshapen(&lent)
-        && slim(chain.states, offsets)
-        && chain.states <= seen.len()
+    chain.shape.states <= 2000
+        && !misshapen(chain)
+        && slim(chain.shape.states, chain.offsets)
+        && chain.shape.states <= chain.observations.len()
 }
 
-// At least 4,096 entries each.
-fn roomy(lefts: usize, rights: usize, codes: usize) -> bool
-    ensures { result ≡ Run.roomy lefts rights codes }
+// At least 4,096 entries of each list of pairs.
+fn roomy(scratch: &Scratch) -> bool
+    ensures { result ≡ Run.roomy (length scratch.now.lefts.now) (length scratch.now.rights.now) (length scratch.now.codes.now) }
 {
-    lefts >= 4096 && rights >= 4096 && codes >= 4096
+    scratch.lefts.len() >= 4096 && scratch.rights.len() >= 4096 && scratch.codes.len() >= 4096
 }
 
-// Whether chains that fit or do not, with lists of pairs of these lengths, can be run.
-fn runnable(left: bool, right: bool, top: usize, lefts: usize, rights: usize, codes: usize) -> bool
-    ensures { result ≡ (left && (right && (leb top 64 && Run.roomy lefts rights codes))) }
+// Whether the chains can be run, with these lists of pairs and so many contributions asked for.
+fn runnable(left: &Chain, right: &Chain, top: usize, scratch: &Scratch) -> bool
+    ensures { result ≡ Run.runnable left.now.shape (of_chain left.now) right.now.shape (of_chain right.now) top (length scratch.now.lefts.now) (length scratch.now.rights.now) (length scratch.now.codes.now) }
 {
-    if !left {
-        return false;
-    }
-    if !right {
-        return false;
-    }
-    if top > 64 {
-        return false;
-    }
-    roomy(lefts, rights, codes)
+    fits(left) && fits(right) && top <= 64 && roomy(scratch)
 }
 
-// The pairs that are met from the two initial states on, as `discover_from` lists them; how many there are.
-fn explore(
-    left: ChainShape,
-    left_offsets: &[u32],
-    left_targets: &[u32],
-    left_probs: &[f64],
-    right: ChainShape,
-    right_offsets: &[u32],
-    right_targets: &[u32],
-    right_probs: &[f64],
-    lefts: &mut [u32],
-    rights: &mut [u32],
-    codes: &mut [u64],
-) -> usize
-    ensures { (seen₁ seen₂ : List Float) → discovered result lefts.new rights.new codes.new ≡ discover left (chain_columns left_offsets.now left_targets.now left_probs.now seen₁) right (chain_columns right_offsets.now right_targets.now right_probs.now seen₂) lefts.old rights.old codes.old }
+// The chain, with as many observations as it has states.
+fn observed<'a>(chain: &Chain<'a>) -> Chain<'a>
+    requires { chain.now.shape.states ≤ length chain.now.observations.now }
+    ensures { (result.shape ≡ chain.now.shape) × (of_chain result ≡ chain_columns chain.now.offsets.now chain.now.targets.now chain.now.probs.now (take chain.now.shape.states chain.now.observations.now)) }
 {
-    discover_from(
-        left.initial,
-        right.initial,
-        left,
-        left_offsets,
-        left_targets,
-        left_probs,
-        right,
-        right_offsets,
-        right_targets,
-        right_probs,
-        lefts,
-        rights,
-        codes,
-    )
+    Chain {
+        observations: &chain.observations[..chain.shape.states],
+        ..*chain
+    }
+}
+
+// The first n pairs, to be read.
+fn first<'a>(pairs: &'a PairsMut, n: usize) -> Pairs<'a>
+    requires { (n ≤ length pairs.now.lefts.now) × (n ≤ length pairs.now.rights.now) × (n ≤ length pairs.now.codes.now) }
+    ensures { (result.lefts.now ≡ take n pairs.now.lefts.now) × (result.rights.now ≡ take n pairs.now.rights.now) × (result.codes.now ≡ take n pairs.now.codes.now) }
+{
+    let lefts: &[u32] = pairs.lefts;
+    let rights: &[u32] = pairs.rights;
+    let codes: &[u64] = pairs.codes;
+    Pairs {
+        lefts: &lefts[..n],
+        rights: &rights[..n],
+        codes: &codes[..n],
+    }
 }
 
 // The run of chains that can be run. The lists are left as it leaves them.
 fn run_pairs(
-    left: ChainShape,
-    left_offsets: &[u32],
-    left_targets: &[u32],
-    left_probs: &[f64],
-    left_seen: &[f64],
-    right: ChainShape,
-    right_offsets: &[u32],
-    right_targets: &[u32],
-    right_probs: &[f64],
-    right_seen: &[f64],
-    gamma: f64,
-    options: MetricOptions,
-    lefts: &mut [u32],
-    rights: &mut [u32],
-    codes: &mut [u64],
+    left: &Chain,
+    right: &Chain,
+    goal: Goal,
+    pairs: &mut PairsMut,
     places: &mut [u32],
     masses: &mut [f64],
-) -> Told
-    requires { Run.runnable left (chain_columns left_offsets.now left_targets.now left_probs.now left_seen.now) right (chain_columns right_offsets.now right_targets.now right_probs.now right_seen.now) options.top (length lefts.old) (length rights.old) (length codes.old) ≡ true }
-    ensures { result ≡ told_of (Outcome.run (chain_of left (chain_columns left_offsets.now left_targets.now left_probs.now left_seen.now)) (chain_of right (chain_columns right_offsets.now right_targets.now right_probs.now right_seen.now)) gamma options (min (length places.old) (length masses.old))) }
+) -> Result<Answer, Refusal>
+    requires { Run.runnable left.now.shape (of_chain left.now) right.now.shape (of_chain right.now) goal.options.top (length pairs.old.lefts.now) (length pairs.old.rights.now) (length pairs.old.codes.now) ≡ true }
+    ensures lists { SamePairs pairs.old pairs.new }
+    ensures lengths { (length pairs.new.lefts.now ≡ length pairs.old.lefts.now) × (length pairs.new.rights.now ≡ length pairs.old.rights.now) × (length pairs.new.codes.now ≡ length pairs.old.codes.now) }
+    ensures told { numbered result ≡ told_of (Outcome.run (chain_of left.now.shape (of_chain left.now)) (chain_of right.now.shape (of_chain right.now)) goal.gamma goal.options (min (length places.old) (length masses.old))) }
 {
-    let n = explore(
-        left,
-        left_offsets,
-        left_targets,
-        left_probs,
-        right,
-        right_offsets,
-        right_targets,
-        right_probs,
-        lefts,
-        rights,
-        codes,
-    );
-    let known = n.min(4096);
-    let left_states = left.states;
-    let right_states = right.states;
+    let n = discover_from(left, right, pairs)?;
     run_found(
-        n,
-        lefts,
-        rights,
-        &codes[..known],
-        left_offsets,
-        left_targets,
-        left_probs,
-        right_offsets,
-        right_targets,
-        right_probs,
-        &left_seen[..left_states],
-        &right_seen[..right_states],
-        gamma,
-        options,
+        &first(pairs, n),
+        &observed(left),
+        &observed(right),
+        goal,
         places,
         masses,
     )
@@ -158,56 +105,31 @@ fn run_pairs(
 
 // The run of two chains: refusals 17, 18, 16 and 19, or the distance and its contributions. 4 where they can't be run; the lists are then as they were, else all zero.
 pub fn run(
-    left: ChainShape,
-    left_offsets: &[u32],
-    left_targets: &[u32],
-    left_probs: &[f64],
-    left_seen: &[f64],
-    right: ChainShape,
-    right_offsets: &[u32],
-    right_targets: &[u32],
-    right_probs: &[f64],
-    right_seen: &[f64],
-    gamma: f64,
-    options: MetricOptions,
-    lefts: &mut [u32],
-    rights: &mut [u32],
-    codes: &mut [u64],
-    places: &mut [u32],
-    masses: &mut [f64],
-) -> Told
-    ensures { ran_as result lefts.new rights.new codes.new places.new masses.new ≡ ran_of left (chain_columns left_offsets.now left_targets.now left_probs.now left_seen.now) right (chain_columns right_offsets.now right_targets.now right_probs.now right_seen.now) gamma options lefts.old rights.old codes.old places.old masses.old }
+    left: &Chain,
+    right: &Chain,
+    goal: Goal,
+    scratch: &mut Scratch,
+) -> Result<Answer, Refusal>
+    ensures lists { SameScratch scratch.old scratch.new }
+    ensures ran { ran_as (numbered result) scratch.new.lefts.now scratch.new.rights.now scratch.new.codes.now scratch.new.places.now scratch.new.masses.now ≡ ran_of left.now.shape (of_chain left.now) right.now.shape (of_chain right.now) goal.gamma goal.options scratch.old.lefts.now scratch.old.rights.now scratch.old.codes.now scratch.old.places.now scratch.old.masses.now }
 {
-    let able = runnable(
-        fits(left, left_offsets, left_targets, left_probs, left_seen),
-        fits(right, right_offsets, right_targets, right_probs, right_seen),
-        options.top,
-        lefts.len(),
-        rights.len(),
-        codes.len(),
-    );
-    if !able {
-        return refused(4);
+    if !runnable(left, right, goal.options.top, scratch) {
+        return Err(Refusal::OutOfRange);
     }
+    let mut pairs = PairsMut {
+        lefts: &mut *scratch.lefts,
+        rights: &mut *scratch.rights,
+        codes: &mut *scratch.codes,
+        count: 0,
+    };
     let told = run_pairs(
         left,
-        left_offsets,
-        left_targets,
-        left_probs,
-        left_seen,
         right,
-        right_offsets,
-        right_targets,
-        right_probs,
-        right_seen,
-        gamma,
-        options,
-        lefts,
-        rights,
-        codes,
-        places,
-        masses,
+        goal,
+        &mut pairs,
+        &mut *scratch.places,
+        &mut *scratch.masses,
     );
-    clear(lefts, rights, codes, places, masses);
+    clear(scratch);
     told
 }

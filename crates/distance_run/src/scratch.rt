@@ -1,6 +1,9 @@
 // Scratch: the lists of the pairs and the coupling store, all zero once a run is over.
 ghost use Rattle.std.specs.Prelude.{◌≡◌};
+ghost use Rattle.distance_theory.specs.Lent.{SameScratch};
 ghost use Rattle.distance_theory.specs.Outcome.{zeros, noughts};
+
+use distance_theory::lent::Scratch;
 
 // Every entry of a list of states or places is 0.
 pub fn clear_states(list: &mut [u32])
@@ -23,18 +26,13 @@ pub fn clear_masses(list: &mut [f64])
 }
 
 // Every entry of the lists of pairs and of the coupling store is 0.
-pub(crate) fn clear(
-    lefts: &mut [u32],
-    rights: &mut [u32],
-    codes: &mut [u64],
-    places: &mut [u32],
-    masses: &mut [f64],
-)
-    ensures { (lefts.new ≡ zeros lefts.old) × (rights.new ≡ zeros rights.old) × (codes.new ≡ zeros codes.old) × (places.new ≡ zeros places.old) × (masses.new ≡ noughts masses.old) }
+pub(crate) fn clear(scratch: &mut Scratch)
+    ensures lists { SameScratch scratch.old scratch.new }
+    ensures cleared { (scratch.new.lefts.now ≡ zeros scratch.old.lefts.now) × (scratch.new.rights.now ≡ zeros scratch.old.rights.now) × (scratch.new.codes.now ≡ zeros scratch.old.codes.now) × (scratch.new.places.now ≡ zeros scratch.old.places.now) × (scratch.new.masses.now ≡ noughts scratch.old.masses.now) }
 {
-    clear_states(lefts);
-    clear_states(rights);
-    clear_codes(codes);
-    clear_states(places);
-    clear_masses(masses);
+    clear_states(scratch.lefts);
+    clear_states(scratch.rights);
+    clear_codes(scratch.codes);
+    clear_states(scratch.places);
+    clear_masses(scratch.masses);
 }

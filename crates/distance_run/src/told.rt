@@ -1,9 +1,11 @@
 // What is told of pairs whose couplings are solved.
 ghost use Rattle.std.specs.Prelude.{◌≡◌};
+ghost use Rattle.numbers.specs.Refuse.{numbered};
 ghost use Rattle.distance_words.proofs.Found.{tell_of};
 
 use distance_theory::Distance;
-use distance_words::told::{Accounted, Told, refused};
+use distance_words::told::{Accounted, Answer, Rounds, nothing_listed};
+use numbers::refusal::Refusal;
 use numbers::{EPS, ONE};
 
 // 19 where mass is left, else the distance of n pairs: its value, the most that a value was off, and the rounds made.
@@ -11,27 +13,23 @@ pub(crate) fn tell(
     n: usize,
     value: f64,
     gamma: f64,
-    residual: f64,
-    rounds: usize,
-    account: Accounted,
-) -> Told
-    ensures { result ≡ tell_of n value gamma residual rounds account }
+    made: Rounds,
+    account: &Accounted,
+) -> Result<Answer, Refusal>
+    ensures { numbered result ≡ tell_of n value gamma made.residual made.rounds account.now }
 {
     if EPS < account.mass {
-        return refused(19);
+        return Err(Refusal::Occupancy);
     }
-    let records = account.listed.records;
+    let listed = account.listed.unwrap_or(nothing_listed());
+    let records = listed.records;
     let distance = Distance {
         value,
-        error_bound: residual / (ONE - gamma),
+        error_bound: made.residual / (ONE - gamma),
         gamma,
         pairs_explored: n,
-        contributions: account.listed.count,
-        rounds,
+        contributions: listed.count,
+        rounds: made.rounds,
     };
-    Told {
-        refusal: 0,
-        distance,
-        records,
-    }
+    Ok(Answer { distance, records })
 }

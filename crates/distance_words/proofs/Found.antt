@@ -21,7 +21,7 @@ use Rattle.distance_words.specs.declared.told.Accounted.{Accounted}
 -- how the distance arises, for couplings in the store: the mass that is left in `occupancy`, and the contributions; of n pairs by lists of their states, the observations, and the store
 abbrev pub account_of : ℕ → List ℕ → List ℕ → List Float → List Float → List ℕ → List ℕ → List ℕ → List Float → Float → MetricOptions → Accounted
 account_of n lefts rights seenL seenR starts lengths places masses γ o =
-    let w = visited many starts lengths places masses γ (replicate most nought) n in
+    let w = visited many starts lengths places masses γ (take n (replicate most nought)) n in
     record { mass = w.mass; listed = listed_of n lefts rights seenL seenR w.spent o }
 
 -- 19, or the distance x of n pairs, values off by y, after k rounds

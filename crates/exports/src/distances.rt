@@ -3,23 +3,14 @@ ghost use Rattle.std.specs.Prelude.{◌≡◌};
 ghost use Rattle.chain_theory.specs.Columns.{chain_columns};
 ghost use Rattle.distance.specs.Measuring.{memory};
 ghost use Rattle.distance_replies.specs.Distances.{replied};
-ghost use Rattle.exports.specs.Distances.{shape, options, leaving, distance_of, by_numbers};
+ghost use Rattle.exports.specs.Distances.{options, leaving, distance_of, by_numbers};
 
-use bisim_core::ids::StateId;
-use chain_theory::ChainShape;
+use chain_theory::Chain;
 use distance::entry::distance;
 use distance_replies::put_distance;
-use distance_theory::{MetricOptions, PairContribution};
-
-fn chain_shape(states: usize, entries: usize, initial: u32) -> ChainShape
-    ensures { result ≡ shape states entries initial }
-{
-    ChainShape {
-        states,
-        entries,
-        initial: StateId(initial),
-    }
-}
+use distance_theory::lent::Scratch;
+use distance_theory::{Goal, MetricOptions, PairContribution};
+use replies::chain_answers::chain_of;
 
 pub fn metric_options(tolerance: f64, max_rounds: usize, top: usize) -> MetricOptions
     ensures { result ≡ options tolerance max_rounds top }
@@ -70,25 +61,31 @@ pub extern "C" fn tanqesha_distance(
         right_states right_entries right_initial (chain_columns right_offsets.now right_targets.now right_probabilities.now right_observations.now)
         gamma tolerance max_rounds top (memory lefts.old rights.old index.old places.old masses.old records.old)) value.old error_bound.old discount.old pairs.old listed.old rounds.old }
 {
-    let answer = distance(
-        chain_shape(left_states, left_entries, left_initial),
-        left_offsets,
-        left_targets,
-        left_probabilities,
-        left_observations,
-        chain_shape(right_states, right_entries, right_initial),
-        right_offsets,
-        right_targets,
-        right_probabilities,
-        right_observations,
+    let left = Chain {
+        shape: chain_of(left_states, left_entries, left_initial),
+        offsets: left_offsets,
+        targets: left_targets,
+        probs: left_probabilities,
+        observations: left_observations,
+    };
+    let right = Chain {
+        shape: chain_of(right_states, right_entries, right_initial),
+        offsets: right_offsets,
+        targets: right_targets,
+        probs: right_probabilities,
+        observations: right_observations,
+    };
+    let goal = Goal {
         gamma,
-        metric_options(tolerance, max_rounds, top),
+        options: metric_options(tolerance, max_rounds, top),
+    };
+    let mut scratch = Scratch {
         lefts,
         rights,
-        index,
+        codes: index,
         places,
         masses,
-        records,
-    );
+    };
+    let answer = distance(&left, &right, goal, &mut scratch, records);
     put_distance(answer, value, error_bound, discount, pairs, listed, rounds)
 }

@@ -11,10 +11,12 @@ ghost use Rattle.exports.specs.Distances.{options};
 
 use crate::distances::metric_options;
 use bisim_core::ids::StateId;
+use bisim_checks::sides::Observed;
 use bisim_core::wlts::Wlts;
 use bisim_distance::entry::bisim_distance;
 use distance_replies::put_distance;
-use distance_theory::PairContribution;
+use distance_theory::lent::Scratch;
+use distance_theory::{Goal, PairContribution};
 use replies::shapes::shape_of;
 
 fn state(number: u32) -> StateId
@@ -90,56 +92,66 @@ pub extern "C" fn tanqesha_bisim_distance(
         (shape right_states right_edges right_labels (initial right_present right_start)) (columns right_label_values.now right_offsets.now right_edge_labels.now right_edge_targets.now right_edge_weights.now) right_state right_observations.now (chain_columns right_chain_offsets.old right_chain_targets.old right_chain_probabilities.old right_chain_observations.old)
         gamma (options tolerance max_rounds top) (memory lefts.old rights.old index.old places.old masses.old records.old)).right_chain) }
 {
-    let left = Wlts {
-        shape: shape_of(
-            left_states,
-            left_edges,
-            left_labels,
-            left_present,
-            left_start,
-        ),
-        label_values: left_label_values,
-        offsets: left_offsets,
-        edge_labels: left_edge_labels,
-        edge_targets: left_edge_targets,
-        edge_weights: left_edge_weights,
+    let left = Observed {
+        model: Wlts {
+            shape: shape_of(
+                left_states,
+                left_edges,
+                left_labels,
+                left_present,
+                left_start,
+            ),
+            label_values: left_label_values,
+            offsets: left_offsets,
+            edge_labels: left_edge_labels,
+            edge_targets: left_edge_targets,
+            edge_weights: left_edge_weights,
+        },
+        state: state(left_state),
+        observations: left_observations,
     };
-    let right = Wlts {
-        shape: shape_of(
-            right_states,
-            right_edges,
-            right_labels,
-            right_present,
-            right_start,
-        ),
-        label_values: right_label_values,
-        offsets: right_offsets,
-        edge_labels: right_edge_labels,
-        edge_targets: right_edge_targets,
-        edge_weights: right_edge_weights,
+    let right = Observed {
+        model: Wlts {
+            shape: shape_of(
+                right_states,
+                right_edges,
+                right_labels,
+                right_present,
+                right_start,
+            ),
+            label_values: right_label_values,
+            offsets: right_offsets,
+            edge_labels: right_edge_labels,
+            edge_targets: right_edge_targets,
+            edge_weights: right_edge_weights,
+        },
+        state: state(right_state),
+        observations: right_observations,
+    };
+    let goal = Goal {
+        gamma,
+        options: metric_options(tolerance, max_rounds, top),
+    };
+    let mut scratch = Scratch {
+        lefts,
+        rights,
+        codes: index,
+        places,
+        masses,
     };
     let answer = bisim_distance(
         &left,
-        state(left_state),
-        left_observations,
         left_chain_offsets,
         left_chain_targets,
         left_chain_probabilities,
         left_chain_observations,
         &right,
-        state(right_state),
-        right_observations,
         right_chain_offsets,
         right_chain_targets,
         right_chain_probabilities,
         right_chain_observations,
-        gamma,
-        metric_options(tolerance, max_rounds, top),
-        lefts,
-        rights,
-        index,
-        places,
-        masses,
+        goal,
+        &mut scratch,
         records,
     );
     put_distance(answer, value, error_bound, discount, pairs, listed, rounds)

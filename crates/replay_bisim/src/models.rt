@@ -1,10 +1,12 @@
-// The kind `bisim_distance`: two models and options; the answer, its contributions, and whether scratch is zero or as it was.
+// The kind `bisim_distance`: two models and a goal; the answer, its contributions, and whether scratch is zero or as it was.
 use crate::side::Side;
 use bisim_measure::measure::measure;
-use distance_words::told::Told;
-use replay_measures::asked::{Asked, Rooms};
+use distance_theory::Goal;
+use distance_words::told::Answer;
+use numbers::refusal::Refusal;
+use replay_measures::asked::Rooms;
 use replay_measures::chains::Store;
-use replay_measures::scratch::{Scratch, marked};
+use replay_measures::scratch::{Lists, marked};
 use replay_measures::{answer, asked, scratch};
 use replay_text::text::Reader;
 
@@ -13,63 +15,52 @@ pub const BISIM_DISTANCE: usize = 0;
 
 // The run, on lists that are filled with marks.
 fn run_measure(
-    asked: Asked,
+    goal: Goal,
     rooms: Rooms,
     left: &Side,
     left_chain: &mut Store,
     right: &Side,
     right_chain: &mut Store,
-    run: &mut Scratch,
-) -> Told {
-    let first = left.given();
-    let second = right.given();
+    lists: &mut Lists,
+) -> Result<Answer, Refusal> {
     measure(
-        &first.model,
-        first.state,
-        first.observations,
+        &left.observed(),
         marked(&mut left_chain.offsets, left.rooms[0]),
         marked(&mut left_chain.targets, left.rooms[1]),
         marked(&mut left_chain.probs, left.rooms[2]),
         marked(&mut left_chain.seen, left.rooms[3]),
-        &second.model,
-        second.state,
-        second.observations,
+        &right.observed(),
         marked(&mut right_chain.offsets, right.rooms[0]),
         marked(&mut right_chain.targets, right.rooms[1]),
         marked(&mut right_chain.probs, right.rooms[2]),
         marked(&mut right_chain.seen, right.rooms[3]),
-        asked.gamma,
-        asked.options,
-        marked(&mut run.lefts, rooms[0]),
-        marked(&mut run.rights, rooms[1]),
-        marked(&mut run.codes, rooms[2]),
-        marked(&mut run.places, rooms[3]),
-        marked(&mut run.masses, rooms[4]),
+        goal,
+        &mut lists.lend(rooms),
         rooms[5],
     )
 }
 
-// The models, the options, and how much is lent; the answer, and what the lists that are lent hold then.
+// The models, the goal, and how much is lent; the answer, and what the lists that are lent hold then.
 pub fn run(r: &mut Reader, counts: &mut [u64; 48]) {
     let left = Side::read(r);
     let right = Side::read(r);
-    let asked = asked::read(r);
+    let goal = asked::read(r);
     let rooms = asked::read_rooms(r);
     let mut left_chain = Store::new();
     let mut right_chain = Store::new();
-    let mut run = Scratch::new();
+    let mut lists = Lists::new();
     let told = run_measure(
-        asked,
+        goal,
         rooms,
         &left,
         &mut left_chain,
         &right,
         &mut right_chain,
-        &mut run,
+        &mut lists,
     );
-    answer::expect(r, told.refusal, told.distance, &told.records);
+    answer::expect(r, &told);
     scratch::expect_lists(r, 14);
-    run.expect(r, rooms);
+    lists.expect(r, rooms);
     left_chain.expect(r, left.rooms);
     right_chain.expect(r, right.rooms);
     scratch::expect_kept(r);

@@ -1,6 +1,6 @@
 // A model in the text, with its state, its observations and how much is lent for its chain.
+use bisim_checks::sides::Observed;
 use bisim_core::ids::StateId;
-use bisim_core::wlts::Wlts;
 use replay_measures::asked;
 use replay_measures::asked::Rooms;
 use replay_text::columns::Model;
@@ -17,14 +17,6 @@ pub struct Side {
     pub rooms: Rooms,
 }
 
-// What is asked of it.
-#[derive(Clone, Copy)]
-pub struct Given<'a> {
-    pub model: Wlts<'a>,
-    pub state: StateId,
-    pub observations: &'a [f64],
-}
-
 impl Side {
     pub fn read(r: &mut Reader) -> Side {
         let mut model = Model::new();
@@ -32,17 +24,19 @@ impl Side {
         model.read(r);
         let state = StateId(r.short_field());
         let seen = r.list_field(&mut observations).len();
+        let rooms = asked::read_rooms(r);
         Side {
             model,
             state,
             observations,
             seen,
-            rooms: asked::read_rooms(r),
+            rooms,
         }
     }
 
-    pub fn given<'a>(&'a self) -> Given<'a> {
-        Given {
+    // What is asked of it.
+    pub fn observed<'a>(&'a self) -> Observed<'a> {
+        Observed {
             model: self.model.lent(),
             state: self.state,
             observations: front(&self.observations, self.seen),

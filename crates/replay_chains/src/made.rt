@@ -3,7 +3,6 @@ use crate::entries;
 use bisim_core::wlts::Wlts;
 use chain_theory::ChainStore;
 use chains::chain::uniformise;
-use numbers::refusal::code;
 use replay_text::columns::Model;
 use replay_text::text::Reader;
 
@@ -20,7 +19,7 @@ fn run_lent(r: &mut Reader, model: &Wlts, rate: f64, observations: &[f64]) {
         observations: r.list_field(&mut seen),
     };
     let answer = uniformise(model, rate, observations, &mut store);
-    r.expect_numbered(code(&answer), answer.map_or(0, |chain| chain.entries));
+    r.expect_answer(answer.map(|chain| chain.entries));
     r.expect_list(store.offsets);
     r.expect_list(store.targets);
     r.expect_list(store.probs);

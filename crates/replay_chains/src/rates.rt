@@ -1,7 +1,6 @@
 // The kind `rate`: two models, and the rate that covers both.
 use crate::entries;
 use chains::chain::common_rate;
-use numbers::refusal::code;
 use replay_text::columns::Model;
 use replay_text::text::Reader;
 
@@ -11,6 +10,6 @@ pub fn run(r: &mut Reader, counts: &mut [u64; 48]) {
     left.read(r);
     right.read(r);
     let answer = common_rate(&left.lent(), &right.lent());
-    r.expect_numbered(code(&answer), answer.unwrap_or(0.0));
+    r.expect_answer(answer);
     r.count(counts, entries::COMMON_RATE);
 }

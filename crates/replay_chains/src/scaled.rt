@@ -1,7 +1,6 @@
 // The kind `normalise`: two chains; by how much their observations differ, and the observations of each afterwards.
 use crate::entries;
 use normalise::normalise;
-use numbers::refusal::code;
 use replay_measures::chains::Store;
 use replay_text::text::Reader;
 
@@ -12,7 +11,7 @@ pub fn run(r: &mut Reader, counts: &mut [u64; 48]) {
     let mut left = left.read(r);
     let mut right = right.read(r);
     let answer = normalise(&mut left, &mut right);
-    r.expect_numbered(code(&answer), answer.unwrap_or(0.0));
+    r.expect_answer(answer);
     r.expect_list(left.observations);
     r.expect_list(right.observations);
     r.count(counts, entries::NORMALISE);

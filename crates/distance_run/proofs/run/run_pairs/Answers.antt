@@ -1,31 +1,51 @@
--- What `explore` lists is run as the definition says.
-use mathlib.Core.Path.{sym}
-use lib.Seq.{length-take-le}
-use Rattle.chain_theory.specs.Columns.{chain_columns}
-use Rattle.distance_run.proofs.Running.{left_seen, right_seen, known_in, pairs_told}
+-- What `discover_from` lists is run as the definition says.
+use Rattle.chain_theory.specs.Lent.{of_chain}
+use Rattle.distance_run.proofs.Running.{lengths_kept, left_seen, right_seen, pairs_refused, pairs_few, in_lefts, in_rights, in_codes, pairs_told}
 use Rattle.distance_run.proofs.run.run_pairs.Goals as goal
 
-pub slice_bounds-run_found-end : goal.slice_bounds-run_found-end
-slice_bounds-run_found-end c =
+pub returns-in_err-n-clause-told : goal.returns-in_err-n-clause-told
+returns-in_err-n-clause-told c =
     let a = c.args in
-    known_in a.left (chain_columns a.left_offsets.now a.left_targets.now a.left_probs.now a.left_seen.now) a.right (chain_columns a.right_offsets.now a.right_targets.now a.right_probs.now a.right_seen.now) a.gamma a.options a.lefts.now a.rights.now a.codes.now a.places.now a.masses.now c.requires _ _ c.explore-n.new.codes c.min-known.ensures c.explore-n.auto.codes
+    let s = a.pairs.now in
+    pairs_refused a.left.now.shape (of_chain a.left.now) a.right.now.shape (of_chain a.right.now) a.goal.gamma a.goal.options s.lefts.now s.rights.now s.codes.now a.places.now a.masses.now c.requires
+    _ c.in_err-n.ensures.found c.from_residual.result c.from_residual.ensures.1
 
-pub slice_bounds-run_found-end-2 : goal.slice_bounds-run_found-end-2
-slice_bounds-run_found-end-2 c =
+pub first-requires : goal.first-requires
+first-requires c =
     let a = c.args in
-    sym (length-take-le _ _ (known_in a.left (chain_columns a.left_offsets.now a.left_targets.now a.left_probs.now a.left_seen.now) a.right (chain_columns a.right_offsets.now a.right_targets.now a.right_probs.now a.right_seen.now) a.gamma a.options a.lefts.now a.rights.now a.codes.now a.places.now a.masses.now c.requires _ _ c.explore-n.new.codes c.min-known.ensures c.explore-n.auto.codes))
+    let s = a.pairs.now in (
+      in_lefts a.left.now.shape (of_chain a.left.now) a.right.now.shape (of_chain a.right.now) a.goal.gamma a.goal.options s.lefts.now s.rights.now s.codes.now a.places.now a.masses.now c.requires c.in_ok-n.n c.in_ok-n.ensures.found,
+      in_rights a.left.now.shape (of_chain a.left.now) a.right.now.shape (of_chain a.right.now) a.goal.gamma a.goal.options s.lefts.now s.rights.now s.codes.now a.places.now a.masses.now c.requires c.in_ok-n.n c.in_ok-n.ensures.found,
+      in_codes a.left.now.shape (of_chain a.left.now) a.right.now.shape (of_chain a.right.now) a.goal.gamma a.goal.options s.lefts.now s.rights.now s.codes.now a.places.now a.masses.now c.requires c.in_ok-n.n c.in_ok-n.ensures.found,
+    )
 
-pub slice_bounds-run_found-end-3 : goal.slice_bounds-run_found-end-3
-slice_bounds-run_found-end-3 c =
+pub observed-requires : goal.observed-requires
+observed-requires c =
     let a = c.args in
-    sym (length-take-le a.left.states a.left_seen.now (left_seen a.left (chain_columns a.left_offsets.now a.left_targets.now a.left_probs.now a.left_seen.now) a.right (chain_columns a.right_offsets.now a.right_targets.now a.right_probs.now a.right_seen.now) a.gamma a.options a.lefts.now a.rights.now a.codes.now a.places.now a.masses.now c.requires))
+    let s = a.pairs.now in
+    left_seen a.left.now.shape (of_chain a.left.now) a.right.now.shape (of_chain a.right.now) a.goal.gamma a.goal.options s.lefts.now s.rights.now s.codes.now a.places.now a.masses.now c.requires
 
-pub slice_bounds-run_found-end-4 : goal.slice_bounds-run_found-end-4
-slice_bounds-run_found-end-4 c =
+pub observed-requires-2 : goal.observed-requires-2
+observed-requires-2 c =
     let a = c.args in
-    sym (length-take-le a.right.states a.right_seen.now (right_seen a.left (chain_columns a.left_offsets.now a.left_targets.now a.left_probs.now a.left_seen.now) a.right (chain_columns a.right_offsets.now a.right_targets.now a.right_probs.now a.right_seen.now) a.gamma a.options a.lefts.now a.rights.now a.codes.now a.places.now a.masses.now c.requires))
+    let s = a.pairs.now in
+    right_seen a.left.now.shape (of_chain a.left.now) a.right.now.shape (of_chain a.right.now) a.goal.gamma a.goal.options s.lefts.now s.rights.now s.codes.now a.places.now a.masses.now c.requires
 
-pub returns : goal.returns
-returns c =
+pub returns-clause-told : goal.returns-clause-told
+returns-clause-told c =
     let a = c.args in
-    pairs_told a.left (chain_columns a.left_offsets.now a.left_targets.now a.left_probs.now a.left_seen.now) a.right (chain_columns a.right_offsets.now a.right_targets.now a.right_probs.now a.right_seen.now) a.gamma a.options a.lefts.now a.rights.now a.codes.now a.places.now a.masses.now c.requires (c.explore-n.ensures a.left_seen.now a.right_seen.now) c.min-known.ensures c.run_found.ensures
+    let s = a.pairs.now in
+    pairs_told a.left.now.shape (of_chain a.left.now) a.right.now.shape (of_chain a.right.now) a.goal.gamma a.goal.options s.lefts.now s.rights.now s.codes.now a.places.now a.masses.now c.requires
+    _ c.in_ok-n.ensures.found c.first.ensures c.observed.ensures.1 c.observed-2.ensures.1 c.run_found.ensures
+
+pub returns-in_err-n-clause-lengths : goal.returns-in_err-n-clause-lengths
+returns-in_err-n-clause-lengths c =
+    let a = c.args in
+    let s = a.pairs.now in
+    lengths_kept a.left.now.shape (of_chain a.left.now) a.right.now.shape (of_chain a.right.now) a.goal.gamma a.goal.options s.lefts.now s.rights.now s.codes.now a.places.now a.masses.now c.requires _ _ _ _ c.in_err-n.ensures.found
+
+pub returns-clause-lengths : goal.returns-clause-lengths
+returns-clause-lengths c =
+    let a = c.args in
+    let s = a.pairs.now in
+    lengths_kept a.left.now.shape (of_chain a.left.now) a.right.now.shape (of_chain a.right.now) a.goal.gamma a.goal.options s.lefts.now s.rights.now s.codes.now a.places.now a.masses.now c.requires _ _ _ _ c.in_ok-n.ensures.found

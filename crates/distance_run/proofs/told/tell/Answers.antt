@@ -5,9 +5,4 @@ use Rattle.distance_run.proofs.told.tell.Goals as goal
 pub returns-then-account : goal.returns-then-account
 returns-then-account c =
     let a = c.args in
-    left_over a.n a.value a.gamma a.residual a.rounds a.account c.if-account.true c.refused.ensures
-
-pub returns : goal.returns
-returns c =
-    let a = c.args in
-    none_left a.n a.value a.gamma a.residual a.rounds a.account c.if-account.false
+    left_over a.n a.value a.gamma a.made.residual a.made.rounds a.account.now c.if-account.true
