@@ -7,6 +7,7 @@ use distance_theory::PairContribution;
 use numbers::refusal::Refusal;
 
 // Writes the first `count` of 64 records into a lent row, and keeps what stands behind them. 7 where the row has under 64 records, 14 where over 64 are to be written.
+// Stays: there is no heap, so that the records are 64 and the count says how many of them are meant; a slice cut by the caller could not be refused by 14.
 pub fn write_contributions(
     records: &mut [PairContribution],
     from: &[PairContribution; 64],
