@@ -49,13 +49,14 @@ fn give_row(test: &Test, rest: &mut Rest, i: usize, from: usize, before: f64) ->
     ensures { Shut from rest.new.rights.now × Giving test.now.left.targets.now test.now.right.targets.now test.now.states test.now.relation.now rest.old.lefts.now rest.old.rights.now rest.old.flows.now before i rest.new.lefts.now rest.new.rights.now rest.new.flows.now result (i + 1) 0 }
 {
     let targets = test.right.targets;
+    let relation = test.relation;
     let base = test.left.targets[i] as usize * test.states;
     let mut total = before;
     for k in from..targets.len() {
         if !remains(rest.lefts[i]) {
             return total;
         }
-        if remains(rest.rights[k]) && bit(test.relation, base + targets[k] as usize) {
+        if remains(rest.rights[k]) && bit(relation, base + targets[k] as usize) {
             total += give(rest, i, k, i * targets.len() + k);
         }
     }

@@ -29,6 +29,7 @@ fn reach_in(test: &Test, need: f64, flows: &mut [f64]) -> Option<bool>
     requires { TestFit test.now × (length test.now.left.targets.now * length test.now.right.targets.now ≤ length flows.old) × ((j : ℕ) → j < length flows.old → get_or flows.old j nan ≡ nought) }
     ensures { Told test.now.left.targets.now test.now.left.rates.now test.now.right.targets.now test.now.right.rates.now test.now.states test.now.relation.now need result }
 {
+    let test = *test; // a copy: what is lent is read again after each push
     let mut lefts = [0.0f64; 31];
     let mut rights = [0.0f64; 31];
     let mut rest = Rest {
@@ -38,11 +39,11 @@ fn reach_in(test: &Test, need: f64, flows: &mut [f64]) -> Option<bool>
     };
     rest.lefts.copy_from_slice(test.left.rates);
     rest.rights.copy_from_slice(test.right.rates);
-    let total = give_rows(test, &mut rest, need);
+    let total = give_rows(&test, &mut rest, need);
     if need <= total {
         return Some(true);
     }
-    search_on(test, &mut rest, total, need)
+    search_on(&test, &mut rest, total, need)
 }
 
 // The same, with room for N pairs of targets.
