@@ -9,8 +9,9 @@ use Rattle.numbers.specs.Real.{nought}
 use Rattle.card_layout.specs.Card.{Card, Reading, card, refused, read, Within}
 use Rattle.card_layout.specs.Lists as answers
 use Rattle.card_reader.specs.Answer.{Answered}
-use Rattle.card_reader.specs.declared.reader.Read.{Read}
-use Rattle.card_reader.specs.declared.reader.Read.TheVariants as reads
+use Rattle.std.specs.Prelude.{Result, Ok, Err}
+use Rattle.numbers.specs.declared.refusal.Refusal.{Refusal}
+use Rattle.numbers.specs.Refuse.{number, numbered}
 use Rattle.card_reader.specs.declared.reader.Heads.{Heads}
 use Rattle.card_layout.proofs.Cards.{layout_read}
 use Rattle.card_reader.proofs.Lists.{Long, Found, answered_refused, answered_card}
@@ -45,17 +46,17 @@ pub printed_card : (bs : List ℕ) (c : Card) → read bs ≡ card c → card_te
 unfolding printed
 printed_card bs c e = rw e
 
-module _ {bs : List ℕ} {k : answers.Columns} {r : Read} (A : Answered bs zeros r k) where
-  pub was_refused : {n : ℕ} → r ≡ reads.Refused n → refusal_line n ≡ printed bs
-  was_refused {n} e = printed_refused bs n (answered_refused bs zeros k zeros_long n (subst (λ (x : Read). Answered bs zeros x k) e A))
+module _ {bs : List ℕ} {k : answers.Columns} (r : Result Heads Refusal) (A : Answered bs zeros (numbered r) k) where
+  pub was_refused : {n : Refusal} → r ≡ Err n → refusal_line (number n) ≡ printed bs
+  was_refused {n} e = printed_refused bs (number n) (answered_refused bs zeros k zeros_long (number n) (subst (λ (x : Result Heads Refusal). Answered bs zeros (numbered x) k) e A))
 
-  was_card : {h : Heads} → r ≡ reads.Card h → Found bs h k
-  was_card {h} e = answered_card bs zeros k zeros_long h (subst (λ (x : Read). Answered bs zeros x k) e A)
+  was_card : {h : Heads} → r ≡ Ok h → Found bs h k
+  was_card {h} e = answered_card bs zeros k zeros_long h (subst (λ (x : Result Heads Refusal). Answered bs zeros (numbered x) k) e A)
 
-  pub was_room : {h : Heads} → r ≡ reads.Card h → Room h k
+  pub was_room : {h : Heads} → r ≡ Ok h → Room h k
   was_room {h} e = let F = was_card e in card_room F.the_card h k F.lists.its_heads F.within F.long
 
-  pub was_printed : {h : Heads} → r ≡ reads.Card h → heads_text h k ≡ printed bs
+  pub was_printed : {h : Heads} → r ≡ Ok h → heads_text h k ≡ printed bs
   was_printed {h} e = let F = was_card e in listed_text F.the_card h k F.within F.long F.lists ∙ printed_card bs F.the_card F.reads
 
 -- ---- how long a text is

@@ -1,63 +1,56 @@
 // The relation of a card's models, and the report.
 ghost use Rattle.std.specs.Prelude.{◌+◌, ◌≤◌, length};
 ghost use Rattle.numbers.specs.Refuse.{numbered};
-ghost use Rattle.bisim_core.specs.Data;
-ghost use Rattle.card_layout.specs.Lists;
+ghost use Rattle.build_theory.specs.Lent.{columns_in};
+ghost use Rattle.card_reader.specs.Lent.{columns_of};
 ghost use Rattle.card_report.specs.Report.{Printed, store_fault, most_report};
 ghost use Rattle.card.specs.Printing.{printed};
 ghost use Rattle.card_models.proofs.Handing.{Room, Few, FewBoth, lists_text, right_text, heads_text};
 
 use bisim_core::wlts::{Shape, Wlts};
-use card_models::{Both, both_models, build_side};
-use card_reader::{Heads, Read, read_card};
+use build_theory::lent::Store;
+use card_models::{CardTransitions, both_models, build_side};
+use card_reader::{CardLists, Heads, read_card};
 use card_relation::relation_text;
-use card_report::{MOST_REPORT, Text, refusal_text};
+use card_report::{MOST_REPORT, refusal_text};
 use numbers::refusal::Refusal;
 
 // The report of both models, or the refusal of one.
 fn print_both(
-    models: Both,
-    left_values: &[u32],
-    left_offsets: &[u32],
-    left_labels: &[u32],
-    left_targets: &[u32],
-    left_weights: &[f64],
-    right_values: &[u32],
-    right_offsets: &[u32],
-    right_labels: &[u32],
-    right_targets: &[u32],
-    right_weights: &[f64],
+    models: Result<(Shape, Shape), Refusal>,
+    left: &Store,
+    right: &Store,
     heads: Heads,
     classes: &[u32],
     out: &mut [u8],
-) -> Text
-    requires { FewBoth models × (heads.left.states + heads.right.states ≤ length classes.now) × (most_report ≤ length out.old) }
-    ensures { Printed 0 (lists_text models (Data.columns left_values.now left_offsets.now left_labels.now left_targets.now left_weights.now) (Data.columns right_values.now right_offsets.now right_labels.now right_targets.now right_weights.now) heads classes.now) out.old result out.new }
+) -> Result<usize, Refusal>
+    requires { FewBoth (numbered models) × (heads.left.states + heads.right.states ≤ length classes.now) × (most_report ≤ length out.old) }
+    ensures { Printed 0 (lists_text (numbered models) (columns_in left.now) (columns_in right.now) heads classes.now) out.old (numbered result) out.new }
 {
     let middle = heads.left.states as usize;
     let end = middle + heads.right.states as usize;
     match models {
-        Both::Refused(n) => refusal_text(n, out),
-        Both::Models(a, b) => {
-            let left = Wlts {
+        Err(refusal) => refusal_text(refusal.number(), out),
+        Ok((a, b)) => {
+            let left_model = Wlts {
                 shape: a,
-                label_values: left_values,
-                offsets: left_offsets,
-                edge_labels: left_labels,
-                edge_targets: left_targets,
-                edge_weights: left_weights,
+                label_values: left.label_values,
+                offsets: left.offsets,
+                edge_labels: left.edge_labels,
+                edge_targets: left.edge_targets,
+                edge_weights: left.edge_weights,
             };
-            let right = Wlts {
+            let right_model = Wlts {
                 shape: b,
-                label_values: right_values,
-                offsets: right_offsets,
-                edge_labels: right_labels,
-                edge_targets: right_targets,
-                edge_weights: right_weights,
+                label_values: right.label_values,
+                offsets: right.offsets,
+                edge_labels: right.edge_labels,
+                edge_targets: right.edge_targets,
+                edge_weights: right.edge_weights,
             };
             relation_text(
-                &left,
-                &right,
+                &left_model,
+                &right_model,
                 &classes[0..middle],
                 &classes[middle..end],
                 heads.epsilon,
@@ -68,133 +61,99 @@ fn print_both(
     }
 }
 
-// Builds the right model of the card that the lists hold; the left one is built.
+// Builds the right model of the card that the lists hold; the left one is built, and stands in its store.
 fn print_right(
     left: Result<Shape, Refusal>,
-    left_values: &[u32],
-    left_offsets: &[u32],
-    left_labels: &[u32],
-    left_targets: &[u32],
-    left_weights: &[f64],
+    left_store: &Store,
     heads: Heads,
-    classes: &[u32],
-    sources: &[u32],
-    labels: &[u32],
-    targets: &[u32],
-    weights: &[f64],
+    lists: &CardLists,
     out: &mut [u8],
-) -> Text
-    requires { Few (numbered left) × Room heads (Lists.columns classes.now sources.now labels.now targets.now weights.now) × (most_report ≤ length out.old) }
-    ensures { Printed 0 (right_text (numbered left) (Data.columns left_values.now left_offsets.now left_labels.now left_targets.now left_weights.now) heads (Lists.columns classes.now sources.now labels.now targets.now weights.now)) out.old result out.new }
+) -> Result<usize, Refusal>
+    requires { Few (numbered left) × Room heads (columns_of lists.now) × (most_report ≤ length out.old) }
+    ensures { Printed 0 (right_text (numbered left) (columns_in left_store.now) heads (columns_of lists.now)) out.old (numbered result) out.new }
 {
-    let mut right_values = [0u32; 200];
-    let mut right_offsets = [0u32; 33];
-    let mut right_labels = [0u32; 200];
-    let mut right_targets = [0u32; 200];
-    let mut right_weights = [0.0f64; 200];
+    let mut label_values = [0u32; 200];
+    let mut offsets = [0u32; 33];
+    let mut edge_labels = [0u32; 200];
+    let mut edge_targets = [0u32; 200];
+    let mut edge_weights = [0.0f64; 200];
+    let mut store = Store {
+        label_values: &mut label_values,
+        offsets: &mut offsets,
+        edge_labels: &mut edge_labels,
+        edge_targets: &mut edge_targets,
+        edge_weights: &mut edge_weights,
+    };
+    let of = CardTransitions {
+        sources: lists.sources,
+        labels: lists.labels,
+        targets: lists.targets,
+        weights: lists.weights,
+    };
     let right = build_side(
         heads.right,
         heads.left.transitions as usize,
-        sources,
-        labels,
-        targets,
-        weights,
-        &mut right_values,
-        &mut right_offsets,
-        &mut right_labels,
-        &mut right_targets,
-        &mut right_weights,
+        &of,
+        &mut store,
     );
     print_both(
         both_models(left, right),
-        left_values,
-        left_offsets,
-        left_labels,
-        left_targets,
-        left_weights,
-        &right_values,
-        &right_offsets,
-        &right_labels,
-        &right_targets,
-        &right_weights,
+        left_store,
+        &store,
         heads,
-        classes,
+        lists.classes,
         out,
     )
 }
 
 // The report of the card that the lists hold: builds the left model first.
-fn print_card(
-    heads: Heads,
-    classes: &[u32],
-    sources: &[u32],
-    labels: &[u32],
-    targets: &[u32],
-    weights: &[f64],
-    out: &mut [u8],
-) -> Text
-    requires { Room heads (Lists.columns classes.now sources.now labels.now targets.now weights.now) × (most_report ≤ length out.old) }
-    ensures { Printed 0 (heads_text heads (Lists.columns classes.now sources.now labels.now targets.now weights.now)) out.old result out.new }
+fn print_card(heads: Heads, lists: &CardLists, out: &mut [u8]) -> Result<usize, Refusal>
+    requires { Room heads (columns_of lists.now) × (most_report ≤ length out.old) }
+    ensures { Printed 0 (heads_text heads (columns_of lists.now)) out.old (numbered result) out.new }
 {
-    let mut left_values = [0u32; 200];
-    let mut left_offsets = [0u32; 33];
-    let mut left_labels = [0u32; 200];
-    let mut left_targets = [0u32; 200];
-    let mut left_weights = [0.0f64; 200];
-    let left = build_side(
-        heads.left,
-        0,
-        sources,
-        labels,
-        targets,
-        weights,
-        &mut left_values,
-        &mut left_offsets,
-        &mut left_labels,
-        &mut left_targets,
-        &mut left_weights,
-    );
-    print_right(
-        left,
-        &left_values,
-        &left_offsets,
-        &left_labels,
-        &left_targets,
-        &left_weights,
-        heads,
-        classes,
-        sources,
-        labels,
-        targets,
-        weights,
-        out,
-    )
+    let mut label_values = [0u32; 200];
+    let mut offsets = [0u32; 33];
+    let mut edge_labels = [0u32; 200];
+    let mut edge_targets = [0u32; 200];
+    let mut edge_weights = [0.0f64; 200];
+    let mut store = Store {
+        label_values: &mut label_values,
+        offsets: &mut offsets,
+        edge_labels: &mut edge_labels,
+        edge_targets: &mut edge_targets,
+        edge_weights: &mut edge_weights,
+    };
+    let of = CardTransitions {
+        sources: lists.sources,
+        labels: lists.labels,
+        targets: lists.targets,
+        weights: lists.weights,
+    };
+    let left = build_side(heads.left, 0, &of, &mut store);
+    print_right(left, &store, heads, lists, out)
 }
 
-// Writes what is printed for the bytes of a card; 7 where the store is short for the greatest report.
-pub fn report(card: &[u8], out: &mut [u8]) -> Text
-    ensures { Printed (store_fault (length out.old)) (printed card.now) out.old result out.new }
+// Writes what is printed for the bytes of a card, and gives its length; 7 where the store is short for the greatest report.
+pub fn report(card: &[u8], out: &mut [u8]) -> Result<usize, Refusal>
+    ensures { Printed (store_fault (length out.old)) (printed card.now) out.old (numbered result) out.new }
 {
     if out.len() < MOST_REPORT {
-        return Text::Refused(7);
+        return Err(Refusal::Store);
     }
     let mut classes = [0u32; 64];
     let mut sources = [0u32; 400];
     let mut labels = [0u32; 400];
     let mut targets = [0u32; 400];
     let mut weights = [0.0f64; 400];
-    let answer = read_card(
-        card,
-        &mut classes,
-        &mut sources,
-        &mut labels,
-        &mut targets,
-        &mut weights,
-    );
-    match answer {
-        Read::Refused(n) => refusal_text(n, out),
-        Read::Card(heads) => print_card(
-            heads, &classes, &sources, &labels, &targets, &weights, out,
-        ),
+    let mut lists = CardLists {
+        classes: &mut classes,
+        sources: &mut sources,
+        labels: &mut labels,
+        targets: &mut targets,
+        weights: &mut weights,
+    };
+    match read_card(card, &mut lists) {
+        Err(refusal) => refusal_text(refusal.number(), out),
+        Ok(heads) => print_card(heads, &lists, out),
     }
 }

@@ -23,8 +23,6 @@ use Rattle.card_reader.specs.declared.reader.Heads.{Heads}
 use Rattle.card_reader.proofs.Lists.{SideListed, Listed, Long}
 use Rattle.card_report.specs.Report.{refusal_line}
 use Rattle.card_relation.specs.Relating.{relation_text}
-use Rattle.card_models.specs.declared.models.Both.{Both}
-use Rattle.card_models.specs.declared.models.Both.TheVariants as boths
 use Rattle.card_models.specs.Models.{card_text}
 use Rattle.card_models.specs.Together.{both}
 use Rattle.card_models.specs.Sides.{shortest, cut_at, side_ends}
@@ -34,12 +32,12 @@ use Rattle.card_models.proofs.Answers.{built_text_lem}
 
 -- ---- the classes, as code cuts them
 
-module _ (ML MR : Columns) (h : Heads) (classes : List ℕ) (b : Both) where
-  pub lists_refused : (n : ℕ) → b ≡ boths.Refused n → refusal_line n ≡ lists_text b ML MR h classes
+module _ (ML MR : Columns) (h : Heads) (classes : List ℕ) (b : Result (Shape × Shape) ℕ) where
+  pub lists_refused : (n : ℕ) → b ≡ Err n → refusal_line n ≡ lists_text b ML MR h classes
   lists_refused n e = rw e
 
   -- the classes that `epsdelta` is handed
-  pub lists_related : (SL SR : Shape) → b ≡ boths.Models SL SR
+  pub lists_related : (SL SR : Shape) → b ≡ Ok (SL, SR)
       → relation_text SL ML SR MR (take (h.left.states - 0) (drop 0 classes)) (take (h.left.states + h.right.states - h.left.states) (drop h.left.states classes)) h.epsilon h.rho
       ≡ lists_text b ML MR h classes
   lists_related SL SR e =
@@ -80,7 +78,7 @@ built_few x N h m k e g =
     let f : states_of x ≡ states_of (side_built h m k).answer = ap (λ (o : builds.Outcome). states_of o.answer) e in
     few_of x h.states (subst (λ (n : ℕ). n ≤ h.states) (sym f) (side_states h m (transitions k.sources k.labels k.targets k.weights) blank)) g
 
-pub both_few : (x y : Result Shape ℕ) (b : Both) → b ≡ both x y → Few x → Few y → FewBoth b
+pub both_few : (x y : Result Shape ℕ) (b : Result (Shape × Shape) ℕ) → b ≡ both x y → Few x → Few y → FewBoth b
 both_few x y b e p q = rw e (pick x y p q)
   where
     pick : (u v : Result Shape ℕ) → Few u → Few v → FewBoth (both u v)
@@ -89,10 +87,10 @@ both_few x y b e p q = rw e (pick x y p q)
     pick (Err m) v f g = tt
 
 -- a model built, in what is printed
-pub right_is : (left y : Result Shape ℕ) (b : Both) (ML N : Columns) (h : Heads) (k : answers.Columns) → b ≡ both left y → builds.ends y N ≡ side_built h.right h.left.transitions k
+pub right_is : (left y : Result Shape ℕ) (b : Result (Shape × Shape) ℕ) (ML N : Columns) (h : Heads) (k : answers.Columns) → b ≡ both left y → builds.ends y N ≡ side_built h.right h.left.transitions k
     → lists_text b ML N h k.classes ≡ right_text left ML h k
 right_is left y b ML N h k e f =
-    ap (λ (z : Both). lists_text z ML N h k.classes) e ∙ ap (λ (o : builds.Outcome). lists_text (both left o.answer) ML o.memory h k.classes) f
+    ap (λ (z : Result (Shape × Shape) ℕ). lists_text z ML N h k.classes) e ∙ ap (λ (o : builds.Outcome). lists_text (both left o.answer) ML o.memory h k.classes) f
 
 pub left_is : (x : Result Shape ℕ) (N : Columns) (h : Heads) (k : answers.Columns) → builds.ends x N ≡ side_built h.left 0 k → right_text x N h k ≡ heads_text h k
 left_is x N h k e = ap (λ (o : builds.Outcome). right_text o.answer o.memory h k) e

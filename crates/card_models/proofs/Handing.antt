@@ -14,8 +14,6 @@ use Rattle.card_layout.specs.Card.{Side, Card}
 use Rattle.card_layout.specs.Lists.{Columns}
 use Rattle.card_reader.specs.declared.reader.Head.{Head}
 use Rattle.card_reader.specs.declared.reader.Heads.{Heads}
-use Rattle.card_models.specs.declared.models.Both.{Both}
-use Rattle.card_models.specs.declared.models.Both.TheVariants as boths
 use Rattle.card_report.specs.Report.{refusal_line}
 use Rattle.card_relation.specs.Relating.{relation_text}
 use Rattle.card_models.specs.Models.{given_of}
@@ -32,9 +30,9 @@ abbrev pub built_of : Side → Outcome
 built_of s = build (length s.classes) (Some (record { 0 = s.initial })) (given_of s) (length s.transitions) blank
 
 -- both models with their classes, ε and ρ, or what refuses one
-abbrev pub models_text : Both → models.Columns → models.Columns → List ℕ → List ℕ → ℕ → ℕ → List ℕ
-models_text (boths.Models SL SR) ML MR cl cr ε ρ = relation_text SL ML SR MR cl cr ε ρ
-models_text (boths.Refused n) ML MR cl cr ε ρ = refusal_line n
+abbrev pub models_text : Result (Shape × Shape) ℕ → models.Columns → models.Columns → List ℕ → List ℕ → ℕ → ℕ → List ℕ
+models_text (Ok (SL, SR)) ML MR cl cr ε ρ = relation_text SL ML SR MR cl cr ε ρ
+models_text (Err n) ML MR cl cr ε ρ = refusal_line n
 
 -- both models built, then their relation
 abbrev pub built_text : Card → List ℕ
@@ -55,16 +53,16 @@ abbrev pub Few : Result Shape ℕ → Type 0
 Few (Ok S) = S.states ≤ 32
 Few (Err n) = Unit
 
-abbrev pub FewBoth : Both → Type 0
-FewBoth (boths.Models SL SR) = (SL.states ≤ 32) × (SR.states ≤ 32)
-FewBoth (boths.Refused n) = Unit
+abbrev pub FewBoth : Result (Shape × Shape) ℕ → Type 0
+FewBoth (Ok (SL, SR)) = (SL.states ≤ 32) × (SR.states ≤ 32)
+FewBoth (Err n) = Unit
 
 -- the model of that head, built from the transitions from m on
 abbrev pub side_built : Head → ℕ → Columns → Outcome
 side_built h m k = side_ends h m (transitions k.sources k.labels k.targets k.weights) blank
 
 -- what is printed, with the classes as they stand in a list
-abbrev pub lists_text : Both → models.Columns → models.Columns → Heads → List ℕ → List ℕ
+abbrev pub lists_text : Result (Shape × Shape) ℕ → models.Columns → models.Columns → Heads → List ℕ → List ℕ
 lists_text b ML MR h classes = models_text b ML MR (slice 0 h.left.states classes) (slice h.left.states (h.left.states + h.right.states) classes) h.epsilon h.rho
 
 -- with a left model, and the right one built

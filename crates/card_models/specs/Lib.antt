@@ -1,3 +1,4 @@
 pub mod Models
 pub mod Sides
 pub mod Together
+pub mod Lent

@@ -1,8 +1,9 @@
 // A model of a card, built.
 ghost use Rattle.std.specs.Prelude.{◌≡◌};
 ghost use Rattle.numbers.specs.Refuse.{numbered};
-ghost use Rattle.bisim_core.specs.Data.{transitions, columns};
 ghost use Rattle.bisim_build.specs.Build.{ends};
+ghost use Rattle.build_theory.specs.Lent.{columns_in, kept};
+ghost use Rattle.card_models.specs.Lent.{transitions_in};
 ghost use Rattle.card_models.specs.Sides.{side_ends};
 
 use bisim_build::builder::build;
@@ -13,26 +14,32 @@ use card_reader::Head;
 use numbers::least;
 use numbers::refusal::Refusal;
 
-// Builds the model of that head, its transitions being those from `from` on, into the last five lists; 7 where they are not there.
+// The transitions of both models of a card, column by column; those of the left model stand first.
+#[derive(Clone, Copy, Debug)]
+pub struct CardTransitions<'a> {
+    pub sources: &'a [u32],
+    pub labels: &'a [u32],
+    pub targets: &'a [u32],
+    pub weights: &'a [f64],
+}
+
+// Builds the model of that head, its transitions being those from `from` on, into the lent lists; 7 where they are not there.
 pub fn build_side(
     head: Head,
     from: usize,
-    sources: &[u32],
-    labels: &[u32],
-    targets: &[u32],
-    weights: &[f64],
-    label_values: &mut [u32],
-    offsets: &mut [u32],
-    edge_labels: &mut [u32],
-    edge_targets: &mut [u32],
-    edge_weights: &mut [f64],
+    of: &CardTransitions,
+    store: &mut Store,
 ) -> Result<Shape, Refusal>
-    ensures { ends (numbered result) (columns label_values.new offsets.new edge_labels.new edge_targets.new edge_weights.new)
-        ≡ side_ends head from (transitions sources.now labels.now targets.now weights.now)
-        (columns label_values.old offsets.old edge_labels.old edge_targets.old edge_weights.old) }
+    ensures built { ends (numbered result) (columns_in store.new) ≡ side_ends head from (transitions_in of.now) (columns_in store.old) }
+    ensures same { kept store.old store.new }
 {
     let given = head.transitions as usize;
-    let there = least(sources.len(), labels.len(), targets.len(), weights.len());
+    let there = least(
+        of.sources.len(),
+        of.labels.len(),
+        of.targets.len(),
+        of.weights.len(),
+    );
     if there < from {
         return Err(Refusal::Store);
     }
@@ -43,18 +50,11 @@ pub fn build_side(
     let draft = Draft {
         states: head.states as usize,
         initial: Some(StateId(head.initial)),
-        sources: &sources[from..end],
-        labels: &labels[from..end],
-        targets: &targets[from..end],
-        weights: &weights[from..end],
+        sources: &of.sources[from..end],
+        labels: &of.labels[from..end],
+        targets: &of.targets[from..end],
+        weights: &of.weights[from..end],
         given,
     };
-    let mut store = Store {
-        label_values,
-        offsets,
-        edge_labels,
-        edge_targets,
-        edge_weights,
-    };
-    build(&draft, &mut store)
+    build(&draft, store)
 }

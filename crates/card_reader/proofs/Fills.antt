@@ -13,7 +13,11 @@ use borrow.Author.Tests.{lt-ltb, le-ltb, leb-true}
 use Rattle.numbers.proofs.Bools.{and_t}
 use Rattle.numbers.proofs.Refuses.{first, first_hit}
 use Rattle.card_layout.specs.Layout.{lines, value, rows, laid}
-use Rattle.card_reader.specs.declared.reader.Read.TheVariants.{Card as Accepted, Refused}
+use Rattle.std.specs.Prelude.{Result, Ok, Err}
+use Rattle.std.specs.Result.{IsErrAnd}
+use Rattle.numbers.specs.declared.refusal.Refusal.{Refusal}
+use Rattle.numbers.specs.Refuse.{number, numbered}
+use Rattle.numbers.proofs.Refuses.{number_positive}
 use Rattle.card_layout.specs.Card.{Transition, Card, refused, outcome, read, states, count, class_part, transition_part, side_size, after_side, classes_in, transition_in, transitions_in, side_in, card_in, last_part, side_fault, last_fault, fault}
 use Rattle.card_reader.specs.declared.reader.Head.{Head}
 use Rattle.card_reader.specs.declared.reader.Heads.{Heads}
@@ -130,6 +134,10 @@ module _ {A : Type 0} (f : Transition → A) (s : List ℕ) (at n from : ℕ) wh
   pub col_next : (l₀ l : List A) (i : ℕ) (a : A) → a ≡ f (transition_in (drop (at + 25 * i) s)) → i < n → Col l₀ l i → Col l₀ (set l (from + i) a) (i + 1)
   unfolding transitions_in
   col_next = stored_next 25 (column_in f) (λ bs. f (transition_in bs)) (λ bs. refl) (λ m bs. refl) s at n from
+
+  -- a column is as long as it was
+  pub col_length : (l₀ l : List A) (i : ℕ) → Col l₀ l i → length l ≡ length l₀
+  col_length l₀ l i v = sym (length-sets l (from + i) (column_in f (n - i) (drop (at + 25 * i) s))) ∙ ap length v ∙ length-sets l₀ from (column_in f n (drop at s))
 
   pub col_last : (l₀ l : List A) (i : ℕ) → n ≤ i → Col l₀ l i → l ≡ sets l₀ from (column_in f n (drop at s))
   unfolding transitions_in
@@ -282,18 +290,21 @@ outcome_refused : (n : ℕ) (c : Card) → (n ≡ 0 → ⊥) → outcome n c ≡
 outcome_refused zero c h = absurd (h refl)
 outcome_refused (suc n) c h = refl
 
-pub refused_answered : (s : List ℕ) (k : Columns) (f : ℕ) → f ≡ fault s → (f ≡ 0 → ⊥) → Answered s k (Refused f) k
+-- a refusal that is handed on
+pub refused_answered : (s : List ℕ) (k : Columns) (a : Result Heads Refusal) (f : Refusal) → IsErrAnd a (λ e. e ≡ f) → number f ≡ fault s → Answered s k (numbered a) k
 unfolding read
-refused_answered s k f e h =
-    let r : read s ≡ refused f = ap (λ (n : ℕ). outcome n (card_in s)) (sym e) ∙ outcome_refused f (card_in s) h in
+refused_answered s k (Ok h) f x e = absurd x
+refused_answered s k (Err g) f x e =
+    let n : number g ≡ fault s = ap number x ∙ e in
+    let r : read s ≡ refused (number g) = ap (λ (n : ℕ). outcome n (card_in s)) (sym n) ∙ outcome_refused (number g) (card_in s) (number_positive g) in
     record { answers = rw r; leaves = rw r }
 
-pub short_answered : (s : List ℕ) (k : Columns) → fault s ≡ 0 → roomy (card_in s) k ≡ false → Answered s k (Refused 7) k
+pub short_answered : (s : List ℕ) (k : Columns) → fault s ≡ 0 → roomy (card_in s) k ≡ false → Answered s k (Err 7) k
 unfolding read
 short_answered s k e r = record { answers = rw (e, r); leaves = rw (e, r) }
 
 pub card_answered : (s : List ℕ) (k k' : Columns) (h : Heads) → fault s ≡ 0 → roomy (card_in s) k ≡ true → h ≡ heads_of (card_in s) → k' ≡ filled (card_in s) k
-    → Answered s k (Accepted h) k'
+    → Answered s k (Ok h) k'
 unfolding read
 card_answered s k k' h e r p q = record { answers = rw (e, r, p); leaves = rw (e, r, q) }
 

@@ -9,7 +9,7 @@ use lib.ListN.{length, take, drop, length-append, length-map}
 use lib.Seq.{sets, sets-eq, length-sets, slice, take-append_seam, take-append-add, drop-append_seam}
 use borrow.Author.Tests.{le-leb}
 use Rattle.card_layout.specs.Card.{Transition, Card, Reading, card, refused, read, Within}
-use Rattle.card_reader.specs.declared.reader.Read.TheVariants.{Card as Accepted, Refused}
+use Rattle.std.specs.Prelude.{Ok, Err}
 use Rattle.card_reader.specs.declared.reader.Heads.{Heads}
 use Rattle.card_layout.specs.Lists.{Columns, source_of, label_of, target_of, weight_of, stored, filled, roomy, all_classes, all_transitions}
 use Rattle.card_reader.specs.Answer.{answer, after, Answered, heads_of}
@@ -159,23 +159,23 @@ pub record Found (bs : List ℕ) (h : Heads) (k : Columns) : Type 0 where
   pub lists : Listed the_card h k
   pub long : Long k
 
-refused_case : (x : Reading) (k : Columns) (n : ℕ) → ((c : Card) → x ≡ card c → roomy c k ≡ true) → Refused n ≡ answer x k → x ≡ refused n
+refused_case : (x : Reading) (k : Columns) (n : ℕ) → ((c : Card) → x ≡ card c → roomy c k ≡ true) → Err n ≡ answer x k → x ≡ refused n
 refused_case (refused m) k n f e = ap refused (let z : m ≡ n = cc in z)
-refused_case (card c) k n f e = absurd (let r = f c refl in let g : Refused n ≡ Accepted (heads_of c) = e ∙ rw r in let z : ◌≡◌ {A = ℕ} 0 1 = cc in omega arith)
+refused_case (card c) k n f e = absurd (let r = f c refl in let g : Err n ≡ Ok (heads_of c) = e ∙ rw r in let z : ◌≡◌ {A = ℕ} 0 1 = cc in omega arith)
 
-card_case : (x : Reading) (k k' : Columns) (h : Heads) → ((c : Card) → x ≡ card c → roomy c k ≡ true) → Accepted h ≡ answer x k → k' ≡ after x k
+card_case : (x : Reading) (k k' : Columns) (h : Heads) → ((c : Card) → x ≡ card c → roomy c k ≡ true) → Ok h ≡ answer x k → k' ≡ after x k
     → (c : Card) × (x ≡ card c) × (h ≡ heads_of c) × (k' ≡ filled c k)
 card_case (refused m) k k' h f e d = absurd (let z : ◌≡◌ {A = ℕ} 0 1 = cc in omega arith)
 card_case (card c) k k' h f e d =
     let r = f c refl in
-    let g : Accepted h ≡ Accepted (heads_of c) = e ∙ rw r in
+    let g : Ok h ≡ Ok (heads_of c) = e ∙ rw r in
     (c, refl, (let z : h ≡ heads_of c = cc in z), d ∙ rw r)
 
 module _ (bs : List ℕ) (k k' : Columns) (g : Long k) where
   roomed : (c : Card) → read bs ≡ card c → roomy c k ≡ true
   roomed c e = has_room_lem c (layout_read bs c e).1 k g
 
-  pub answered_refused : (n : ℕ) → Answered bs k (Refused n) k' → read bs ≡ refused n
+  pub answered_refused : (n : ℕ) → Answered bs k (Err n) k' → read bs ≡ refused n
   answered_refused n a = refused_case (read bs) k n roomed a.answers
 
   found_of_lem : (h : Heads) (c : Card) → read bs ≡ card c → h ≡ heads_of c → k' ≡ filled c k → Found bs h k'
@@ -183,5 +183,5 @@ module _ (bs : List ℕ) (k k' : Columns) (g : Long k) where
       let w = (layout_read bs c e).1 in
       record { the_card = c; reads = e; within = w; lists = rw (p, q) (card_listed c w k g); long = rw q (filled_long c k g) }
 
-  pub answered_card : (h : Heads) → Answered bs k (Accepted h) k' → Found bs h k'
+  pub answered_card : (h : Heads) → Answered bs k (Ok h) k' → Found bs h k'
   answered_card h a = let f = card_case (read bs) k k' h roomed a.answers a.leaves in found_of_lem h f.0 f.1 f.2 f.3

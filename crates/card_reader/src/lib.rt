@@ -3,4 +3,4 @@
 
 mod reader; // reader.rt: checks 1 and 2, then the lent lists
 
-pub use reader::{Head, Heads, Read, read_card};
+pub use reader::{CardLists, Head, Heads, read_card};

@@ -2,17 +2,19 @@
 ghost use Rattle.std.specs.Prelude.{◌≡◌, true, ◌+◌, ◌*◌, ◌≤◌, ◌<◌, length, drop};
 ghost use Rattle.std.proofs.lemmas.List.Edits.{sets};
 ghost use Rattle.card_layout.specs.Card;
-ghost use Rattle.card_layout.specs.Lists;
-ghost use Rattle.card_layout.specs.Lists.{columns};
+ghost use Rattle.numbers.specs.Refuse.{code, numbered};
+ghost use Rattle.card_layout.specs.Lists.{stored, roomy, filled};
+ghost use Rattle.card_reader.specs.Lent.{columns_of, same_lists};
 ghost use Rattle.card_reader.specs.Answer;
 ghost use Rattle.card_reader.specs.Answer.{Answered, head_of};
 ghost use Rattle.card_layout.proofs.Filling;
 ghost use Rattle.card_layout.proofs.Filling.{TransitionsRoom, TransitionsStored, SideRoom};
 
 use card_layout::{laid, number};
+use numbers::refusal::Refusal;
 
 // A model's first line: states, initial state, transitions.
-#[derive(Clone, Copy)]
+#[derive(Clone, Copy, Debug, PartialEq, Eq)]
 pub struct Head {
     pub states: u32,
     pub initial: u32,
@@ -20,7 +22,7 @@ pub struct Head {
 }
 
 // The first lines of both models, and ε and ρ in 1,024ths.
-#[derive(Clone, Copy)]
+#[derive(Clone, Copy, Debug, PartialEq, Eq)]
 pub struct Heads {
     pub left: Head,
     pub right: Head,
@@ -28,35 +30,39 @@ pub struct Heads {
     pub rho: u32,
 }
 
-#[derive(Clone, Copy)]
-pub enum Read {
-    Card(Heads),
-    Refused(u32),
+// The lists that a card is read into: a class for each state, and four numbers for each transition; those of the left model stand first.
+#[derive(Debug, Drop)]
+pub struct CardLists<'a> {
+    pub classes: &'a mut [u32],
+    pub sources: &'a mut [u32],
+    pub labels: &'a mut [u32],
+    pub targets: &'a mut [u32],
+    pub weights: &'a mut [f64],
 }
 
-// The first fault of the model at `at`, 0 for none.
-fn side_fault(s: &[u8], at: usize) -> u32
+// The first fault of the model at `at`.
+fn side_fault(s: &[u8], at: usize) -> Result<(), Refusal>
     requires { at ≤ length s.now }
-    ensures { result ≡ Card.side_fault (drop at s.now) 0 }
+    ensures { code result ≡ Card.side_fault (drop at s.now) 0 }
 {
     if !laid(s, at, 1, 3) {
-        return 1;
+        return Err(Refusal::CardLayout);
     }
     let states = number(s, at);
     let transitions = number(s, at + 12);
     if states > 32 {
-        return 2;
+        return Err(Refusal::CardSize);
     }
     if transitions > 200 {
-        return 2;
+        return Err(Refusal::CardSize);
     }
     if !laid(s, at + 19, states, 1) {
-        return 1;
+        return Err(Refusal::CardLayout);
     }
     if !laid(s, at + 19 + 7 * states as usize, transitions, 4) {
-        return 1;
+        return Err(Refusal::CardLayout);
     }
-    0
+    Ok(())
 }
 
 // Where the model at `at`, which has no fault, ends.
@@ -69,27 +75,21 @@ fn side_end(s: &[u8], at: usize) -> usize
     at + 19 + 7 * states + 25 * transitions
 }
 
-// The first fault of the card, 0 for none.
-fn fault(s: &[u8]) -> u32
-    ensures { result ≡ Card.fault s.now }
+// The first fault of the card.
+fn fault(s: &[u8]) -> Result<(), Refusal>
+    ensures { code result ≡ Card.fault s.now }
 {
-    let left = side_fault(s, 0);
-    if left != 0 {
-        return left;
-    }
+    side_fault(s, 0)?;
     let middle = side_end(s, 0);
-    let right = side_fault(s, middle);
-    if right != 0 {
-        return right;
-    }
+    side_fault(s, middle)?;
     let last = side_end(s, middle);
     if !laid(s, last, 1, 2) {
-        return 1;
+        return Err(Refusal::CardLayout);
     }
     if last + 13 < s.len() {
-        return 1;
+        return Err(Refusal::CardLayout);
     }
-    0
+    Ok(())
 }
 
 // The classes on the n lines at `at`, stored from `from` on.
@@ -103,25 +103,18 @@ fn fill_classes(s: &[u8], at: usize, n: u32, classes: &mut [u32], from: usize)
 }
 
 // The transitions on the n lines at `at`, stored from `from` on.
-fn fill_transitions(
-    s: &[u8],
-    at: usize,
-    n: u32,
-    sources: &mut [u32],
-    labels: &mut [u32],
-    targets: &mut [u32],
-    weights: &mut [f64],
-    from: usize,
-)
-    requires { (at + 25 * n ≤ length s.now) × TransitionsRoom n from sources.old labels.old targets.old weights.old }
-    ensures { TransitionsStored (Card.transitions_in n (drop at s.now)) from sources.old labels.old targets.old weights.old sources.new labels.new targets.new weights.new }
+fn fill_transitions(s: &[u8], at: usize, n: u32, lists: &mut CardLists, from: usize)
+    requires { (at + 25 * n ≤ length s.now) × TransitionsRoom n from lists.old.sources.now lists.old.labels.now lists.old.targets.now lists.old.weights.now }
+    ensures stored { TransitionsStored (Card.transitions_in n (drop at s.now)) from lists.old.sources.now lists.old.labels.now lists.old.targets.now lists.old.weights.now lists.new.sources.now lists.new.labels.now lists.new.targets.now lists.new.weights.now }
+    ensures kept { lists.new.classes.now ≡ lists.old.classes.now }
+    ensures same { same_lists lists.old lists.new }
 {
     for i in 0..n as usize {
         let line = at + 25 * i;
-        sources[from + i] = number(s, line);
-        labels[from + i] = number(s, line + 6);
-        targets[from + i] = number(s, line + 12);
-        weights[from + i] = number(s, line + 18) as f64;
+        lists.sources[from + i] = number(s, line);
+        lists.labels[from + i] = number(s, line + 6);
+        lists.targets[from + i] = number(s, line + 12);
+        lists.weights[from + i] = number(s, line + 18) as f64;
     }
 }
 
@@ -137,79 +130,41 @@ fn head_at(s: &[u8], at: usize) -> Head
     }
 }
 
-// The lengths of the columns are enough for n states and m transitions.
-fn enough(
-    n: usize,
-    m: usize,
-    classes: usize,
-    sources: usize,
-    labels: usize,
-    targets: usize,
-    weights: usize,
-) -> bool
-    ensures { result ≡ Filling.enough n m classes sources labels targets weights }
+// The lists are long enough for n states and m transitions.
+fn enough(n: usize, m: usize, lists: &CardLists) -> bool
+    ensures { result ≡ Filling.enough n m (length lists.now.classes.now) (length lists.now.sources.now) (length lists.now.labels.now) (length lists.now.targets.now) (length lists.now.weights.now) }
 {
-    n <= classes && m <= sources && m <= labels && m <= targets && m <= weights
+    n <= lists.classes.len()
+        && m <= lists.sources.len()
+        && m <= lists.labels.len()
+        && m <= lists.targets.len()
+        && m <= lists.weights.len()
 }
 
-// The model at `at`, which has no fault, stored in the columns from `from` and `first` on.
-fn fill_side(
-    s: &[u8],
-    at: usize,
-    classes: &mut [u32],
-    from: usize,
-    sources: &mut [u32],
-    labels: &mut [u32],
-    targets: &mut [u32],
-    weights: &mut [f64],
-    first: usize,
-)
-    requires { SideRoom (drop at s.now) from first (columns classes.old sources.old labels.old targets.old weights.old) × (at ≤ length s.now) }
-    ensures { columns classes.new sources.new labels.new targets.new weights.new ≡ Lists.stored (Card.side_in (drop at s.now)) from first (columns classes.old sources.old labels.old targets.old weights.old) }
+// The model at `at`, which has no fault, stored in the lists: its classes from `from` on, its transitions from `first` on.
+fn fill_side(s: &[u8], at: usize, lists: &mut CardLists, from: usize, first: usize)
+    requires { SideRoom (drop at s.now) from first (columns_of lists.old) × (at ≤ length s.now) }
+    ensures stored { columns_of lists.new ≡ stored (Card.side_in (drop at s.now)) from first (columns_of lists.old) }
+    ensures same { same_lists lists.old lists.new }
 {
     let states = number(s, at);
     let transitions = number(s, at + 12);
-    fill_classes(s, at + 19, states, classes, from);
+    fill_classes(s, at + 19, states, lists.classes, from);
     let lines = at + 19 + 7 * states as usize;
-    fill_transitions(
-        s,
-        lines,
-        transitions,
-        sources,
-        labels,
-        targets,
-        weights,
-        first,
-    );
+    fill_transitions(s, lines, transitions, lists, first);
 }
 
-// The card, which has no fault, stored in the columns: the left model from the first entry on, the right model after it.
-fn fill_card(
-    s: &[u8],
-    classes: &mut [u32],
-    sources: &mut [u32],
-    labels: &mut [u32],
-    targets: &mut [u32],
-    weights: &mut [f64],
-)
-    requires { (Card.fault s.now ≡ 0) × (Lists.roomy (Card.card_in s.now) (columns classes.old sources.old labels.old targets.old weights.old) ≡ true) }
-    ensures { columns classes.new sources.new labels.new targets.new weights.new ≡ Lists.filled (Card.card_in s.now) (columns classes.old sources.old labels.old targets.old weights.old) }
+// The card, which has no fault, stored in the lists: the left model from the first entry on, the right model after it.
+fn fill_card(s: &[u8], lists: &mut CardLists)
+    requires { (Card.fault s.now ≡ 0) × (roomy (Card.card_in s.now) (columns_of lists.old) ≡ true) }
+    ensures filled { columns_of lists.new ≡ filled (Card.card_in s.now) (columns_of lists.old) }
+    ensures same { same_lists lists.old lists.new }
 {
     let middle = side_end(s, 0);
     let states = number(s, 0) as usize;
     let transitions = number(s, 12) as usize;
-    fill_side(s, 0, classes, 0, sources, labels, targets, weights, 0);
-    fill_side(
-        s,
-        middle,
-        classes,
-        states,
-        sources,
-        labels,
-        targets,
-        weights,
-        transitions,
-    );
+    fill_side(s, 0, lists, 0, 0);
+    fill_side(s, middle, lists, states, transitions);
 }
 
 // The counts and settings of a card that has no fault.
@@ -230,34 +185,17 @@ fn heads_of(s: &[u8]) -> Heads
 }
 
 // Reads a card into the lent lists: 1 or 2 where a line has a fault, 7 where a list is short.
-pub fn read_card(
-    s: &[u8],
-    classes: &mut [u32],
-    sources: &mut [u32],
-    labels: &mut [u32],
-    targets: &mut [u32],
-    weights: &mut [f64],
-) -> Read
-    ensures { Answered s.now (columns classes.old sources.old labels.old targets.old weights.old) result (columns classes.new sources.new labels.new targets.new weights.new) }
+pub fn read_card(s: &[u8], lists: &mut CardLists) -> Result<Heads, Refusal>
+    ensures answered { Answered s.now (columns_of lists.old) (numbered result) (columns_of lists.new) }
+    ensures same { same_lists lists.old lists.new }
 {
-    let found = fault(s);
-    if found != 0 {
-        return Read::Refused(found);
-    }
+    fault(s)?;
     let heads = heads_of(s);
     let states = heads.left.states as usize + heads.right.states as usize;
     let transitions = heads.left.transitions as usize + heads.right.transitions as usize;
-    if !enough(
-        states,
-        transitions,
-        classes.len(),
-        sources.len(),
-        labels.len(),
-        targets.len(),
-        weights.len(),
-    ) {
-        return Read::Refused(7);
+    if !enough(states, transitions, lists) {
+        return Err(Refusal::Store);
     }
-    fill_card(s, classes, sources, labels, targets, weights);
-    Read::Card(heads)
+    fill_card(s, lists);
+    Ok(heads)
 }

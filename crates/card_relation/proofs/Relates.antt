@@ -26,8 +26,6 @@ use Rattle.epsdelta_theory.proofs.Rows.{model_length, union_length}
 use Rattle.epsdelta.specs.Outcome.{Outcome, ends, settled}
 use Rattle.card_layout.proofs.Lines.{length_line}
 use Rattle.card_report.specs.Report.{report, refusal_line, most_report, store_fault, report_fault, relation_in, Printed}
-use Rattle.card_report.specs.declared.report.Text.{Text}
-use Rattle.card_report.specs.declared.report.Text.TheVariants as texts
 use Rattle.card_report.proofs.Texts.{square_low, report_room}
 use Rattle.card_relation.specs.Relating.{parts, text_of, relation_text, relation_fault}
 
@@ -36,7 +34,7 @@ use Rattle.card_relation.specs.Relating.{parts, text_of, relation_text, relation
 room_free : (n : ℕ) → most_report ≤ n → store_fault n ≡ 0
 room_free n h = rw (le-ltb n most_report h)
 
-module _ (text out out' : List ℕ) (t : Text) (h : most_report ≤ length out) where
+module _ (text out out' : List ℕ) (t : Result ℕ ℕ) (h : most_report ≤ length out) where
   pub with_room : Printed (store_fault (length out)) text out t out' → Printed 0 text out t out'
   with_room p = subst (λ (f : ℕ). Printed f text out t out') (room_free (length out) h) p
 
@@ -44,7 +42,7 @@ module _ (text out out' : List ℕ) (t : Text) (h : most_report ≤ length out) 
   of_room p = subst (λ (f : ℕ). Printed f text out t out') (sym (room_free (length out) h)) p
 
 -- the same text
-pub retold : {text text' out out' : List ℕ} {t : Text} {f : ℕ} → text ≡ text' → Printed f text out t out' → Printed f text' out t out'
+pub retold : {text text' out out' : List ℕ} {t : Result ℕ ℕ} {f : ℕ} → text ≡ text' → Printed f text out t out' → Printed f text' out t out'
 retold {out = out} {out'} {t} {f} e p = subst (λ (x : List ℕ). Printed f x out t out') e p
 
 -- ---- the relation in the bytes
@@ -79,7 +77,7 @@ module _ (rel store : List ℕ) (R : List Bool) where
   refused_case m zero text e = absurd (let z = ap (λ (o : Outcome (Result (Unit {0}) ℕ)). told o.answer) e in omega arith)
   refused_case m (suc n) text e = let z = ap (λ (o : Outcome (Result (Unit {0}) ℕ)). told o.answer) e in let f : m ≡ suc n = omega arith in ap refusal_line f
 
-module _ (l r n : ℕ) (rel store : List ℕ) (R : List Bool) (out out' : List ℕ) (t : Text) where
+module _ (l r n : ℕ) (rel store : List ℕ) (R : List Bool) (out out' : List ℕ) (t : Result ℕ ℕ) where
   pub finish_related : l ≤ 32 → r ≤ 32 → 512 ≤ length rel → most_report ≤ length out → ends (Ok tt) rel ≡ settled n store R → length R ≡ (l + r) * (l + r)
       → Printed (report_fault l r (length rel) (length out)) (report (relation_in rel (l + r)) l r) out t out' → Printed 0 (text_of n (report R l r)) out t out'
   finish_related a b d h e k p =
@@ -129,21 +127,21 @@ text_fits (suc n) text h = line_fits (suc n)
 -- ---- the checks before
 
 module _ (SL SR : Shape) (text out : List ℕ) where
-  pub left_over : 32 < SL.states → Printed (relation_fault SL SR (length out)) text out (texts.Refused 2) out
+  pub left_over : 32 < SL.states → Printed (relation_fault SL SR (length out)) text out (Err 2) out
   left_over h = let e = lt-ltb 32 SL.states h in record { answers = rw e; leaves = rw e }
 
-  pub right_over : SL.states ≤ 32 → 32 < SR.states → Printed (relation_fault SL SR (length out)) text out (texts.Refused 2) out
+  pub right_over : SL.states ≤ 32 → 32 < SR.states → Printed (relation_fault SL SR (length out)) text out (Err 2) out
   right_over g h = let d = le-ltb 32 SL.states g in let e = lt-ltb 32 SR.states h in record { answers = rw (d, e); leaves = rw (d, e) }
 
   none_over : SL.states ≤ 32 → SR.states ≤ 32 → relation_fault SL SR (length out) ≡ store_fault (length out)
   none_over g h = rw (le-ltb 32 SL.states g, le-ltb 32 SR.states h)
 
-  pub store_short : SL.states ≤ 32 → SR.states ≤ 32 → length out < most_report → Printed (relation_fault SL SR (length out)) text out (texts.Refused 7) out
+  pub store_short : SL.states ≤ 32 → SR.states ≤ 32 → length out < most_report → Printed (relation_fault SL SR (length out)) text out (Err 7) out
   store_short g h f =
-      subst (λ (x : ℕ). Printed x text out (texts.Refused 7) out) (sym (none_over g h))
+      subst (λ (x : ℕ). Printed x text out (Err 7) out) (sym (none_over g h))
       (let e = lt-ltb (length out) most_report f in record { answers = rw e; leaves = rw e })
 
-  module _ (out' : List ℕ) (t : Text) (g : SL.states ≤ 32) (h : SR.states ≤ 32) (f : most_report ≤ length out) where
+  module _ (out' : List ℕ) (t : Result ℕ ℕ) (g : SL.states ≤ 32) (h : SR.states ≤ 32) (f : most_report ≤ length out) where
     pub relation_room : Printed 0 text out t out' → Printed (relation_fault SL SR (length out)) text out t out'
     relation_room p = subst (λ (x : ℕ). Printed x text out t out') (sym (none_over g h)) (of_room text out out' t f p)
 

@@ -9,7 +9,7 @@ ghost use Rattle.card_relation.specs.Relating;
 ghost use Rattle.card_relation.specs.Relating.{text_of, relation_text, relation_fault};
 
 use bisim_core::wlts::{Shape, Wlts};
-use card_report::{MOST_REPORT, Text, refusal_text, report_text};
+use card_report::{MOST_REPORT, refusal_text, report_text};
 use epsdelta::asked::{Side, Tolerances};
 use epsdelta::relation::epsdelta;
 use numbers::refusal::Refusal;
@@ -28,10 +28,10 @@ fn finish(
     right: usize,
     relation: &[u8],
     out: &mut [u8],
-) -> Text
+) -> Result<usize, Refusal>
     requires { (left ≤ 32) × (right ≤ 32) × (512 ≤ length relation.now) × (most_report ≤ length out.old) }
     ensures { (n : ℕ) (store : List ℕ) (R : List Bool) → ends (numbered ended) relation.now ≡ settled n store R → length R ≡ (left + right) * (left + right)
-        → Printed 0 (text_of n (Report.report R left right)) out.old result out.new }
+        → Printed 0 (text_of n (Report.report R left right)) out.old (numbered result) out.new }
 {
     match ended {
         Ok(()) => report_text(left as u32, right as u32, relation, out),
@@ -48,11 +48,11 @@ fn print_models(
     epsilon: u32,
     rho: u32,
     out: &mut [u8],
-) -> Text
+) -> Result<usize, Refusal>
     requires { (left.now.shape.states ≤ 32) × (right.now.shape.states ≤ 32) × (most_report ≤ length out.old) }
     ensures { Printed 0 (relation_text left.now.shape (Data.columns_of left.now)
         right.now.shape (Data.columns_of right.now)
-        left_classes.now right_classes.now epsilon rho) out.old result out.new }
+        left_classes.now right_classes.now epsilon rho) out.old (numbered result) out.new }
 {
     let mut relation = [0u8; 512];
     let tolerances = Tolerances {
@@ -80,19 +80,19 @@ pub fn relation_text(
     epsilon: u32,
     rho: u32,
     out: &mut [u8],
-) -> Text
+) -> Result<usize, Refusal>
     ensures { Printed (relation_fault left.now.shape right.now.shape (length out.old)) (relation_text left.now.shape (Data.columns_of left.now)
         right.now.shape (Data.columns_of right.now)
-        left_classes.now right_classes.now epsilon rho) out.old result out.new }
+        left_classes.now right_classes.now epsilon rho) out.old (numbered result) out.new }
 {
     if left.shape.states > 32 {
-        return Text::Refused(2);
+        return Err(Refusal::CardSize);
     }
     if right.shape.states > 32 {
-        return Text::Refused(2);
+        return Err(Refusal::CardSize);
     }
     if out.len() < MOST_REPORT {
-        return Text::Refused(7);
+        return Err(Refusal::Store);
     }
     print_models(left, right, left_classes, right_classes, epsilon, rho, out)
 }

@@ -16,8 +16,7 @@ use Rattle.epsdelta_theory.proofs.Pairs.{entry_in}
 use Rattle.card_layout.specs.Layout.{line, lines}
 use Rattle.card_layout.proofs.Lines.{length_line}
 use Rattle.card_layout.proofs.Writes.{sets_append}
-use Rattle.card_report.specs.declared.report.Text.{Text}
-use Rattle.card_report.specs.declared.report.Text.TheVariants.{Written, Refused}
+use Rattle.std.specs.Prelude.{Result, Ok, Err}
 use Rattle.card_report.specs.Report.{keep, across, down, pairs, report, refusal_line, most_report, store_fault, report_fault, relation_in, text_answer, text_stored, Printed}
 
 -- ---- a pair of the relation
@@ -234,25 +233,25 @@ module _ (store : List ℕ) (l r : ℕ) (out : List ℕ) where
   needed = relation_bytes (l + r)
 
   -- what is written by the fault f
-  prints : (f : ℕ) (t : Text) (out' : List ℕ) → report_fault l r bytes room ≡ f → t ≡ text_answer f (report R l r) → out' ≡ text_stored f (report R l r) out
+  prints : (f : ℕ) (t : Result ℕ ℕ) (out' : List ℕ) → report_fault l r bytes room ≡ f → t ≡ text_answer f (report R l r) → out' ≡ text_stored f (report R l r) out
       → Printed (report_fault l r bytes room) (report R l r) out t out'
   prints f t out' e a b = record { answers = rw e a; leaves = rw e b }
 
-  pub left_over : 32 < l → Printed (report_fault l r bytes room) (report R l r) out (Refused 2) out
+  pub left_over : 32 < l → Printed (report_fault l r bytes room) (report R l r) out (Err 2) out
   unfolding report_fault
-  left_over h = prints 2 (Refused 2) out (rw (lt-ltb 32 l h)) refl refl
+  left_over h = prints 2 (Err 2) out (rw (lt-ltb 32 l h)) refl refl
 
-  pub right_over : l ≤ 32 → 32 < r → Printed (report_fault l r bytes room) (report R l r) out (Refused 2) out
+  pub right_over : l ≤ 32 → 32 < r → Printed (report_fault l r bytes room) (report R l r) out (Err 2) out
   unfolding report_fault
-  right_over a h = prints 2 (Refused 2) out (rw (le-ltb 32 l a, lt-ltb 32 r h)) refl refl
+  right_over a h = prints 2 (Err 2) out (rw (le-ltb 32 l a, lt-ltb 32 r h)) refl refl
 
-  pub relation_short : l ≤ 32 → r ≤ 32 → bytes < needed → Printed (report_fault l r bytes room) (report R l r) out (Refused 7) out
+  pub relation_short : l ≤ 32 → r ≤ 32 → bytes < needed → Printed (report_fault l r bytes room) (report R l r) out (Err 7) out
   unfolding report_fault
-  relation_short a b h = prints 7 (Refused 7) out (rw (le-ltb 32 l a, le-ltb 32 r b, lt-ltb bytes needed h)) refl refl
+  relation_short a b h = prints 7 (Err 7) out (rw (le-ltb 32 l a, le-ltb 32 r b, lt-ltb bytes needed h)) refl refl
 
-  pub store_short : l ≤ 32 → r ≤ 32 → needed ≤ bytes → room < most_report → Printed (report_fault l r bytes room) (report R l r) out (Refused 7) out
+  pub store_short : l ≤ 32 → r ≤ 32 → needed ≤ bytes → room < most_report → Printed (report_fault l r bytes room) (report R l r) out (Err 7) out
   unfolding report_fault
-  store_short a b d h = prints 7 (Refused 7) out (rw (le-ltb 32 l a, le-ltb 32 r b, le-ltb bytes needed d, lt-ltb room most_report h)) refl refl
+  store_short a b d h = prints 7 (Err 7) out (rw (le-ltb 32 l a, le-ltb 32 r b, le-ltb bytes needed d, lt-ltb room most_report h)) refl refl
 
   pub report_room : l ≤ 32 → r ≤ 32 → needed ≤ bytes → most_report ≤ room → report_fault l r bytes room ≡ 0
   unfolding report_fault
@@ -260,17 +259,17 @@ module _ (store : List ℕ) (l r : ℕ) (out : List ℕ) where
 
   pub reported : l ≤ 32 → r ≤ 32 → needed ≤ bytes → most_report ≤ room → (e : ℕ) (mid out' : List ℕ)
       → e ≡ 19 + 13 * length (pairs R l r) → mid ≡ sets out 19 (lines (pairs R l r)) → out' ≡ sets mid 0 (line (l ∷ r ∷ (e - 19) / 13 ∷ []))
-      → Printed (report_fault l r bytes room) (report R l r) out (Written e) out'
-  reported a b d h e mid out' ee em eo = prints 0 (Written e) out' (report_room a b d h) (ap Written (ee ∙ sym (report_length R l r))) (report_at e mid out' ee em eo)
+      → Printed (report_fault l r bytes room) (report R l r) out (Ok e) out'
+  reported a b d h e mid out' ee em eo = prints 0 (Ok e) out' (report_room a b d h) (ap Ok (ee ∙ sym (report_length R l r))) (report_at e mid out' ee em eo)
 
 -- ---- a refusal's line
 
-pub line_short : (text out : List ℕ) → length out < most_report → Printed (store_fault (length out)) text out (Refused 7) out
+pub line_short : (text out : List ℕ) → length out < most_report → Printed (store_fault (length out)) text out (Err 7) out
 line_short text out h = record { answers = rw (lt-ltb (length out) most_report h); leaves = rw (lt-ltb (length out) most_report h) }
 
 pub line_written : (n : ℕ) (out out' : List ℕ) → most_report ≤ length out → out' ≡ sets out 0 (line (n ∷ []))
-    → Printed (store_fault (length out)) (refusal_line n) out (Written 7) out'
+    → Printed (store_fault (length out)) (refusal_line n) out (Ok 7) out'
 line_written n out out' h e = record {
-  answers = rw (le-ltb (length out) most_report h) (ap Written (sym (length_line (n ∷ []))));
+  answers = rw (le-ltb (length out) most_report h) (ap Ok (sym (length_line (n ∷ []))));
   leaves = rw (le-ltb (length out) most_report h) e;
 }

@@ -1,12 +1,10 @@
 -- The printed relation: its pairs, its bytes, and what the writers of text answer.
-use Rattle.std.specs.Prelude.{◌≡◌, Bool, true, false, ◌||◌, List, [], ◌∷◌, ◌++◌, ℕ, zero, suc, ◌+◌, ◌*◌, ltb, length}
+use Rattle.std.specs.Prelude.{◌≡◌, Bool, true, false, ◌||◌, List, [], ◌∷◌, ◌++◌, ℕ, zero, suc, ◌+◌, ◌*◌, ltb, length, Result}
 use Rattle.std.proofs.lemmas.List.Edits.{sets}
 use Rattle.numbers.specs.Bits.{unpack}
-use Rattle.numbers.specs.Refuse.{check}
+use Rattle.numbers.specs.Refuse.{check, answered}
 use Rattle.epsdelta_theory.specs.Relation.{relation_bytes, related}
 use Rattle.card_layout.specs.Layout.{line, lines}
-use Rattle.card_report.specs.declared.report.Text.{Text}
-use Rattle.card_report.specs.declared.report.Text.TheVariants.{Written, Refused}
 
 -- ---- the related left-right pairs of models of l and r states, in a relation over the states of both
 
@@ -62,15 +60,14 @@ report_fault l r bytes room = check 2 (ltb 32 l || ltb 32 r) (check 7 (ltb bytes
 abbrev pub relation_in : List ℕ → ℕ → List Bool
 relation_in store n = unpack store (n * n) 0
 
-abbrev pub text_answer : ℕ → List ℕ → Text
-text_answer zero text = Written (length text)
-text_answer (suc n) text = Refused (suc n)
+abbrev pub text_answer : ℕ → List ℕ → Result ℕ ℕ
+text_answer n text = answered n (length text)
 
 -- bytes past the end keep their contents; a refusal touches none
 abbrev pub text_stored : ℕ → List ℕ → List ℕ → List ℕ
 text_stored zero text out = sets out 0 text
 text_stored (suc n) text out = out
 
-pub record Printed (fault : ℕ) (text out : List ℕ) (r : Text) (out' : List ℕ) : Type 0 where
+pub record Printed (fault : ℕ) (text out : List ℕ) (r : Result ℕ ℕ) (out' : List ℕ) : Type 0 where
   pub answers : r ≡ text_answer fault text
   pub leaves : out' ≡ text_stored fault text out

@@ -4,4 +4,4 @@
 mod lines; // lines.rt: a line in a store
 mod report; // report.rt: pairs, the head, a refusal's line
 
-pub use report::{MOST_REPORT, Text, refusal_text, report_text};
+pub use report::{MOST_REPORT, refusal_text, report_text};

@@ -1,5 +1,6 @@
 // The report's text in a lent store.
 ghost use Rattle.std.specs.Prelude.{◌≡◌, ◌+◌, ◌*◌, ◌≤◌, ◌<◌, length};
+ghost use Rattle.numbers.specs.Refuse.{numbered};
 ghost use Rattle.epsdelta_theory.specs.Relation;
 ghost use Rattle.card_layout.proofs.Writes.{PairsPut};
 ghost use Rattle.card_report.specs.Report;
@@ -7,32 +8,36 @@ ghost use Rattle.card_report.specs.Report.{relation_in, refusal_line, Printed};
 
 use crate::lines::put_line;
 use numbers::bit;
+use numbers::refusal::Refusal;
 
 // The greatest report: a head and 1,024 pairs.
 pub const MOST_REPORT: usize = 13331;
 
-#[derive(Clone, Copy)]
-pub enum Text {
-    Written(usize),
-    Refused(u32),
+// A relation over the states of two models, and how many states each has; its pairs are those of a left state and a right one.
+#[derive(Clone, Copy, Debug)]
+struct Pairs<'a> {
+    relation: &'a [u8],
+    left: u32,
+    right: u32,
 }
 
 // Left state s and right state t are related.
-fn related(relation: &[u8], l: usize, r: usize, s: usize, t: usize) -> bool
-    requires { (l ≤ 32) × (r ≤ 32) × (s < l) × (t < r) }
-    ensures { result ≡ Relation.related (l + r) l (relation_in relation.now (l + r)) s t }
+fn related(of: &Pairs, s: u32, t: u32) -> bool
+    requires { (of.now.left ≤ 32) × (of.now.right ≤ 32) × (s < of.now.left) × (t < of.now.right) }
+    ensures { result ≡ Relation.related (of.now.left + of.now.right) of.now.left (relation_in of.now.relation.now (of.now.left + of.now.right)) s t }
 {
-    bit(relation, s * (l + r) + (l + t))
+    let bit_of = s * (of.left + of.right) + (of.left + t);
+    bit(of.relation, bit_of as usize)
 }
 
 // The related pairs of left state s, written from `at` on. Gives the place after them.
-fn put_across(relation: &[u8], l: u32, r: u32, s: u32, out: &mut [u8], at: usize) -> usize
-    requires { (l ≤ 32) × (r ≤ 32) × (s < l) × (at + 13 * r ≤ length out.old) }
-    ensures { PairsPut (Report.across (relation_in relation.now (l + r)) l r s r 0) at (13 * r) out.old result out.new }
+fn put_across(of: &Pairs, s: u32, out: &mut [u8], at: usize) -> usize
+    requires { (of.now.left ≤ 32) × (of.now.right ≤ 32) × (s < of.now.left) × (at + 13 * of.now.right ≤ length out.old) }
+    ensures { PairsPut (Report.across (relation_in of.now.relation.now (of.now.left + of.now.right)) of.now.left of.now.right s of.now.right 0) at (13 * of.now.right) out.old result out.new }
 {
     let mut p = at;
-    for t in 0..r {
-        if related(relation, l as usize, r as usize, s as usize, t as usize) {
+    for t in 0..of.right {
+        if related(of, s, t) {
             put_line(out, p, &[s, t]);
             p += 13;
         }
@@ -41,46 +46,51 @@ fn put_across(relation: &[u8], l: u32, r: u32, s: u32, out: &mut [u8], at: usize
 }
 
 // The related pairs by left then right, written from `at` on. Gives the place after them.
-fn put_pairs(relation: &[u8], l: u32, r: u32, out: &mut [u8], at: usize) -> usize
-    requires { (l ≤ 32) × (r ≤ 32) × (at + 416 * l ≤ length out.old) }
-    ensures { PairsPut (Report.pairs (relation_in relation.now (l + r)) l r) at (416 * l) out.old result out.new }
+fn put_pairs(of: &Pairs, out: &mut [u8], at: usize) -> usize
+    requires { (of.now.left ≤ 32) × (of.now.right ≤ 32) × (at + 416 * of.now.left ≤ length out.old) }
+    ensures { PairsPut (Report.pairs (relation_in of.now.relation.now (of.now.left + of.now.right)) of.now.left of.now.right) at (416 * of.now.left) out.old result out.new }
 {
     let mut p = at;
-    for s in 0..l {
-        p = put_across(relation, l, r, s, out, p);
+    for s in 0..of.left {
+        p = put_across(of, s, out, p);
     }
     p
 }
 
-// Writes the report of a relation over the states of both models: 2 for over 32 states, 7 where the relation or the store is short.
-pub fn report_text(left: u32, right: u32, relation: &[u8], out: &mut [u8]) -> Text
-    ensures { Printed (Report.report_fault left right (length relation.now) (length out.old)) (Report.report (relation_in relation.now (left + right)) left right) out.old result out.new }
+// Writes the report of a relation over the states of both models, and gives its length: 2 for over 32 states, 7 where the relation or the store is short.
+pub fn report_text(left: u32, right: u32, relation: &[u8], out: &mut [u8]) -> Result<usize, Refusal>
+    ensures { Printed (Report.report_fault left right (length relation.now) (length out.old)) (Report.report (relation_in relation.now (left + right)) left right) out.old (numbered result) out.new }
 {
     if left > 32 {
-        return Text::Refused(2);
+        return Err(Refusal::CardSize);
     }
     if right > 32 {
-        return Text::Refused(2);
+        return Err(Refusal::CardSize);
     }
     let states = (left + right) as usize;
     if relation.len() < (states * states + 7) / 8 {
-        return Text::Refused(7);
+        return Err(Refusal::Store);
     }
     if out.len() < MOST_REPORT {
-        return Text::Refused(7);
+        return Err(Refusal::Store);
     }
-    let end = put_pairs(relation, left, right, out, 19);
+    let of = Pairs {
+        relation,
+        left,
+        right,
+    };
+    let end = put_pairs(&of, out, 19);
     put_line(out, 0, &[left, right, ((end - 19) / 13) as u32]);
-    Text::Written(end)
+    Ok(end)
 }
 
-// Writes a refusal's line; 7 where the store is short for a report.
-pub fn refusal_text(number: u32, out: &mut [u8]) -> Text
-    ensures { Printed (Report.store_fault (length out.old)) (refusal_line number) out.old result out.new }
+// Writes a refusal's line, and gives its length; 7 where the store is short for a report.
+pub fn refusal_text(number: u32, out: &mut [u8]) -> Result<usize, Refusal>
+    ensures { Printed (Report.store_fault (length out.old)) (refusal_line number) out.old (numbered result) out.new }
 {
     if out.len() < MOST_REPORT {
-        return Text::Refused(7);
+        return Err(Refusal::Store);
     }
     put_line(out, 0, &[number]);
-    Text::Written(7)
+    Ok(7)
 }

@@ -1,6 +1,5 @@
 // A stored card: its bytes, the length of the store and the byte that it holds everywhere; the answer, and the text in the store.
 use card::report;
-use card_report::Text;
 use replay_text::lists;
 use replay_text::text::Reader;
 
@@ -10,20 +9,6 @@ pub const REPORT: usize = 0;
 // All bytes from `from` on are that byte.
 fn filled_from(out: &[u8], from: usize, byte: u8) -> bool {
     out.iter().skip(from).all(|b| *b == byte)
-}
-
-// The answer, and how many bytes of the store are text.
-fn expect(r: &mut Reader, answer: Text) -> usize {
-    match answer {
-        Text::Written(n) => {
-            r.expect_numbered(0, n);
-            n
-        }
-        Text::Refused(k) => {
-            r.expect_numbered(k, 0usize);
-            0
-        }
-    }
 }
 
 // The text is as stored, and the bytes after it are as they were.
@@ -38,7 +23,8 @@ pub fn run(r: &mut Reader, counts: &mut [u64; 48], card: &mut [u8], out: &mut [u
     let byte = (r.short_field() % 256) as u8;
     let out = lists::front_mut(out, room);
     out.fill(byte);
-    let written = expect(r, report(card, out));
-    expect_store(r, out, written, byte);
+    let answer = report(card, out);
+    r.expect_answer(answer);
+    expect_store(r, out, answer.unwrap_or(0), byte);
     r.count(counts, REPORT);
 }

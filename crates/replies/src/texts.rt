@@ -1,17 +1,18 @@
 // The answer of a writer of text as numbers: 0, with the length put behind the reference; or a refusal's number, the reference left as it was.
 ghost use Rattle.std.specs.Prelude.{◌≡◌, [], ◌∷◌};
+ghost use Rattle.numbers.specs.Refuse.{numbered};
 ghost use Rattle.replies.specs.Texts.{of_text};
 
-use card_report::Text;
+use numbers::refusal::Refusal;
 
-pub fn put_text(answer: Text, written: &mut usize) -> u32
-    ensures { result ∷ written.new ∷ [] ≡ of_text answer written.old }
+pub fn put_text(answer: Result<usize, Refusal>, written: &mut usize) -> u32
+    ensures { result ∷ written.new ∷ [] ≡ of_text (numbered answer) written.old }
 {
     match answer {
-        Text::Written(n) => {
+        Ok(n) => {
             *written = n;
             0
         }
-        Text::Refused(k) => k,
+        Err(refusal) => refusal.number(),
     }
 }

@@ -2,17 +2,18 @@
 #![tactic(auto)]
 
 ghost use Rattle.std.specs.Prelude.{◌≡◌, List, ℕ, ◌≤◌, length, take, IfOk};
+ghost use Rattle.numbers.specs.Refuse.{numbered};
 ghost use Rattle.card_report.specs.Report.{Printed};
 ghost use Rattle.card.specs.Printing.{printed};
 
 use card::report;
-use card_report::Text;
+use numbers::refusal::Refusal;
 use std::io;
 use std::io::{Read, Write};
 
-fn print_text(rt: &impl Print, text: Text, out: &[u8]) -> io::Result<()> {
+fn print_text(rt: &impl Print, text: Result<usize, Refusal>, out: &[u8]) -> io::Result<()> {
     match text {
-        Text::Written(n) if n <= out.len() => io::writer(rt).write_all(&out[..n]),
+        Ok(n) if n <= out.len() => io::writer(rt).write_all(&out[..n]),
         _ => Ok(()),
     }
 }
@@ -32,18 +33,18 @@ fn read_full(reader: &mut impl Read, bytes: &mut [u8]) -> io::Result<usize>
     Ok(n)
 }
 
-// The report of what was read, n bytes: it is that of every input whose first 10,500 bytes are these.
-fn report_input(bytes: &[u8], n: usize, out: &mut [u8]) -> Text
-    requires { (length bytes.now ≡ 10500) × (n ≤ 10500) × (length out.old ≡ 13331) }
-    ensures { (input : List ℕ) → take 10500 input ≡ take n bytes.now → Printed 0 (printed input) out.old result out.new }
+// The report of what was read: it is that of every input whose first 10,500 bytes are these.
+fn report_input(bytes: &[u8], out: &mut [u8]) -> Result<usize, Refusal>
+    requires { length out.old ≡ 13331 }
+    ensures { (input : List ℕ) → take 10500 input ≡ bytes.now → Printed 0 (printed input) out.old (numbered result) out.new }
 {
-    report(&bytes[..n], out)
+    report(bytes, out)
 }
 
 fn main(rt: HostRuntime) -> io::Result<()> {
     let mut bytes = [0u8; 10500];
     let mut out = [0u8; 13331];
     let n = read_full(&mut rt.reader(), &mut bytes)?;
-    let text = report_input(&bytes, n, &mut out);
+    let text = report_input(&bytes[..n], &mut out);
     print_text(&rt, text, &out)
 }

@@ -3,4 +3,4 @@ use Rattle.report.proofs.Inputs.{of_input}
 use Rattle.report.proofs.report_input.Goals as goal
 
 pub returns : goal.returns
-returns c = λ input e. of_input input _ _ _ _ e c.requires.2 c.report.ensures
+returns c = λ input e. of_input input _ _ _ _ e c.requires c.report.ensures

@@ -1,21 +1,26 @@
 -- `print::print_both` meets its contract: the arm says which models there are, and the classes are cut out of their list.
-use mathlib.Core.Path.{subst}
-use Rattle.bisim_core.specs.Data.{columns}
+use mathlib.Core.Path.{ap, subst, ◌∙◌}
+use Rattle.card_report.specs.Report.{refusal_line}
+use Rattle.std.specs.Prelude.{Result}
+use Rattle.numbers.specs.declared.refusal.Refusal.{Refusal}
+use Rattle.numbers.specs.Refuse.{numbered}
+use Rattle.bisim_core.specs.declared.wlts.Shape.{Shape}
+use Rattle.build_theory.specs.Lent.{columns_in}
 use Rattle.card_models.proofs.Handing.{FewBoth}
 use Rattle.card_relation.proofs.Relates.{retold, with_room, relation_free}
 use Rattle.card_models.proofs.Builds.{lists_refused, lists_related}
 use Rattle.card.proofs.print.print_both.Goals as goal
 
-pub returns-in-Refused : goal.returns-in-Refused
-returns-in-Refused c =
+pub returns-in-Err : goal.returns-in-Err
+returns-in-Err c =
     let p = c.requires in
     let a = c.args in
-    retold (lists_refused (columns a.left_values.now a.left_offsets.now a.left_labels.now a.left_targets.now a.left_weights.now) (columns a.right_values.now a.right_offsets.now a.right_labels.now a.right_targets.now a.right_weights.now) a.heads a.classes.now a.models _ c.in-Refused.is)
+    retold (ap refusal_line c.number.ensures ∙ lists_refused (columns_in a.left.now) (columns_in a.right.now) a.heads a.classes.now (numbered a.models) _ (ap numbered c.in-Err.is))
     (with_room _ a.out.now _ _ p.2 c.refusal_text.ensures)
 
-pub returns-in-Models : goal.returns-in-Models
-returns-in-Models c =
+pub returns-in-Ok : goal.returns-in-Ok
+returns-in-Ok c =
     let p = c.requires in
     let a = c.args in
-    let f = subst FewBoth c.in-Models.is p.0 in
-    retold (lists_related (columns a.left_values.now a.left_offsets.now a.left_labels.now a.left_targets.now a.left_weights.now) (columns a.right_values.now a.right_offsets.now a.right_labels.now a.right_targets.now a.right_weights.now) a.heads a.classes.now a.models _ _ c.in-Models.is) (relation_free c.in-Models.a c.in-Models.b _ a.out.now _ _ f.0 f.1 p.2 c.relation_text.ensures)
+    let f = subst (λ (x : Result (Shape × Shape) Refusal). FewBoth (numbered x)) c.in-Ok.is p.0 in
+    retold (lists_related (columns_in a.left.now) (columns_in a.right.now) a.heads a.classes.now (numbered a.models) _ _ (ap numbered c.in-Ok.is)) (relation_free c.in-Ok.a c.in-Ok.b _ a.out.now _ _ f.0 f.1 p.2 c.relation_text.ensures)

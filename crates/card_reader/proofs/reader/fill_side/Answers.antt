@@ -26,9 +26,9 @@ fill_transitions-requires c =
       },
     )
 
-pub returns : goal.returns
-returns c =
+pub returns-clause-stored : goal.returns-clause-stored
+returns-clause-stored c =
     let b = c.args in
     side_stored b.s.now b.at _ _ c.number-states.ensures.0 c.number-transitions.ensures.0
-    b.from b.first b.classes.now b.sources.now b.labels.now b.targets.now b.weights.now
-    c.fill_classes.ensures c.fill_transitions.ensures
+    b.from b.first b.lists.now.classes.now b.lists.now.sources.now b.lists.now.labels.now b.lists.now.targets.now b.lists.now.weights.now
+    (c.fill_transitions.ensures.kept ∙ c.fill_classes.ensures) c.fill_transitions.ensures.stored

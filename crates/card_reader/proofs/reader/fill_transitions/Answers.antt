@@ -4,8 +4,11 @@ use mathlib.Core.Path.{ap, ◌∙◌}
 use lib.IntN.{pos}
 use lib.Ieee.{binary64, of_int}
 use Rattle.card_layout.specs.Lists.{source_of, label_of, target_of, weight_of}
-use Rattle.card_reader.proofs.Fills.{col_next, col_last, at_label, at_target, at_weight}
+use Rattle.card_reader.proofs.Fills.{col_next, col_last, col_length, at_label, at_target, at_weight}
 use Rattle.card_reader.proofs.reader.fill_transitions.Goals as goal
+
+pub bounds-lists-from-in-loop-i-3 : goal.bounds-lists-from-in-loop-i-3
+bounds-lists-from-in-loop-i-3 c = let l = col_length weight_of _ _ _ _ _ _ c.loop-i.i c.loop-i.invariant.3 in let r = c.requires.1.in_weights in let t = c.loop-i-test.true in omega arith
 
 pub loop-i-preserved : goal.loop-i-preserved
 loop-i-preserved c =
@@ -15,10 +18,12 @@ loop-i-preserved c =
       col_next label_of s _ _ _ _ _ c.loop-i.i _ (c.number-in-loop-i.ensures.0 ∙ at_label s _) (omega arith) v.1,
       col_next target_of s _ _ _ _ _ c.loop-i.i _ (c.number-in-loop-i-2.ensures.0 ∙ at_target s _) (omega arith) v.2,
       col_next weight_of s _ _ _ _ _ c.loop-i.i _ (ap (λ (x : ℕ). of_int binary64 (pos x)) (c.number-in-loop-i-3.ensures.0 ∙ at_weight s _)) (omega arith) v.3,
+      v.4,
+      v.5,
     )
 
-pub returns : goal.returns
-returns c =
+pub returns-clause-stored : goal.returns-clause-stored
+returns-clause-stored c =
     let v = c.loop-i.invariant in
     record {
       sources_are = col_last source_of _ _ _ _ _ _ c.loop-i.i (omega arith) v.0;

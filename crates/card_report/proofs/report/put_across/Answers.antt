@@ -13,12 +13,12 @@ loop-t-preserved c =
     elim c.if-related.branch [
       | then-related w ↦ (
         omega (arith, w.p-is),
-        turn_hit (relation_in b.relation.now (b.l + b.r)) b.l b.r b.s c.loop-t.t (omega arith) _ b.out.now c.loop-t.out b.at c.loop-t.p v _ _
+        turn_hit (relation_in b.of.now.relation.now (b.of.now.left + b.of.now.right)) b.of.now.left b.of.now.right b.s c.loop-t.t (omega arith) _ b.out.now c.loop-t.out b.at c.loop-t.p v _ _
             (sym c.related.ensures ∙ w.if-related.true) (w.out-is ∙ w.put_line.ensures) w.p-is,
       )
       | else-related w ↦ (
         omega (arith, w.p-is),
-        turn_miss (relation_in b.relation.now (b.l + b.r)) b.l b.r b.s c.loop-t.t (omega arith) _ b.out.now c.loop-t.out b.at c.loop-t.p v _ _
+        turn_miss (relation_in b.of.now.relation.now (b.of.now.left + b.of.now.right)) b.of.now.left b.of.now.right b.s c.loop-t.t (omega arith) _ b.out.now c.loop-t.out b.at c.loop-t.p v _ _
             (sym c.related.ensures ∙ w.if-related.false) w.out-is w.p-is,
       )
     ]
@@ -27,6 +27,6 @@ pub returns : goal.returns
 returns c =
     let b = c.args in
     let v = c.loop-t.invariant in
-    let e = across_none (relation_in b.relation.now (b.l + b.r)) b.l b.r b.s c.loop-t.t (omega arith) in
+    let e = across_none (relation_in b.of.now.relation.now (b.of.now.left + b.of.now.right)) b.of.now.left b.of.now.right b.s c.loop-t.t (omega arith) in
     let k = putting_ends e v.1 in
     record { place = k.0; far = omega arith; leaves = k.1 }

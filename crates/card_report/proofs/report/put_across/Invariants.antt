@@ -6,4 +6,4 @@ use Rattle.card_report.proofs.report.put_across.Given as goal
 
 abbrev pub invariant-loop-t : goal.invariant-loop-t
 invariant-loop-t l =
-    (l.p ≤ l.at + 13 * l.t) × Putting (across (relation_in l.relation (l.l + l.r)) l.l l.r l.s (l.r - l.t) l.t) (across (relation_in l.relation (l.l + l.r)) l.l l.r l.s l.r 0) l.initial.out l.at l.out l.p
+    (l.p ≤ l.at + 13 * l.t) × Putting (across (relation_in l.of.relation.now (l.of.left + l.of.right)) l.of.left l.of.right l.s (l.of.right - l.t) l.t) (across (relation_in l.of.relation.now (l.of.left + l.of.right)) l.of.left l.of.right l.s l.of.right 0) l.initial.out l.at l.out l.p

@@ -6,4 +6,4 @@ use Rattle.card_report.proofs.report.put_pairs.Given as goal
 
 abbrev pub invariant-loop-s : goal.invariant-loop-s
 invariant-loop-s l =
-    (l.p ≤ l.at + 416 * l.s) × Putting (down (relation_in l.relation (l.l + l.r)) l.l l.r (l.l - l.s) l.s) (pairs (relation_in l.relation (l.l + l.r)) l.l l.r) l.initial.out l.at l.out l.p
+    (l.p ≤ l.at + 416 * l.s) × Putting (down (relation_in l.of.relation.now (l.of.left + l.of.right)) l.of.left l.of.right (l.of.left - l.s) l.s) (pairs (relation_in l.of.relation.now (l.of.left + l.of.right)) l.of.left l.of.right) l.initial.out l.at l.out l.p
