@@ -4,14 +4,13 @@ use Prim.Native.Nat.{ℕ, ◌<◌}
 use mathlib.Core.Bool.{true, false}
 use mathlib.Core.Logic.{inl, inr}
 use mathlib.Core.List.{List, [], ◌∷◌, reverse, reverse-reverse}
-use lib.ListN.{length, get_or, take}
+use lib.ListN.{length, take}
 use Rattle.std.specs.Prelude.{Some}
 use lib.Ieee.{Float, of_bits, binary64, inf}
 use Rattle.flow_theory.specs.Network.{Net, tail, residual}
-use Rattle.flow_theory.specs.Augment.{Placed, reached, blocked, Pushed, push, least, push_path, augment, walk_fuel}
+use Rattle.flow_theory.specs.Augment.{reached, blocked, Pushed, push, least, push_path, augment, walk_fuel}
 use Rattle.numbers.specs.Lists.{In}
-use Rattle.numbers.proofs.Members.{in_at, in_reverse}
-use Rattle.flow_theory.proofs.Links.{residual_in, rev_in}
+use Rattle.flow_theory.proofs.Links.{residual_in}
 use Rattle.flow_theory.proofs.Paths.{Path, Ended, walk_ok}
 use Rattle.flow_theory.proofs.PathRows.{Walkable, Routed}
 use Rattle.flow_theory.proofs.Walking.{ending, walk_starts}
@@ -36,17 +35,6 @@ module _ {N : Net} {starts list : List ℕ} {c : List Float} {L nx : List ℕ} (
 
     path : Path N c L nx' (reverse (take n p)) N.sink
     path = (subst (Ended N c L) (sym same) ended).2
-
-    known : (i : ℕ) → i < length (take n p) → get_or (take n p) i 0 < length c
-    known i h =
-        let e = get_or (take n p) i 0 in
-        on_path N c L nx' (reverse (take n p)) N.sink e path (in_reverse e (reverse (take n p)) (subst (In e) (sym (reverse-reverse (take n p))) (in_at (take n p) i 0 h)))
-
-    pub placed : Placed c (take n p)
-    placed = record {
-      link_in = known;
-      rev_in = λ i h. let q = W.caps.size ∙ W.good.pairs in rw q (rev_in (get_or (take n p) i 0) W.good.added (rw (← q) (known i h)));
-    }
 
     pub reached_push : (x : Float) (d : List Float) → x ≡ least c (inf false) (take n p) → d ≡ push_path x (take n p) c
         → ◌≡◌ {A = Pushed} (record { amount = x; cap = d; next = nx' }) (augment N c L nx)

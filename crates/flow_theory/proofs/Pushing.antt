@@ -8,10 +8,11 @@ use native.Mathlib.Numerals.{add-one}
 use lib.Bits.{bit_xor}
 use lib.ListN.{length, get_or, set, drop, length-set, drop_of_length-le}
 use lib.Seq.{drop-cons}
+use Rattle.std.proofs.lemmas.List.{get_or_past}
 use lib.Ieee.{Float, binary64, nan, lt, add, sub}
 use Rattle.numbers.specs.Choice.{choose, smaller}
 use Rattle.flow_theory.specs.Network.{left}
-use Rattle.flow_theory.specs.Augment.{Placed, least, push_link, push_path}
+use Rattle.flow_theory.specs.Augment.{least, push_link, push_path}
 use Rattle.flow_theory.proofs.Links.{rev_xor}
 
 -- what is still to come of the path leads from x to the least
@@ -37,13 +38,18 @@ module _ {x₀ : Float} {c : List Float} {p : List ℕ} where
       let e = I.ends in
       ap (least c x) (sym (drop_of_length-le p (omega arith))) ∙ I.same
 
+-- a link without a capacity is never less
+pub lt_past : (c : List Float) (e : ℕ) (x : Float) → length c ≤ e → lt (get_or c e nan) x ≡ false
+unfolding lt
+lt_past c e x h = ap (λ (y : Float). lt y x) (get_or_past c e nan h)
+
 -- what is still to come of the path leads from these capacities to the last ones
 pub record PushesOn (x : Float) (c₀ : List Float) (p : List ℕ) (i : ℕ) (c : List Float) : Type 0 where
   pub ends : i ≤ length p
   pub size : length c ≡ length c₀
   pub same : push_path x (drop i p) c ≡ push_path x p c₀
 
-module _ {c₀ : List Float} {p : List ℕ} (P : Placed c₀ p) {x : Float} where
+module _ {c₀ : List Float} {p : List ℕ} {x : Float} where
   module _ {i : ℕ} {c : List Float} (I : PushesOn x c₀ p i c) (more : i < length p) where
     abbrev e : ℕ
     e = get_or p i 0
@@ -51,18 +57,13 @@ module _ {c₀ : List Float} {p : List ℕ} (P : Placed c₀ p) {x : Float} wher
     abbrev once : List Float
     once = set c e (sub binary64 (get_or c e nan) x)
 
-    pub e_in : e < length c
-    e_in = rw I.size (P.link_in i more)
-
-    pub back_in : bit_xor e 1 < length c
-    back_in = rw (I.size, rev_xor e) (P.rev_in i more)
-
-    pub pushed_on : PushesOn x c₀ p (i + 1) (set once (bit_xor e 1) (add binary64 (get_or once (bit_xor e 1) nan) x))
+    -- what the link and its reverse have then
+    pub pushed_on : (d b : List Float) → d ≡ once → b ≡ set d (bit_xor e 1) (add binary64 (get_or d (bit_xor e 1) nan) x) → PushesOn x c₀ p (i + 1) b
     unfolding push_path push_link left
-    pushed_on = record {
+    pushed_on d b q r = record {
       ends = omega arith;
-      size = (simp length-set) ∙ I.size;
-      same = rw (add-one i, rev_xor e) (ap (λ (es : List ℕ). push_path x es c) (sym (drop-cons p i 0 more)) ∙ I.same);
+      size = rw (r, q) ((simp length-set) ∙ I.size);
+      same = rw (r, q, add-one i, rev_xor e) (ap (λ (es : List ℕ). push_path x es c) (sym (drop-cons p i 0 more)) ∙ I.same);
     }
 
   pub push_ends : {i : ℕ} {c : List Float} → PushesOn x c₀ p i c → length p ≤ i → c ≡ push_path x p c₀

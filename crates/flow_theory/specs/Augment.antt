@@ -1,5 +1,5 @@
 -- `augment`: one path of links that lead to the next level, found with a next-link mark per node, and the push along it.
-use Rattle.std.specs.Prelude.{ℕ, zero, suc, ◌+◌, ◌*◌, ◌<◌, Bool, true, false, ◌&&◌, List, [], ◌∷◌, reverse, length, get_or, set, eqb, ltb, Float}
+use Rattle.std.specs.Prelude.{ℕ, zero, suc, ◌+◌, ◌*◌, Bool, true, false, ◌&&◌, List, [], ◌∷◌, reverse, length, get_or, set, eqb, ltb, Float}
 use Rattle.std.specs.Float.{inf, binary64}
 use Rattle.std.specs.Float.Ieee.{add, sub}
 use Rattle.numbers.specs.Real.{nought}
@@ -82,11 +82,6 @@ unfolding sizes
 walk_fuel N = suc (2 * sizes N.lists + nodes N)
 
 -- ---- the push
-
--- the links of a path, and their reverses, have capacities
-pub record Placed (c : List Float) (p : List ℕ) : Type 0 where
-  pub link_in : (i : ℕ) → i < length p → get_or p i 0 < length c
-  pub rev_in : (i : ℕ) → i < length p → rev (get_or p i 0) < length c
 
 -- the least of x and the capacities on the path
 unfoldable pub least : List Float → Float → List ℕ → Float

@@ -174,21 +174,3 @@ module _ (N : Net) (via : List ℕ) where
   unfolding ends
   ends_home zero v e = refl
   ends_home (suc k) v e = ap (λ (b : Bool). elim b as (λ z. ℕ) [ true ↦ v | false ↦ ends N via k (prior v) ]) (eq-eqb v N.source e)
-
--- every link of the path is one of the network's
-pub route_in : (R : Roads) (G : WellFormed R.net) → links R.net ≤ unset → (c : List Float) (t : Tree) → Grown R.net t → (k v : ℕ) → v < nodes R.net
-    → Reached R.net t v → (e : ℕ) → In e (route R.net t.via k v) → e < links R.net
-unfolding route
-route_in R G f c t g zero v h r e i = absurd i
-route_in R G f c t g (suc k) v h r e i = pick (λ w a b. route_in R G f c t g k w a b e) (eq_or_ne v R.net.source)
-  where
-    next : get_or t.via v 0 < links R.net → (In e (route R.net t.via k (prior R.net t.via v)) → e < links R.net)
-        → (e ≡ get_or t.via v 0) ⊎ In e (route R.net t.via k (prior R.net t.via v)) → e < links R.net
-    next l m (inl p) = omega arith
-    next l m (inr j) = m j
-
-    pick : ((w : ℕ) → w < nodes R.net → Reached R.net t w → In e (route R.net t.via k w) → e < links R.net) → (v ≡ R.net.source) ⊎ (v ≢ R.net.source) → e < links R.net
-    pick m (inl p) = absurd (subst (In e) (route_home R.net t.via (suc k) v p) i)
-    pick m (inr n) =
-        let s = walk_step R G f c t v g h r n in
-        next s.0 (m (prior R.net t.via v) s.1 s.2) (subst (In e) (route_step R.net t.via k v n) i)

@@ -8,14 +8,12 @@ use Rattle.flow_check.specs.declared.Ends.{Ends}
 use mathlib.Core.List.{List}
 use lib.ListN.{length, replicate}
 use lib.Ieee.{Float, inf}
-use Rattle.flow_theory.specs.Network.{Net, nodes, links, rev}
+use Rattle.flow_theory.specs.Network.{Net, nodes, links}
 use Rattle.flow_theory.specs.Levels.{unset}
 use Rattle.flow_theory.specs.Rows.{network}
 use Rattle.flow_theory.proofs.Links.{WellFormed}
 use Rattle.flow_theory.proofs.LevelRows.{InRows}
 use Rattle.transport_theory.specs.Links.{Roads}
-use Rattle.numbers.specs.Lists.{In}
-use Rattle.transport_theory.specs.Shortest.{route}
 use Rattle.transport_theory.specs.Transport.{Shipment, more, done, move, turn}
 use Rattle.transport_theory.proofs.WalkRows.{Walkable}
 
@@ -45,12 +43,10 @@ pub record RoundReady (R : Roads) (starts list : List ℕ) (c d : List Float) (w
   pub dist_is : d ≡ replicate (nodes R.net) (inf false)
   pub via_is : w ≡ replicate (nodes R.net) unset
 
--- the sink is reached, and the links of the path to it, and their reverses, have capacities
+-- the sink is reached
 pub record Movable (N : Net) (w : List ℕ) (c : List Float) : Type 0 where
   pub walkable : (p : List ℕ) → suc (nodes N) ≤ length p → Walkable N w p
   pub few : nodes N ≤ 66
-  pub caps_size : length c ≡ links N
-  pub route_in : (e : ℕ) → In e (route N w (suc (nodes N)) N.sink) → (e < links N) × (rev e < links N)
 
 -- a push along the path from capacities c with x remaining leaves capacities d, and what remains then; or there is none
 abbrev pub Moved : Net → List ℕ → List Float → Float → Option Float → List Float → Type 0

@@ -16,15 +16,13 @@ use Rattle.flow_theory.specs.Augment.{least, push_path}
 use Rattle.flow_theory.specs.Rows.{network}
 use Rattle.flow_theory.proofs.Links.{rev_in}
 use Rattle.flow_theory.proofs.Outs.{network_nodes}
-use Rattle.flow_theory.specs.Augment.{Placed}
 use Rattle.transport_theory.specs.Links.{Roads}
 use Rattle.transport_theory.specs.Shortest.{infinite, Tree, far, sprout, shortest, search, ends}
 use Rattle.transport_theory.specs.Transport.{Shipment, Turn, more, done, give_up, ship, move, turn, rounds}
-use Rattle.transport_theory.proofs.Paths.{Grown, Reached, shortest_grown, walk_step, route_in}
+use Rattle.transport_theory.proofs.Paths.{Grown, Reached, shortest_grown, walk_step}
 use Rattle.transport_theory.proofs.SearchRows.{tree, InRoads, Passable, Found, Searched}
 use Rattle.std.specs.Prelude.{Option, Some, None}
 use Rattle.transport_theory.proofs.WalkRows.{Walkable, Walked}
-use Rattle.transport_theory.proofs.Walks.{path_placed}
 use Rattle.transport_theory.proofs.RoundRows.{row_roads, shipment, Sailable, RoundReady, Movable, Moved, Turned, Shipped}
 
 unset_large : 2176 ≤ unset
@@ -40,9 +38,6 @@ module _ {N : Net} {w : List ℕ} {c : List Float} (M : Movable N w c) where
   move_cycle z x k = rw z
 
   module _ {q : List ℕ} {n : ℕ} (W : Walked N w q (Some n)) where
-    pub move_placed : Placed c (take n q)
-    move_placed = path_placed N w q n c W M.caps_size M.route_in
-
     move_ships : (x : Float) (k : ℕ) → move N false w (shipment c x k) ≡ ship (not (le (least c x (take n q)) eps)) (least c x (take n q)) (take n q) (shipment c x k)
     unfolding move
     move_ships x k = rw (W.path_is, W.home_is)
@@ -143,8 +138,6 @@ module _ {R : Roads} {starts list : List ℕ} {c d : List Float} {w : List ℕ} 
       round_movable = subst⁻¹ (λ (l : List ℕ). Movable N l c) found.via_is (record {
         walkable = walkable;
         few = P.base.laid.places;
-        caps_size = P.base.caps_size;
-        route_in = λ e i. let l = route_in R P.base.good small c (shortest R c) grown (suc (nodes N)) N.sink P.base.sink_in reached e i in (l, rev_links e l);
       })
 
       pub round_moved : (x : Float) (r : Option Float) (e : List Float) → Moved N w' c x r e → Turned R c x r e

@@ -1,5 +1,5 @@
 -- The loops along the path of a round: the walk back, and the least of what remains and the capacities.
-use mathlib.Core.Path.{◌≡◌, refl, sym, ap, subst, ◌∙◌}
+use mathlib.Core.Path.{◌≡◌, refl, sym, ap, ◌∙◌}
 use mathlib.Core.Logic.{◌≢◌}
 use Prim.Native.Nat.{ℕ, suc, ◌+◌, ◌-◌, ◌≤◌, ◌<◌}
 use mathlib.Core.List.{List, [], ◌∷◌, ◌++◌, append-nil}
@@ -8,19 +8,15 @@ use native.Mathlib.Numerals.{add-one}
 use lib.Bits.{bit_xor}
 use lib.ListN.{length, get_or, set, take, length-set}
 use lib.Seq.{take-suc-set}
-use lib.Ieee.{Float}
 use borrow.Author.Tests.{eq-eqb, ne_eqb}
-use Rattle.numbers.specs.Lists.{In}
-use Rattle.numbers.proofs.Members.{in_at}
-use Rattle.flow_theory.specs.Network.{Net, nodes, links, rev, head, tail}
+use Rattle.flow_theory.specs.Network.{Net, nodes, head, tail}
 use Rattle.flow_theory.specs.Rows.{network}
 use Rattle.flow_theory.proofs.Links.{rev_xor}
 use Rattle.flow_theory.proofs.Outs.{network_nodes}
-use Rattle.flow_theory.specs.Augment.{Placed}
 use Rattle.std.specs.Prelude.{Some, None}
 use Rattle.transport_theory.specs.Shortest.{route, ends}
 use Rattle.transport_theory.proofs.Paths.{route_step, route_home, ends_step, ends_home}
-use Rattle.transport_theory.proofs.WalkRows.{ReachedBy, Back, Walkable, Home, Walked}
+use Rattle.transport_theory.proofs.WalkRows.{ReachedBy, Back, Walkable, Walked}
 
 -- ---- the walk back
 
@@ -104,11 +100,3 @@ module _ (H : List ℕ) (k s t : ℕ) {w p₀ : List ℕ} (W : Walkable (network
       path_is = sym (append-nil (take n p)) ∙ ap (λ (l : List ℕ). take n p ++ l) (sym (route_home N w (suc (nodes N) - n) v x)) ∙ I.route_is;
       home_is = eq-eqb (ends N w (suc (nodes N)) t) s (sym I.ends_is ∙ ends_home N w (suc (nodes N) - n) v x ∙ x);
     }
-
--- the links of the path, and their reverses, are there
-pub path_placed : (N : Net) (w p : List ℕ) (n : ℕ) (c : List Float) → Home N w p n → length c ≡ links N
-    → ((e : ℕ) → In e (route N w (suc (nodes N)) N.sink) → (e < links N) × (rev e < links N)) → Placed c (take n p)
-path_placed N w p n c W size inn = record { link_in = λ i h. rw size (each i h).0; rev_in = λ i h. rw size (each i h).1 }
-  where
-    each : (i : ℕ) → i < length (take n p) → (get_or (take n p) i 0 < links N) × (rev (get_or (take n p) i 0) < links N)
-    each i h = inn (get_or (take n p) i 0) (subst (In (get_or (take n p) i 0)) W.path_is (in_at (take n p) i 0 h))

@@ -1,19 +1,13 @@
--- `augment::augment` meets its contract: where there is a path, its links have capacities (Augmenting.placed), and the push is the definition's.
+-- `augment::augment` meets its contract: where there is a path, the push is the definition's.
 use mathlib.Core.Path.{ap, ◌∙◌}
 use lib.ListN.{take}
 use lib.Ieee.{Float}
 use Rattle.flow_theory.specs.Augment.{least}
-use Rattle.flow_theory.proofs.Augmenting.{placed, blocked_push, reached_push}
+use Rattle.flow_theory.proofs.Augmenting.{blocked_push, reached_push}
 use Rattle.flow_core.proofs.augment.augment.Goals as goal
 
 pub returns-in_default : goal.returns-in_default
 returns-in_default c = blocked_push c.requires c.in_default.ensures
-
-pub least-x-requires : goal.least-x-requires
-least-x-requires c = placed c.requires c.walk.new.path c.in-Some.ensures
-
-pub push_path-requires : goal.push_path-requires
-push_path-requires c = placed c.requires c.walk.new.path c.in-Some.ensures
 
 pub returns : goal.returns
 returns c = reached_push c.requires c.walk.new.path c.in-Some.ensures _ _ (c.least-x.ensures ∙ ap (λ (x : Float). least c.args.caps.now x (take c.in-Some.n c.walk.new.path)) c.infinity.ensures) c.push_path.ensures

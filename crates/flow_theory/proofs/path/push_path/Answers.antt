@@ -1,15 +1,21 @@
-use lib.ListN.{length-set}
-use Rattle.flow_theory.proofs.Pushing.{back_in, pushed_on, push_ends}
+use mathlib.Core.Path.{sym, ◌∙◌}
+use native.Mathlib.Omega.{arith}
+use Rattle.std.proofs.lemmas.List.{set_past}
+use Rattle.flow_theory.proofs.Pushing.{pushed_on, push_ends}
 use Rattle.flow_theory.proofs.path.push_path.Goals as goal
-
-pub bounds-caps-e-in-loop-e-2 : goal.bounds-caps-e-in-loop-e-2
-bounds-caps-e-in-loop-e-2 c = rw length-set (back_in c.requires c.loop-e.invariant c.loop-e-test.true)
-
-pub bounds-caps-e-in-loop-e-3 : goal.bounds-caps-e-in-loop-e-3
-bounds-caps-e-in-loop-e-3 c = rw length-set (back_in c.requires c.loop-e.invariant c.loop-e-test.true)
+use Rattle.flow_theory.proofs.path.push_path.Goals.{then-e-caps, else-e-caps, then-back-caps, else-back-caps}
 
 pub loop-e-preserved : goal.loop-e-preserved
-loop-e-preserved c = pushed_on c.requires c.loop-e.invariant c.loop-e-test.true
+loop-e-preserved c =
+    let on = pushed_on c.loop-e.invariant c.loop-e-test.true c.if-e-caps.caps c.if-back-caps.caps
+    (elim c.if-e-caps.branch [
+      | then-e-caps w ↦ w.caps-is
+      | else-e-caps w ↦ let past = w.if-e-caps.false in w.caps-is ∙ sym (set_past _ _ _ (omega arith))
+    ]) in
+    on (elim c.if-back-caps.branch [
+      | then-back-caps w ↦ w.caps-is
+      | else-back-caps w ↦ let past = w.if-back-caps.false in w.caps-is ∙ sym (set_past _ _ _ (omega arith))
+    ])
 
 pub returns : goal.returns
-returns c = push_ends c.requires c.loop-e.invariant c.loop-e-test.false
+returns c = push_ends c.loop-e.invariant c.loop-e-test.false
