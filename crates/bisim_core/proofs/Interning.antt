@@ -10,12 +10,14 @@ use lib.ListN.{length, get_or, take, drop, set, length-append, take-append-drop}
 use lib.Seq.{length-take-le, take_all, set_split}
 use borrow.Author.Tests.{lt-ltb, le-ltb, le-leb, lt-leb, ltb-true, ltb-false}
 use Rattle.std.specs.Prelude.{Option, Ok, Err, Some, None, cond, is_some, unwrap_or}
+use Rattle.std.specs.Option.{MatchOption, IsSomeAnd}
 use Rattle.numbers.specs.Refuse.{check, answered}
 use Rattle.numbers.specs.Lists.{over}
 use Rattle.numbers.specs.Search.{seek}
 use Rattle.numbers.proofs.Refuses.{first, check_hit, check_skip, hit, skip}
 use Rattle.numbers.proofs.Bools.{or_f}
 use Rattle.numbers.proofs.Seeks.{seek_new}
+use Rattle.bisim_core.specs.declared.ids.LabelId.{LabelId}
 use Rattle.bisim_core.specs.Ids.{listed, place, single, mislisted, intern, intern_refusal, get_refusal, resolve_refusal, intern_ends, Outcome, ends, entered, interning, id_of, get, resolve}
 use Rattle.bisim_core.proofs.Distinct.{intern_old, intern_new}
 
@@ -37,6 +39,15 @@ placed_at x at l e = step (listed x l) e
 
 pub unplaced : (x : ℕ) (l : List ℕ) → None ≡ place x l → listed x l ≡ false
 unplaced x l e = sym (placed x l None e)
+
+-- the id that is made of a value's place, if it has one
+pub id_at : {Q : ℕ → LabelId → Type 0} (x : ℕ) (l : List ℕ) (k : Option ℕ) (r : Option LabelId)
+    → MatchOption k (r ≡ None) (λ i. IsSomeAnd r (Q i)) → ((i : ℕ) (y : LabelId) → Q i y → y ≡ record { 0 = i }) → k ≡ place x l → r ≡ id_of (listed x l) (seek x l)
+id_at x l None r e g p = e ∙ sym (ap (λ (b : Bool). id_of b (seek x l)) (unplaced x l p))
+id_at x l (Some at) (Some y) q g p =
+    let z = placed_at x at l p in
+    ap Some (g at y q) ∙ ap (id_of true) z.1 ∙ sym (ap (λ (b : Bool). id_of b (seek x l)) z.0)
+id_at x l (Some at) None q g p = absurd q
 
 module _ (labels : List ℕ) (count : ℕ) where
   abbrev used : List ℕ

@@ -75,12 +75,7 @@ fn rows_rise(model: &Wlts) -> bool
     requires { (model.now.shape.states < length model.now.offsets.now) × (((s : ℕ) → s < model.now.shape.states → get_or model.now.offsets.now s 0 ≤ get_or model.now.offsets.now (s + 1) 0)) × (get_or model.now.offsets.now model.now.shape.states 0 ≤ length model.now.edge_labels.now) × (get_or model.now.offsets.now model.now.shape.states 0 ≤ length model.now.edge_targets.now) }
     ensures { result ≡ every (λ s. rises (row (columns_of model.now) s)) model.now.shape.states }
 {
-    for s in 0..model.shape.states {
-        if !row_rises(model, s) {
-            return false;
-        }
-    }
-    true
+    (0..model.shape.states).all(|s| row_rises(model, s))
 }
 
 // An edge's numbers are below their counts, and its weight is not zero.
@@ -95,17 +90,14 @@ fn sound_edges(model: &Wlts) -> bool
     ensures { result ≡ every (λ i. Model.sound model.now.shape (edge_at (columns_of model.now) 0 i)) model.now.shape.edges }
 {
     let shape = model.shape;
-    for i in 0..shape.edges {
-        if !sound(
+    (0..shape.edges).all(|i| {
+        sound(
             shape,
             model.edge_labels[i],
             model.edge_targets[i],
             model.edge_weights[i],
-        ) {
-            return false;
-        }
-    }
-    true
+        )
+    })
 }
 
 pub(crate) fn unfit(model: &Wlts) -> bool
@@ -142,12 +134,7 @@ pub(crate) fn all_weigh(model: &Wlts) -> bool
     requires { model.now.shape.edges ≤ length model.now.edge_weights.now }
     ensures { result ≡ every (λ i. Model.joined_weighs (edge_at (columns_of model.now) 0 i)) model.now.shape.edges }
 {
-    for i in 0..model.shape.edges {
-        if !joined_weighs(model.edge_weights[i]) {
-            return false;
-        }
-    }
-    true
+    (0..model.shape.edges).all(|i| joined_weighs(model.edge_weights[i]))
 }
 
 // ---- check 6

@@ -26,12 +26,7 @@ pub struct Interner<'a> {
 pub(crate) fn single(labels: &[u32]) -> bool
     ensures { result ≡ Ids.single labels.now }
 {
-    for (i, label) in labels.iter().enumerate() {
-        if seek(labels, *label) != Some(i) {
-            return false;
-        }
-    }
-    true
+    (0..labels.len()).all(|i| seek(labels, labels[i]) == Some(i))
 }
 
 // Over 256 values, once one that is not known is added.
@@ -74,10 +69,7 @@ impl Interner<'_> {
         ensures { numbered result ≡ Ids.get self.now.labels.now self.now.count value }
     {
         self.check()?;
-        match self.place(value) {
-            Some(at) => Ok(Some(LabelId(at as u32))),
-            None => Ok(None),
-        }
+        Ok(self.place(value).map(|at| LabelId(at as u32)))
     }
 
     // The label value of an id.

@@ -1,12 +1,13 @@
 // A built model: its counts and initial state by value, a lent slice for each column.
-ghost use Rattle.std.specs.Prelude.{◌≡◌};
+ghost use Rattle.std.specs.Prelude.{◌≡◌, ◌+◌, ◌<◌, length};
 ghost use Rattle.numbers.specs.Refuse.{code};
 ghost use Rattle.bisim_core.specs.Data.{columns_of};
-ghost use Rattle.bisim_core.specs.Model.{model_refusal, refusal_with, starts_outside};
+ghost use Rattle.bisim_core.specs.Model.{begins, model_refusal, refusal_with, starts_outside};
 
 use crate::check;
 use crate::ids::StateId;
 use numbers::refusal::Refusal;
+use std::ops::Range;
 
 // The counts of a model, and its initial state.
 #[derive(Clone, Copy, Debug, PartialEq, Eq)]
@@ -18,6 +19,7 @@ pub struct Shape {
 }
 
 // Label values by id, where each state's edges begin, and the edges.
+// Stays: the C interface lends each column with room for more, and the counts beside them may be too large.
 #[derive(Clone, Copy, Debug)]
 pub struct Wlts<'a> {
     pub shape: Shape,
@@ -32,10 +34,7 @@ pub struct Wlts<'a> {
 pub fn starts_outside(initial: Option<StateId>, states: usize) -> bool
     ensures { result ≡ starts_outside initial states }
 {
-    match initial {
-        Some(s) => s.0 as usize >= states,
-        None => false,
-    }
+    initial.is_some_and(|s| s.0 as usize >= states)
 }
 
 impl Wlts<'_> {
@@ -56,6 +55,14 @@ impl Wlts<'_> {
             return Err(Refusal::Targets);
         }
         Ok(())
+    }
+
+    // Which edges are those of state s.
+    pub fn row(&self, s: usize) -> Range<usize>
+        requires { s + 1 < length self.now.offsets.now }
+        ensures { (result.start ≡ begins (columns_of self.now) s) × (result.end ≡ begins (columns_of self.now) (s + 1)) }
+    {
+        self.offsets[s] as usize..self.offsets[s + 1] as usize
     }
 
     pub fn check(&self) -> Result<(), Refusal>

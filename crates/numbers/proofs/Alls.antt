@@ -83,3 +83,9 @@ module _ (t : ℕ → Bool) where
       pick : (b : Bool) → every t n ≡ b → b ≡ false
       pick true p = absurd (true≢false (sym (every_at n p i h) ∙ e))
       pick false p = refl
+
+-- two tests that agree on every number below the count
+pub every_same : (t u : ℕ → Bool) (n : ℕ) → ((i : ℕ) → i < n → t i ≡ u i) → every t n ≡ every u n
+unfolding every
+every_same t u zero f = refl
+every_same t u (suc n) f = ap (λ (b : Bool). b && every t n) (f n (omega arith)) ∙ ap (λ (b : Bool). u n && b) (every_same t u n (λ i h. f i (omega arith)))

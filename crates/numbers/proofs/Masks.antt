@@ -10,6 +10,8 @@ use lib.ListN.{length, get_or, set, get_or-eq_default}
 use lib.Seq.{set_out}
 use lib.Bits.{bit_and, and_mask, and_high}
 use lib.Pow.{pow-lt}
+use Rattle.std.proofs.Common.{Fits, w8}
+use Rattle.std.proofs.lemmas.Nat.{and-not, and_comm}
 use Rattle.numbers.specs.Bits.{bit_at, without, cleared}
 
 pub low_three : (i : ℕ) → bit_and i 7 ≡ i % 8
@@ -42,11 +44,20 @@ one_bit b k =
     let e : 2 ^ (1 + k) - 2 ^ k ≡ 2 ^ k = ap (λ (y : ℕ). 2 ^ y - 2 ^ k) (omega arith) ∙ ap (λ (y : ℕ). y - 2 ^ k) (pow-succ' 2 k) ∙ omega arith in
     ap (λ (m : ℕ). bit_and b m) (sym e) ∙ and_high b 1 k
 
-pub clears_bit : (store : List ℕ) (i : ℕ) → set store (i / 8) (get_or store (i / 8) 0 - bit_and (get_or store (i / 8) 0) (1 * 2 ^ bit_and i 7 % 256)) ≡ cleared store i
+-- a byte and all but a mask is the byte less what the mask leaves of it
+and_rest : (b m : ℕ) → b < 256 → m < 256 → bit_and b (255 - m) ≡ b - bit_and b m
+and_rest b m h k =
+    let e = and-not 8 m b k h in
+    let f = and_comm b (255 - m) in
+    let g = and_comm b m in
+    omega arith
+
+pub clears_bit : (store : List ℕ) (i : ℕ) → Fits w8 (get_or store (i / 8) 0) → set store (i / 8) (bit_and (get_or store (i / 8) 0) (255 - 1 * 2 ^ bit_and i 7 % 256)) ≡ cleared store i
 unfolding cleared
-clears_bit store i =
+clears_bit store i f =
     let b = get_or store (i / 8) 0 in
-    ap (λ (x : ℕ). set store (i / 8) (b - x)) (ap (λ (m : ℕ). bit_and b m) (mask_is i) ∙ one_bit b (i % 8))
+    ap (λ (x : ℕ). set store (i / 8) x) (and_rest b (1 * 2 ^ bit_and i 7 % 256) f.fits (omega arith))
+    ∙ ap (λ (x : ℕ). set store (i / 8) (b - x)) (ap (λ (m : ℕ). bit_and b m) (mask_is i) ∙ one_bit b (i % 8))
 
 pub cleared_past : (store : List ℕ) (i : ℕ) → length store ≤ i / 8 → store ≡ cleared store i
 unfolding cleared

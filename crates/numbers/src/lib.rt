@@ -1,4 +1,4 @@
-// Numbers: `Real` of semiring.rs, the constants of document 01, the ordered search that stands in for hash maps, and the bits of a byte store.
+// Numbers: `Real` of semiring.rs, the constants of document 01, the search through a list that stands in for hash maps, and the bits of a byte store.
 #![tactic(auto)]
 
 pub mod refusal; // refusal.rt: why a call is turned back
@@ -155,13 +155,13 @@ pub fn bit(store: &[u8], i: usize) -> bool
 }
 
 // Clears bit i of a store; past its end nothing is changed.
+#[tactic(auto, using(crate::proofs::Masks::clears_bit, crate::proofs::Masks::cleared_past))]
 pub fn clear_bit(store: &mut [u8], i: usize)
     ensures { store.new ≡ cleared store.old i }
 {
     let k = i >> 3;
     if k < store.len() {
-        let byte = store[k];
         let mask = 1u8 << (i & 7);
-        store[k] = byte - (byte & mask);
+        store[k] &= !mask;
     }
 }

@@ -34,14 +34,6 @@ impl Refusal {
     }
 }
 
-impl From<Refusal> for u32 {
-    fn from(refusal: Refusal) -> u32
-        ensures { result ≡ number refusal }
-    {
-        refusal.number()
-    }
-}
-
 // The refusal's number, 0 where there is none: what the C interface answers.
 pub fn code<T>(answer: &Result<T, Refusal>) -> u32
     ensures { result ≡ code answer.now }

@@ -1,19 +1,13 @@
-use mathlib.Core.Path.{sym, ◌∙◌}
-use native.Mathlib.Omega.{arith}
-use borrow.Author.Count.{below_more}
-use Rattle.numbers.proofs.Alls.{every_of, every_not}
+use Rattle.std.proofs.Common.{rules, refl, arith, ◌∙◌}
+use borrow.Author.Tests.{tests}
+use Rattle.std.proofs.lemmas.Iterator.{YieldsList-from_range, serves_from_Range}
+use Rattle.std.proofs.lemmas.Iterator.Search.{all_from_yields_List}
+use Rattle.numbers.proofs.Loops.{every_of_range}
+use Rattle.bisim_core.specs.Data.{columns_of}
+use Rattle.bisim_core.specs.Model.{sound, edge_at}
 use Rattle.bisim_core.proofs.check.sound_edges.Goals as goal
-
-pub loop-i-init : goal.loop-i-init
-loop-i-init c = λ k h. absurd (omega arith)
-
-pub returns-then-not-sound : goal.returns-then-not-sound
-returns-then-not-sound c = sym (every_not _ _ _ c.loop-i-test.true (sym c.sound.ensures ∙ c.if-not-sound.true))
-
-pub loop-i-preserved : goal.loop-i-preserved
-loop-i-preserved c = below_more _ _ c.loop-i.invariant (sym c.sound.ensures ∙ c.if-not-sound.false)
 
 pub returns : goal.returns
 returns c =
-    let g = c.loop-i-test.false in
-    sym (every_of _ _ (λ k h. c.loop-i.invariant k (omega arith)))
+    let m = c.args.model.now in
+    all_from_yields_List (λ i. sound m.shape (edge_at (columns_of m) 0 i)) _ _ _ c.all.ensures.ran (YieldsList-from_range 0 m.shape.edges m.shape.edges refl (omega arith)) (λ x b q k. search (rules, tests)) ∙ every_of_range _ _
