@@ -2,7 +2,8 @@
 ghost use Rattle.std.specs.Prelude.{◌≡◌, length};
 ghost use Rattle.numbers.specs.Refuse.{numbered};
 ghost use Rattle.transport_theory.specs.Refusal.{costs_fit};
-ghost use Rattle.transport_theory.proofs.TransportRows.{Roomy, Transported};
+ghost use Rattle.transport_theory.proofs.TransportRows.{Roomy};
+ghost use Rattle.transport.specs.Moving.{Moved};
 ghost use Rattle.transport.specs.Lent.{same_columns};
 ghost use Rattle.transport.specs.Outcome.{ends, transport_on, transport_sized};
 
@@ -14,7 +15,7 @@ use transport_theory::Masses;
 // At most 8 masses on a side take less work space.
 fn planned(of: &Masses, plan: &mut PlanRows) -> Plan
     requires { Roomy of.now.left.now of.now.right.now of.now.costs.now plan.old.rows.now plan.old.columns.now plan.old.masses.now }
-    ensures transported { Transported of.now.left.now of.now.right.now of.now.costs.now plan.old.rows.now plan.old.columns.now plan.old.masses.now result.total result.cells plan.new.rows.now plan.new.columns.now plan.new.masses.now }
+    ensures transported { Moved of.now plan.old result plan.new }
     ensures same { same_columns plan.old plan.new }
 {
     if of.left.len() <= 8 && of.right.len() <= 8 {

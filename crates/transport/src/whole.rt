@@ -1,6 +1,7 @@
 // The whole of `transport` below the checks: the links in rows, the rounds, the plan.
 ghost use Rattle.std.specs.Prelude.{◌+◌, ◌*◌, ◌≤◌, length};
-ghost use Rattle.transport_theory.proofs.TransportRows.{Roomy, Carried, Loadable, Transported};
+ghost use Rattle.transport_theory.proofs.TransportRows.{Roomy, Carried, Loadable};
+ghost use Rattle.transport.specs.Moving.{Moved};
 ghost use Rattle.transport.specs.Lent.{same_columns};
 
 use crate::plan::{Plan, PlanRows, write_plan};
@@ -17,7 +18,7 @@ fn plan_links(
     plan: &mut PlanRows,
 ) -> Plan
     requires { Carried of.now.left.now of.now.right.now of.now.costs.now links.now.heads.now caps.old links.now.prices.now list.old plan.old.rows.now plan.old.columns.now plan.old.masses.now }
-    ensures transported { Transported of.now.left.now of.now.right.now of.now.costs.now plan.old.rows.now plan.old.columns.now plan.old.masses.now result.total result.cells plan.new.rows.now plan.new.columns.now plan.new.masses.now }
+    ensures transported { Moved of.now plan.old result plan.new }
     ensures same { same_columns plan.old plan.new }
 {
     ship_rows(of.left, of.right, links, caps, list);
@@ -27,7 +28,7 @@ fn plan_links(
 // The same over rows with room for the links.
 fn transport_in(of: &Masses, rows: LinkRows, list: &mut [u32], plan: &mut PlanRows) -> Plan
     requires { Loadable of.now.left.now of.now.right.now of.now.costs.now rows.heads.now rows.caps.now rows.prices.now list.old plan.old.rows.now plan.old.columns.now plan.old.masses.now }
-    ensures transported { Transported of.now.left.now of.now.right.now of.now.costs.now plan.old.rows.now plan.old.columns.now plan.old.masses.now result.total result.cells plan.new.rows.now plan.new.columns.now plan.new.masses.now }
+    ensures transported { Moved of.now plan.old result plan.new }
     ensures same { same_columns plan.old plan.new }
 {
     let m = of.left.len();
@@ -51,7 +52,7 @@ fn transport_in(of: &Masses, rows: LinkRows, list: &mut [u32], plan: &mut PlanRo
 pub(crate) fn transport_with<const N: usize>(of: &Masses, plan: &mut PlanRows) -> Plan
     requires roomy { Roomy of.now.left.now of.now.right.now of.now.costs.now plan.old.rows.now plan.old.columns.now plan.old.masses.now }
     requires places { (2 * (length of.now.left.now + length of.now.right.now + length of.now.left.now * length of.now.right.now) ≤ N) × (N ≤ 2176) }
-    ensures transported { Transported of.now.left.now of.now.right.now of.now.costs.now plan.old.rows.now plan.old.columns.now plan.old.masses.now result.total result.cells plan.new.rows.now plan.new.columns.now plan.new.masses.now }
+    ensures transported { Moved of.now plan.old result plan.new }
     ensures same { same_columns plan.old plan.new }
 {
     let mut heads = [0u32; N];
