@@ -10,8 +10,8 @@ ghost use Rattle.exports.specs.Distances;
 ghost use Rattle.exports.specs.Distances.{options};
 
 use crate::distances::metric_options;
-use bisim_core::ids::StateId;
 use bisim_checks::sides::Observed;
+use bisim_core::ids::StateId;
 use bisim_core::wlts::Wlts;
 use bisim_distance::entry::bisim_distance;
 use distance_replies::put_distance;

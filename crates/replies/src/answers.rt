@@ -10,6 +10,7 @@ use bisim_core::wlts::Shape;
 use flow_core::Flow;
 use numbers::refusal::{Refusal, code};
 
+// Stays: C answers by number, and this is where an answer becomes one.
 pub fn put_interned(
     interned: Result<(LabelId, usize), Refusal>,
     id: &mut u32,
@@ -27,6 +28,7 @@ pub fn put_interned(
     }
 }
 
+// Stays: C answers by number, and this is where an answer becomes one.
 pub fn put_found(found: Result<Option<LabelId>, Refusal>, present: &mut u32, id: &mut u32) -> u32
     ensures { result ∷ present.new ∷ id.new ∷ [] ≡ of_found (numbered found) present.old id.old }
 {
@@ -44,6 +46,7 @@ pub fn put_found(found: Result<Option<LabelId>, Refusal>, present: &mut u32, id:
     }
 }
 
+// Stays: C answers by number, and this is where an answer becomes one.
 pub fn put_resolved(resolved: Result<u32, Refusal>, value: &mut u32) -> u32
     ensures { result ∷ value.new ∷ [] ≡ of_resolved (numbered resolved) value.old }
 {
@@ -56,6 +59,7 @@ pub fn put_resolved(resolved: Result<u32, Refusal>, value: &mut u32) -> u32
     }
 }
 
+// Stays: C answers by number, and this is where an answer becomes one.
 pub fn put_counted(counted: Result<usize, Refusal>, count: &mut usize) -> u32
     ensures { result ∷ count.new ∷ [] ≡ of_counted (numbered counted) count.old }
 {
@@ -68,6 +72,7 @@ pub fn put_counted(counted: Result<usize, Refusal>, count: &mut usize) -> u32
     }
 }
 
+// Stays: C answers by number, and this is where an answer becomes one.
 pub fn put_start(start: Result<Option<StateId>, Refusal>, found: &mut u32, state: &mut u32) -> u32
     ensures { result ∷ found.new ∷ state.new ∷ [] ≡ of_start (numbered start) found.old state.old }
 {
@@ -85,6 +90,7 @@ pub fn put_start(start: Result<Option<StateId>, Refusal>, found: &mut u32, state
     }
 }
 
+// Stays: C answers by number, and this is where an answer becomes one.
 pub fn put_successors(
     successors: Result<(usize, usize), Refusal>,
     from: &mut usize,
@@ -102,6 +108,7 @@ pub fn put_successors(
     }
 }
 
+// Stays: C answers by number, and this is where an answer becomes one.
 pub fn put_built(built: Result<Shape, Refusal>, edges: &mut usize, labels: &mut usize) -> u32
     ensures { result ∷ edges.new ∷ labels.new ∷ [] ≡ of_built (numbered built) edges.old labels.old }
 {
@@ -115,6 +122,7 @@ pub fn put_built(built: Result<Shape, Refusal>, edges: &mut usize, labels: &mut 
     }
 }
 
+// Stays: C answers by number, and this is where an answer becomes one.
 pub fn put_flow(
     answer: Result<Flow, Refusal>,
     flow: &mut f64,
@@ -142,6 +150,7 @@ pub fn number_of(ended: Result<(), Refusal>) -> u32
     code(&ended)
 }
 
+// Stays: C answers by number, and this is where an answer becomes one.
 pub fn put_verdict(verdict: Result<bool, Refusal>, related: &mut u32) -> u32
     ensures { result ∷ related.new ∷ [] ≡ of_verdict (numbered verdict) related.old }
 {
@@ -154,6 +163,7 @@ pub fn put_verdict(verdict: Result<bool, Refusal>, related: &mut u32) -> u32
     }
 }
 
+// Stays: C answers by number, and this is where an answer becomes one.
 pub fn put_least(least: Result<Option<f64>, Refusal>, any: &mut u32, epsilon: &mut f64) -> u32
     ensures { sought result any.new epsilon.new ≡ of_least (numbered least) any.old epsilon.old }
 {

@@ -19,6 +19,7 @@ pub fn chain_of(states: usize, entries: usize, initial: u32) -> ChainShape
 }
 
 // Of `common_rate` and `normalise`.
+// Stays: C answers by number, and this is where an answer becomes one.
 pub fn put_real(answer: Result<f64, Refusal>, real: &mut f64) -> u32
     ensures { told result real.new ≡ of_real (numbered answer) real.old }
 {
@@ -32,6 +33,7 @@ pub fn put_real(answer: Result<f64, Refusal>, real: &mut f64) -> u32
 }
 
 // Of `uniformise`.
+// Stays: C answers by number, and this is where an answer becomes one.
 pub fn put_chain(made: Result<ChainShape, Refusal>, entries: &mut usize) -> u32
     ensures { result ∷ entries.new ∷ [] ≡ of_uniformised (numbered made) entries.old }
 {

@@ -5,6 +5,7 @@ ghost use Rattle.replies.specs.Texts.{of_text};
 
 use numbers::refusal::Refusal;
 
+// Stays: C answers by number, and this is where an answer becomes one.
 pub fn put_text(answer: Result<usize, Refusal>, written: &mut usize) -> u32
     ensures { result ∷ written.new ∷ [] ≡ of_text (numbered answer) written.old }
 {

@@ -6,6 +6,7 @@ ghost use Rattle.replies.specs.Transports.{told, of_transport};
 use numbers::refusal::Refusal;
 use transport::plan::Plan;
 
+// Stays: C answers by number, and this is where an answer becomes one.
 pub fn put_plan(answer: Result<Plan, Refusal>, total: &mut f64, cells: &mut usize) -> u32
     ensures { told result total.new cells.new ≡ of_transport (numbered answer) total.old cells.old }
 {
