@@ -1,6 +1,6 @@
 -- What is told and written is the definition's outcome.
 use mathlib.Core.Path.{◌≡◌, refl, sym, ap, ◌∙◌}
-use Rattle.std.specs.Prelude.{Ok, Err}
+use Rattle.std.specs.Prelude.{Ok}
 use Prim.Native.Nat.{ℕ, zero, suc, min, ◌≤◌}
 use mathlib.Core.List.{List, [], ◌∷◌}
 use lib.ListN.{length}

@@ -1,5 +1,5 @@
 -- A chain that is lent, and what is lent for one.
-use Rattle.std.specs.Prelude.{◌≡◌}
+use Rattle.std.specs.Prelude.{◌≡◌, length}
 use Rattle.chain_theory.specs.Columns.{ChainColumns, chain_columns}
 use Rattle.chain_theory.specs.declared.Chain.{Chain}
 use Rattle.chain_theory.specs.declared.ChainMut.{ChainMut}
@@ -15,10 +15,14 @@ of_chain_mut C = chain_columns C.offsets.now C.targets.now C.probs.now C.observa
 abbrev pub of_store : ChainStore → ChainColumns
 of_store C = chain_columns C.offsets.now C.targets.now C.probs.now C.observations.now
 
--- the lists are those that were lent
+-- the lists are those that were lent, and as long as they were
 abbrev pub SameLists : ChainStore → ChainStore → Type 0
 SameLists C D =
     (D.offsets.ghost_name ≡ C.offsets.ghost_name)
     × (D.targets.ghost_name ≡ C.targets.ghost_name)
     × (D.probs.ghost_name ≡ C.probs.ghost_name)
     × (D.observations.ghost_name ≡ C.observations.ghost_name)
+    × (length D.offsets.now ≡ length C.offsets.now)
+    × (length D.targets.now ≡ length C.targets.now)
+    × (length D.probs.now ≡ length C.probs.now)
+    × (length D.observations.now ≡ length C.observations.now)

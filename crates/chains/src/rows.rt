@@ -17,13 +17,7 @@ use numbers::MARGIN;
 use parts::rates::Jumps;
 
 // The row of state s, at the start of the lists: its edges but those back to it, each weight divided by the rate, and what is left to stay. How many entries it has; those past them are as they were.
-fn make_row(
-    model: &Wlts,
-    s: usize,
-    rate: f64,
-    targets: &mut [u32],
-    probs: &mut [f64],
-) -> usize
+fn make_row(model: &Wlts, s: usize, rate: f64, targets: &mut [u32], probs: &mut [f64]) -> usize
     requires model { Accepted model.now.shape (columns_of model.now) × (s < model.now.shape.states) }
     requires room { (degree (columns_of model.now) s < length targets.old) × (degree (columns_of model.now) s < length probs.old) }
     ensures few { result ≤ degree (columns_of model.now) s + 1 }

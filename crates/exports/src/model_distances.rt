@@ -14,6 +14,7 @@ use bisim_checks::sides::Observed;
 use bisim_core::ids::StateId;
 use bisim_core::wlts::Wlts;
 use bisim_distance::entry::bisim_distance;
+use chain_theory::ChainStore;
 use distance_replies::put_distance;
 use distance_theory::lent::Scratch;
 use distance_theory::{Goal, PairContribution};
@@ -139,17 +140,23 @@ pub extern "C" fn tanqesha_bisim_distance(
         places,
         masses,
     };
+    let mut left_chain = ChainStore {
+        offsets: left_chain_offsets,
+        targets: left_chain_targets,
+        probs: left_chain_probabilities,
+        observations: left_chain_observations,
+    };
+    let mut right_chain = ChainStore {
+        offsets: right_chain_offsets,
+        targets: right_chain_targets,
+        probs: right_chain_probabilities,
+        observations: right_chain_observations,
+    };
     let answer = bisim_distance(
         &left,
-        left_chain_offsets,
-        left_chain_targets,
-        left_chain_probabilities,
-        left_chain_observations,
+        &mut left_chain,
         &right,
-        right_chain_offsets,
-        right_chain_targets,
-        right_chain_probabilities,
-        right_chain_observations,
+        &mut right_chain,
         goal,
         &mut scratch,
         records,

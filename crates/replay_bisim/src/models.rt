@@ -1,6 +1,7 @@
 // The kind `bisim_distance`: two models and a goal; the answer, its contributions, and whether scratch is zero or as it was.
 use crate::side::Side;
 use bisim_measure::measure::measure;
+use chain_theory::ChainStore;
 use distance_theory::Goal;
 use distance_words::told::Answer;
 use numbers::refusal::Refusal;
@@ -12,6 +13,22 @@ use replay_text::text::Reader;
 
 // The place of the counts.
 pub const BISIM_DISTANCE: usize = 0;
+
+// The lists of a chain, all marked, so many entries of each.
+fn lend<'a>(store: &'a mut Store, rooms: Rooms) -> ChainStore<'a> {
+    let Store {
+        offsets,
+        targets,
+        probs,
+        seen,
+    } = store;
+    ChainStore {
+        offsets: marked(offsets, rooms[0]),
+        targets: marked(targets, rooms[1]),
+        probs: marked(probs, rooms[2]),
+        observations: marked(seen, rooms[3]),
+    }
+}
 
 // The run, on lists that are filled with marks.
 fn run_measure(
@@ -25,15 +42,9 @@ fn run_measure(
 ) -> Result<Answer, Refusal> {
     measure(
         &left.observed(),
-        marked(&mut left_chain.offsets, left.rooms[0]),
-        marked(&mut left_chain.targets, left.rooms[1]),
-        marked(&mut left_chain.probs, left.rooms[2]),
-        marked(&mut left_chain.seen, left.rooms[3]),
+        &mut lend(left_chain, left.rooms),
         &right.observed(),
-        marked(&mut right_chain.offsets, right.rooms[0]),
-        marked(&mut right_chain.targets, right.rooms[1]),
-        marked(&mut right_chain.probs, right.rooms[2]),
-        marked(&mut right_chain.seen, right.rooms[3]),
+        &mut lend(right_chain, right.rooms),
         goal,
         &mut lists.lend(rooms),
         rooms[5],

@@ -9,5 +9,5 @@ use Rattle.bisim_measure.proofs.measure.clear_chain.Goals as goal
 equal_columns : {O O' T T' : List ℕ} {P P' W W' : List Float} → O ≡ O' → T ≡ T' → P ≡ P' → W ≡ W' → chain_columns O T P W ≡ chain_columns O' T' P' W'
 equal_columns o t p w = rw (o, t, p, w)
 
-pub returns : goal.returns
-returns c = equal_columns c.clear_states.ensures c.clear_states-2.ensures c.clear_masses.ensures c.clear_masses-2.ensures
+pub returns-clause-cleared : goal.returns-clause-cleared
+returns-clause-cleared c = equal_columns c.clear_states.ensures c.clear_states-2.ensures c.clear_masses.ensures c.clear_masses-2.ensures
