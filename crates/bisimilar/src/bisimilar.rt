@@ -9,31 +9,25 @@ ghost use Rattle.bisimilar.specs.Outcome.{bisimilar_outcome};
 
 use crate::related::related;
 use bisim_core::ids::StateId;
-use epsdelta::asked::{Settings, Side, Tolerances};
+use epsdelta::asked::{Settings, Side, Sides, Tolerances};
 use epsdelta::relation::epsdelta_unless;
 use numbers::refusal::Refusal;
-use parts::starts::start;
+use parts::starts::{absent, start};
 
 // Whether one of two models has no initial state.
 fn one_absent(left: Option<StateId>, right: Option<StateId>) -> bool
     ensures { result ≡ (absent left || absent right) }
 {
-    left.is_none() || right.is_none()
+    absent(left) || absent(right)
 }
 
 // What the relation says of s and t, and its bytes cleared.
-fn conclude(
-    left: &Side,
-    right: &Side,
-    s: StateId,
-    t: StateId,
-    relation: &mut [u8],
-) -> Result<bool, Refusal>
-    ensures { ends (numbered result) relation.new ≡ ends (related_outcome left.now.model.shape.states right.now.model.shape.states relation.old s.0 t.0) (replicate (length relation.old) 0) }
+fn conclude(sides: &Sides, s: StateId, t: StateId, relation: &mut [u8]) -> Result<bool, Refusal>
+    ensures { ends (numbered result) relation.new ≡ ends (related_outcome sides.now.left.model.shape.states sides.now.right.model.shape.states relation.old s.0 t.0) (replicate (length relation.old) 0) }
 {
     let verdict = related(
-        left.model.shape.states,
-        right.model.shape.states,
+        sides.left.model.shape.states,
+        sides.right.model.shape.states,
         relation,
         s,
         t,
@@ -57,6 +51,10 @@ pub fn epsdelta_bisimilar(
         absent: one_absent(first, second),
         tolerances,
     };
-    epsdelta_unless(settings, left, right, relation)?;
-    conclude(left, right, start(first), start(second), relation)
+    let sides = Sides {
+        left: *left,
+        right: *right,
+    };
+    epsdelta_unless(settings, &sides, relation)?;
+    conclude(&sides, start(first), start(second), relation)
 }

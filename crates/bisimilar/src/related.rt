@@ -24,7 +24,7 @@ fn refusal(
         return Err(Refusal::OutOfRange);
     }
     let states = left_states + right_states;
-    if bytes < (states * states + 7) / 8 {
+    if bytes < (states * states).div_ceil(8) {
         return Err(Refusal::Store);
     }
     if 2000 < states {

@@ -2,10 +2,12 @@
 use Rattle.std.specs.Prelude.{ℕ, zero, suc, ◌+◌, ◌<◌, ◌≤◌, Bool, Result, Ok, Err, List, length, Float}
 use Rattle.numbers.specs.Bits.{packed}
 use Rattle.numbers.specs.Lists.{over}
-use Rattle.bisim_core.specs.Data.{Columns}
+use Rattle.bisim_core.specs.Data.{Columns, columns_of}
 use Rattle.bisim_core.specs.declared.wlts.Shape.{Shape}
 use Rattle.epsdelta_theory.specs.Refusal.{tolerances_outside, relation_refusal, epsdelta_refusal}
 use Rattle.epsdelta_theory.specs.Epsdelta.{given, epsdelta}
+use Rattle.epsdelta.specs.declared.asked.Settings.{Settings}
+use Rattle.epsdelta.specs.declared.asked.Sides.{Sides}
 
 -- the answer of an entry, and the bytes
 pub record Outcome (A : Type 0) : Type 0 where
@@ -29,6 +31,10 @@ Roomy SL SR exits starts targets probs classes =
 -- whether 8 fails, two models handed in, classes, ε, ρ and the bytes lent for the relation
 abbrev pub outcome_unless : Bool → Shape → Columns → Shape → Columns → List ℕ → List ℕ → Float → Float → List ℕ → Outcome (Result (Unit {0}) ℕ)
 outcome_unless fails8 SL ML SR MR cl cr ε ρ store = settled (relation_refusal fails8 (tolerances_outside ε ρ) SL ML SR MR cl cr (length store)) store (epsdelta (given SL ML SR MR cl cr ε ρ)).relation
+
+-- the same of two models side by side
+abbrev pub outcome_of : Settings → Sides → List ℕ → Outcome (Result (Unit {0}) ℕ)
+outcome_of S B store = outcome_unless S.absent B.left.model.shape (columns_of B.left.model) B.right.model.shape (columns_of B.right.model) B.left.classes.now B.right.classes.now S.tolerances.epsilon S.tolerances.rho store
 
 -- `epsdelta` asks for no initial state
 abbrev pub outcome : Shape → Columns → Shape → Columns → List ℕ → List ℕ → Float → Float → List ℕ → Outcome (Result (Unit {0}) ℕ)

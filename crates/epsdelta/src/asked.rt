@@ -1,4 +1,6 @@
 // What a run is asked.
+ghost use Rattle.std.specs.Prelude.{◌≡◌};
+ghost use Rattle.epsdelta.specs.Sides.{EachFew, together};
 
 use bisim_core::wlts::Wlts;
 
@@ -7,6 +9,23 @@ use bisim_core::wlts::Wlts;
 pub struct Side<'a> {
     pub model: Wlts<'a>,
     pub classes: &'a [u32],
+}
+
+// Two models side by side, the right one's states numbered after the left's.
+#[derive(Clone, Copy, Debug)]
+pub struct Sides<'a> {
+    pub left: Side<'a>,
+    pub right: Side<'a>,
+}
+
+impl Sides<'_> {
+    // How many states both have.
+    pub fn states(&self) -> usize
+        requires { EachFew self.now }
+        ensures { result ≡ together self.now }
+    {
+        self.left.model.shape.states + self.right.model.shape.states
+    }
 }
 
 // ε and ρ.

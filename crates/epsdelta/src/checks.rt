@@ -2,19 +2,21 @@
 ghost use Rattle.std.specs.Prelude.{◌≡◌, ◌≤◌, length};
 ghost use Rattle.numbers.specs.Refuse.{code};
 ghost use Rattle.epsdelta_theory.specs.Refusal.{short, tolerances_outside, later_refusal};
+ghost use Rattle.epsdelta.specs.Sides.{EachFew};
 
-use crate::asked::{Settings, Side, Tolerances};
+use crate::asked::{Settings, Sides, Tolerances};
 use numbers::refusal::Refusal;
 use numbers::{GREATEST_FACTOR, ONE, Real};
 
 // 7: too few classes of a model, or too few bytes for the relation.
-fn lacking(left: &Side, right: &Side, bytes: usize) -> bool
-    requires { (left.now.model.shape.states ≤ 2000) × (right.now.model.shape.states ≤ 2000) }
-    ensures { result ≡ short left.now.model.shape.states right.now.model.shape.states (length left.now.classes.now) (length right.now.classes.now) bytes }
+fn lacking(sides: &Sides, bytes: usize) -> bool
+    requires { EachFew sides.now }
+    ensures { result ≡ short sides.now.left.model.shape.states sides.now.right.model.shape.states (length sides.now.left.classes.now) (length sides.now.right.classes.now) bytes }
 {
-    let states = left.model.shape.states + right.model.shape.states;
-    left.classes.len() < left.model.shape.states
-        || (right.classes.len() < right.model.shape.states || bytes < (states * states + 7) / 8)
+    let states = sides.states();
+    sides.left.classes.len() < sides.left.model.shape.states
+        || (sides.right.classes.len() < sides.right.model.shape.states
+            || bytes < (states * states).div_ceil(8))
 }
 
 // 9: ε is no finite number from 0 on, or ρ is not from 1 to 2^20.
@@ -25,16 +27,11 @@ fn outside(of: Tolerances) -> bool
 }
 
 // The first of the four that fails, where the settings say whether 8 does.
-pub(crate) fn later(
-    settings: Settings,
-    left: &Side,
-    right: &Side,
-    bytes: usize,
-) -> Result<(), Refusal>
-    requires { (left.now.model.shape.states ≤ 2000) × (right.now.model.shape.states ≤ 2000) }
-    ensures { code result ≡ later_refusal settings.absent (tolerances_outside settings.tolerances.epsilon settings.tolerances.rho) left.now.model.shape.states right.now.model.shape.states (length left.now.classes.now) (length right.now.classes.now) bytes }
+pub(crate) fn later(settings: Settings, sides: &Sides, bytes: usize) -> Result<(), Refusal>
+    requires { EachFew sides.now }
+    ensures { code result ≡ later_refusal settings.absent (tolerances_outside settings.tolerances.epsilon settings.tolerances.rho) sides.now.left.model.shape.states sides.now.right.model.shape.states (length sides.now.left.classes.now) (length sides.now.right.classes.now) bytes }
 {
-    if lacking(left, right, bytes) {
+    if lacking(sides, bytes) {
         return Err(Refusal::Store);
     }
     if settings.absent {
@@ -43,7 +40,7 @@ pub(crate) fn later(
     if outside(settings.tolerances) {
         return Err(Refusal::Tolerance);
     }
-    if 2000 < left.model.shape.states + right.model.shape.states {
+    if 2000 < sides.states() {
         return Err(Refusal::StatesTogether);
     }
     Ok(())

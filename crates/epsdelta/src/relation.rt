@@ -9,11 +9,11 @@ ghost use Rattle.epsdelta_theory.specs.Claim.{Sound};
 ghost use Rattle.epsdelta_theory.specs.Epsdelta.{given, given_rows, epsdelta};
 ghost use Rattle.epsdelta_jumps.specs.Union;
 ghost use Rattle.flow_links.proofs.RowsRead.{rows_in, row_stands};
-ghost use Rattle.epsdelta.specs.Outcome.{Roomy, ends, settled, outcome_unless, outcome};
+ghost use Rattle.epsdelta.specs.Outcome.{Roomy, ends, settled, outcome_of, outcome};
+ghost use Rattle.epsdelta.specs.Sides.{EachFew, together};
 
-use crate::asked::{Settings, Side, Tolerances};
+use crate::asked::{Settings, Side, Sides, Tolerances};
 use crate::checks::later;
-use bisim_core::wlts::Shape;
 use epsdelta_jumps::jumps::{Fault, union};
 use epsdelta_jumps::store::RowStore;
 use epsdelta_sweeps::relate::relate;
@@ -21,34 +21,33 @@ use flow_links::rows::Rows;
 use numbers::refusal::Refusal;
 
 // The classes of both models, one after the other.
-fn join_classes(left: &Side, right: &Side, classes: &mut [u32])
-    requires few { left.now.model.shape.states + right.now.model.shape.states ≤ 2000 }
-    requires room { (left.now.model.shape.states ≤ length left.now.classes.now) × (right.now.model.shape.states ≤ length right.now.classes.now) × (left.now.model.shape.states + right.now.model.shape.states ≤ length classes.old) }
-    ensures { take (left.now.model.shape.states + right.now.model.shape.states) classes.new ≡ take left.now.model.shape.states left.now.classes.now ++ take right.now.model.shape.states right.now.classes.now }
+fn join_classes(sides: &Sides, classes: &mut [u32])
+    requires few { together sides.now ≤ 2000 }
+    requires room { (sides.now.left.model.shape.states ≤ length sides.now.left.classes.now) × (sides.now.right.model.shape.states ≤ length sides.now.right.classes.now) × (together sides.now ≤ length classes.old) }
+    ensures { take (together sides.now) classes.new ≡ take sides.now.left.model.shape.states sides.now.left.classes.now ++ take sides.now.right.model.shape.states sides.now.right.classes.now }
 {
-    let n = left.model.shape.states;
-    let m = right.model.shape.states;
-    classes[..n].copy_from_slice(&left.classes[..n]);
-    classes[n..n + m].copy_from_slice(&right.classes[..m]);
+    let n = sides.left.model.shape.states;
+    let m = sides.right.model.shape.states;
+    classes[..n].copy_from_slice(&sides.left.classes[..n]);
+    classes[n..sides.states()].copy_from_slice(&sides.right.classes[..m]);
 }
 
 // What is left once the checks of both models have passed: what checks 7 to 10 say, or the relation; `classes` is work space.
 fn finish(
     settings: Settings,
-    left: &Side,
-    right: &Side,
+    sides: &Sides,
     rows: &RowStore,
     classes: &mut [u32],
     relation: &mut [u8],
 ) -> Result<(), Refusal>
-    requires models { (left.now.model.shape.states ≤ 2000) × (right.now.model.shape.states ≤ 2000) }
-    requires rows { (left.now.model.shape.states + right.now.model.shape.states ≤ 2000) → (every (row_stands rows.now.starts.now rows.now.targets.now rows.now.probs.now) (left.now.model.shape.states + right.now.model.shape.states) ≡ true) × (left.now.model.shape.states + right.now.model.shape.states ≤ length rows.now.exits.now) × (left.now.model.shape.states + right.now.model.shape.states < length rows.now.starts.now) × (left.now.model.shape.states + right.now.model.shape.states ≤ length classes.old) }
-    ensures { (J : Jumps) → (left.now.model.shape.states + right.now.model.shape.states ≤ 2000 → rows_in (left.now.model.shape.states + right.now.model.shape.states) rows.now.exits.now rows.now.starts.now rows.now.targets.now rows.now.probs.now ≡ J) → ends (numbered result) relation.new ≡ settled (later_refusal settings.absent (tolerances_outside settings.tolerances.epsilon settings.tolerances.rho) left.now.model.shape.states right.now.model.shape.states (length left.now.classes.now) (length right.now.classes.now) (length relation.old)) relation.old (epsdelta (given_rows J (take left.now.model.shape.states left.now.classes.now ++ take right.now.model.shape.states right.now.classes.now) settings.tolerances.epsilon settings.tolerances.rho)).relation }
+    requires models { EachFew sides.now }
+    requires rows { (together sides.now ≤ 2000) → (every (row_stands rows.now.starts.now rows.now.targets.now rows.now.probs.now) (together sides.now) ≡ true) × (together sides.now ≤ length rows.now.exits.now) × (together sides.now < length rows.now.starts.now) × (together sides.now ≤ length classes.old) }
+    ensures { (J : Jumps) → (together sides.now ≤ 2000 → rows_in (together sides.now) rows.now.exits.now rows.now.starts.now rows.now.targets.now rows.now.probs.now ≡ J) → ends (numbered result) relation.new ≡ settled (later_refusal settings.absent (tolerances_outside settings.tolerances.epsilon settings.tolerances.rho) sides.now.left.model.shape.states sides.now.right.model.shape.states (length sides.now.left.classes.now) (length sides.now.right.classes.now) (length relation.old)) relation.old (epsdelta (given_rows J (take sides.now.left.model.shape.states sides.now.left.classes.now ++ take sides.now.right.model.shape.states sides.now.right.classes.now) settings.tolerances.epsilon settings.tolerances.rho)).relation }
 {
-    later(settings, left, right, relation.len())?;
-    join_classes(left, right, classes);
+    later(settings, sides, relation.len())?;
+    join_classes(sides, classes);
     let read = Rows {
-        states: left.model.shape.states + right.model.shape.states,
+        states: sides.states(),
         exits: rows.exits,
         starts: rows.starts,
         targets: rows.targets,
@@ -78,29 +77,27 @@ fn refused(joined: Result<(), Fault>) -> Result<(), Refusal>
 // The relation of two models, unless a check fails; the last two are work space.
 fn epsdelta_in(
     settings: Settings,
-    left: &Side,
-    right: &Side,
+    sides: &Sides,
     relation: &mut [u8],
     rows: &mut RowStore,
     classes: &mut [u32],
 ) -> Result<(), Refusal>
-    requires { Roomy left.now.model.shape right.now.model.shape (length rows.old.exits.now) (length rows.old.starts.now) (length rows.old.targets.now) (length rows.old.probs.now) (length classes.old) }
-    ensures { ends (numbered result) relation.new ≡ outcome_unless settings.absent left.now.model.shape (columns_of left.now.model) right.now.model.shape (columns_of right.now.model) left.now.classes.now right.now.classes.now settings.tolerances.epsilon settings.tolerances.rho relation.old }
+    requires { Roomy sides.now.left.model.shape sides.now.right.model.shape (length rows.old.exits.now) (length rows.old.starts.now) (length rows.old.targets.now) (length rows.old.probs.now) (length classes.old) }
+    ensures { ends (numbered result) relation.new ≡ outcome_of settings sides.now relation.old }
 {
-    refused(union(&left.model, &right.model, rows))?;
-    finish(settings, left, right, rows, classes, relation)
+    refused(union(&sides.left.model, &sides.right.model, rows))?;
+    finish(settings, sides, rows, classes, relation)
 }
 
 // In work space for so many states, their starts and so many edges.
 fn epsdelta_with<const STATES: usize, const STARTS: usize, const EDGES: usize>(
     settings: Settings,
-    left: &Side,
-    right: &Side,
+    sides: &Sides,
     relation: &mut [u8],
 ) -> Result<(), Refusal>
     requires sizes { (STATES ≤ 2000) × (STARTS ≤ 2001) × (EDGES ≤ 8192) }
-    requires room { Roomy left.now.model.shape right.now.model.shape STATES STARTS EDGES EDGES STATES }
-    ensures { ends (numbered result) relation.new ≡ outcome_unless settings.absent left.now.model.shape (columns_of left.now.model) right.now.model.shape (columns_of right.now.model) left.now.classes.now right.now.classes.now settings.tolerances.epsilon settings.tolerances.rho relation.old }
+    requires room { Roomy sides.now.left.model.shape sides.now.right.model.shape STATES STARTS EDGES EDGES STATES }
+    ensures { ends (numbered result) relation.new ≡ outcome_of settings sides.now relation.old }
 {
     let mut exits = [0.0; STATES];
     let mut starts = [0u32; STARTS];
@@ -113,29 +110,30 @@ fn epsdelta_with<const STATES: usize, const STARTS: usize, const EDGES: usize>(
         targets: &mut targets,
         probs: &mut probs,
     };
-    epsdelta_in(settings, left, right, relation, &mut rows, &mut classes)
+    epsdelta_in(settings, sides, relation, &mut rows, &mut classes)
 }
 
 // Whether a model has over 32 states or 200 edges, which none of a card has.
-fn larger(left: Shape, right: Shape) -> bool
-    ensures { result ≡ (ltb 32 left.states || (ltb 200 left.edges || (ltb 32 right.states || ltb 200 right.edges))) }
+fn larger(sides: &Sides) -> bool
+    ensures { result ≡ (ltb 32 sides.now.left.model.shape.states || (ltb 200 sides.now.left.model.shape.edges || (ltb 32 sides.now.right.model.shape.states || ltb 200 sides.now.right.model.shape.edges))) }
 {
+    let left = sides.left.model.shape;
+    let right = sides.right.model.shape;
     32 < left.states || (200 < left.edges || (32 < right.states || 200 < right.edges))
 }
 
 // The relation of two models, unless a check fails. The entries that ask for initial states say by `settings` that check 8 fails, so that they refuse before anything is written.
 pub fn epsdelta_unless(
     settings: Settings,
-    left: &Side,
-    right: &Side,
+    sides: &Sides,
     relation: &mut [u8],
 ) -> Result<(), Refusal>
-    ensures { ends (numbered result) relation.new ≡ outcome_unless settings.absent left.now.model.shape (columns_of left.now.model) right.now.model.shape (columns_of right.now.model) left.now.classes.now right.now.classes.now settings.tolerances.epsilon settings.tolerances.rho relation.old }
+    ensures { ends (numbered result) relation.new ≡ outcome_of settings sides.now relation.old }
 {
-    if larger(left.model.shape, right.model.shape) {
-        return epsdelta_with::<2000, 2001, 8192>(settings, left, right, relation);
+    if larger(sides) {
+        return epsdelta_with::<2000, 2001, 8192>(settings, sides, relation);
     }
-    epsdelta_with::<64, 65, 400>(settings, left, right, relation)
+    epsdelta_with::<64, 65, 400>(settings, sides, relation)
 }
 
 // The relation of two models, of every pair of states of both, the right one's numbered after the left's. A refusal leaves the bytes as they were, and bytes past the relation's are kept.
@@ -152,5 +150,9 @@ pub fn epsdelta(
         absent: false,
         tolerances,
     };
-    epsdelta_unless(settings, left, right, relation)
+    let sides = Sides {
+        left: *left,
+        right: *right,
+    };
+    epsdelta_unless(settings, &sides, relation)
 }

@@ -1,4 +1,4 @@
-// `Jumps::union`: two models side by side, in lists that the caller lends.
+// `Jumps::union` of epsdelta.rs: two models side by side, in lists that the caller lends.
 ghost use Rattle.std.specs.Prelude.{◌≡◌, ◌+◌, ◌≤◌, OnOk, OnErr};
 ghost use Rattle.bisim_core.specs.Data.{columns_of};
 ghost use Rattle.bisim_core.specs.Model.{model};

@@ -7,7 +7,7 @@ use lib.ListN.{length, replicate, length-replicate}
 use lib.Ieee.{Float}
 use Rattle.numbers.specs.Real.{nought, is_valid}
 use Rattle.bisim_core.specs.Data.{columns_of}
-use Rattle.epsdelta.specs.declared.asked.Side.{Side}
+use Rattle.epsdelta.specs.declared.asked.Sides.{Sides}
 use Rattle.min_epsilon.specs.Outcome.{refusal_at, refusal}
 use Rattle.epsdelta_theory.specs.MinEpsilon.{halving}
 use Rattle.epsdelta_theory.proofs.MinEpsilon.{below_one, refused_alike}
@@ -22,15 +22,15 @@ zero_again last out store z y = y ∙ ap (λ (n : ℕ). replicate n 0) (zero_len
 pub zero_still : (out store : List ℕ) → out ≡ replicate (length store) 0 → out ≡ replicate (length out) 0
 zero_still out store z = z ∙ ap (λ (n : ℕ). replicate n 0) (sym (zero_length out store z))
 
-module _ (L R : Side) (ρ : Float) where
+module _ (B : Sides) (ρ : Float) where
   -- what comes after a run is not refused
-  pub unrefused : (out store : List ℕ) → refusal L R ρ (length store) ≡ 0 → out ≡ replicate (length store) 0 → refusal L R ρ (length out) ≡ 0
-  unrefused out store z l = ap (refusal L R ρ) (zero_length out store l) ∙ z
+  pub unrefused : (out store : List ℕ) → refusal B ρ (length store) ≡ 0 → out ≡ replicate (length store) 0 → refusal B ρ (length out) ≡ 0
+  unrefused out store z l = ap (refusal B ρ) (zero_length out store l) ∙ z
 
   -- a run on as many bytes
-  pub allowed : (ε : Float) (out store : List ℕ) → refusal L R ρ (length store) ≡ 0 → length out ≡ length store → is_valid ε ≡ true → refusal_at L R ε ρ (length out) ≡ 0
+  pub allowed : (ε : Float) (out store : List ℕ) → refusal B ρ (length store) ≡ 0 → length out ≡ length store → is_valid ε ≡ true → refusal_at B ε ρ (length out) ≡ 0
   allowed ε out store z l v =
-      refused_alike L.model.shape (columns_of L.model) R.model.shape (columns_of R.model) L.classes.now R.classes.now ε ρ (length out) v ∙ ap (refusal L R ρ) l ∙ z
+      refused_alike B.left.model.shape (columns_of B.left.model) B.right.model.shape (columns_of B.right.model) B.left.classes.now B.right.classes.now ε ρ (length out) v ∙ ap (refusal B ρ) l ∙ z
 
 -- by the run at ε = 0
 pub below_one_nought : (holds : Float → Bool) (r : Bool) → r ≡ holds nought → r ≡ true → nought ≡ below_one holds

@@ -1,11 +1,11 @@
 -- What `min_epsilon` answers, and what it leaves in the bytes of the relation.
-use Rattle.std.specs.Prelude.{ℕ, zero, suc, Bool, Option, Some, None, Result, Ok, Err, List, length, replicate, Float}
+use Rattle.std.specs.Prelude.{◌≡◌, ℕ, zero, suc, Bool, Option, Some, None, Result, Ok, Err, List, length, replicate, Float}
 use Rattle.bisim_core.specs.Data.{Columns, columns_of}
 use Rattle.bisim_core.specs.declared.wlts.Shape.{Shape}
 use Rattle.epsdelta_theory.specs.Refusal.{bisimilar_refusal, min_epsilon_refusal}
 use Rattle.epsdelta_theory.specs.MinEpsilon.{Search, alike_at, min_epsilon}
 use Rattle.epsdelta_theory.specs.MinEpsilon as search
-use Rattle.epsdelta.specs.declared.asked.Side.{Side}
+use Rattle.epsdelta.specs.declared.asked.Sides.{Sides}
 use Rattle.epsdelta.specs.Outcome.{Outcome, ends}
 
 -- what the search found
@@ -22,13 +22,17 @@ settled (suc r) store x = ends (Err (suc r)) store
 abbrev pub outcome : Shape → Columns → Shape → Columns → List ℕ → List ℕ → Float → List ℕ → Outcome (Result (Option Float) ℕ)
 outcome SL ML SR MR cl cr ρ store = settled (min_epsilon_refusal SL ML SR MR cl cr ρ (length store)) store (min_epsilon SL ML SR MR cl cr ρ)
 
+-- bytes, and what a run leaves of them: as many zeros
+abbrev pub Cleared : List ℕ → List ℕ → Type 0
+Cleared store out = out ≡ replicate (length store) 0
+
 -- of two models with their classes: are the initial states related at this ρ and ε
-abbrev pub alike : Side → Side → Float → Float → Bool
-alike L R ρ = alike_at L.model.shape (columns_of L.model) R.model.shape (columns_of R.model) L.classes.now R.classes.now ρ
+abbrev pub alike : Sides → Float → Float → Bool
+alike B ρ = alike_at B.left.model.shape (columns_of B.left.model) B.right.model.shape (columns_of B.right.model) B.left.classes.now B.right.classes.now ρ
 
 -- what is refused at this ε and ρ, with so many bytes, and of the search
-abbrev pub refusal_at : Side → Side → Float → Float → ℕ → ℕ
-refusal_at L R ε ρ bytes = bisimilar_refusal L.model.shape (columns_of L.model) R.model.shape (columns_of R.model) L.classes.now R.classes.now ε ρ bytes
+abbrev pub refusal_at : Sides → Float → Float → ℕ → ℕ
+refusal_at B ε ρ bytes = bisimilar_refusal B.left.model.shape (columns_of B.left.model) B.right.model.shape (columns_of B.right.model) B.left.classes.now B.right.classes.now ε ρ bytes
 
-abbrev pub refusal : Side → Side → Float → ℕ → ℕ
-refusal L R ρ bytes = min_epsilon_refusal L.model.shape (columns_of L.model) R.model.shape (columns_of R.model) L.classes.now R.classes.now ρ bytes
+abbrev pub refusal : Sides → Float → ℕ → ℕ
+refusal B ρ bytes = min_epsilon_refusal B.left.model.shape (columns_of B.left.model) B.right.model.shape (columns_of B.right.model) B.left.classes.now B.right.classes.now ρ bytes

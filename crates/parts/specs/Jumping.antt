@@ -1,5 +1,5 @@
 -- Jumps over the front of two lists that are lent.
-use Rattle.std.specs.Prelude.{◌≡◌, ℕ, ◌+◌, ◌-◌, List, length, take, Float}
+use Rattle.std.specs.Prelude.{◌≡◌, ℕ, ◌+◌, ◌-◌, ◌<◌, ◌≤◌, List, length, take, Float}
 use Rattle.bisim_core.specs.Data.{Edge, Columns}
 use Rattle.bisim_core.specs.declared.wlts.Wlts.{Wlts}
 use Rattle.bisim_core.specs.Model.{begins}
@@ -22,6 +22,10 @@ LaidOver js V W = LaidJumps js W.len V.targets.now V.rates.now W.targets.now W.r
 -- the rows of a model can be made
 abbrev pub HasRows : Wlts → Type 0
 HasRows M = Readable M.shape.states M.offsets.now M.edge_targets.now M.edge_weights.now
+
+-- so can that of one of its states, with targets that are so much further on
+abbrev pub HasRow : Wlts → ℕ → ℕ → Type 0
+HasRow M s off = HasRows M × (s < M.shape.states) × (off ≤ 2000)
 
 -- how many edges a state has
 abbrev pub degree : Columns → ℕ → ℕ

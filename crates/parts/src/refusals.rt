@@ -12,6 +12,6 @@ pub fn earlier(left: Result<(), Refusal>, right: Result<(), Refusal>) -> Result<
     match (left, right) {
         (Ok(()), _) => right,
         (Err(_), Ok(())) => left,
-        (Err(a), Err(b)) => { if b.number() < a.number() { right } else { left } }
+        (Err(a), Err(b)) => { if b < a { right } else { left } }
     }
 }

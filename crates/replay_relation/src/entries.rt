@@ -1,8 +1,15 @@
-// The places of the counts.
-pub const EPSDELTA: usize = 0;
+// The entries that answers are counted for.
+#[derive(Clone, Copy, Debug, PartialEq, Eq)]
+pub enum Entry {
+    Epsdelta,
+    EpsdeltaBisimilar,
+    MinEpsilon,
+    Related,
+}
 
-pub const EPSDELTA_BISIMILAR: usize = 2;
-
-pub const MIN_EPSILON: usize = 4;
-
-pub const RELATED: usize = 6;
+impl Entry {
+    // The place of the answers that agree; behind it are those that differ.
+    pub fn place(self) -> usize {
+        2 * self as usize
+    }
+}

@@ -2,10 +2,11 @@
 // The names of lines are skipped. A case whose values are not as laid out, or with a list that is too long, differs.
 #![tactic(auto)]
 
-mod entries; // entries.rt: the places of the counts
+mod entries; // entries.rt: the entries, and the places of their counts
 mod relations; // relations.rt: the kinds `relation` and `related`
 mod store; // store.rt: the bytes lent for a relation
 
+use entries::Entry;
 use replay_text::text::Reader;
 use replay_text::{cases, tally};
 use std::io;
@@ -19,15 +20,20 @@ fn run_kind(r: &mut Reader, kind: &[u8], counts: &mut [u64; 48], bytes: &mut [u8
 }
 
 fn print_all(rt: &impl Print, counts: &[u64; 48]) {
-    tally::print_entry(rt, b"relation epsdelta ", counts, entries::EPSDELTA);
+    tally::print_entry(rt, b"relation epsdelta ", counts, Entry::Epsdelta.place());
     tally::print_entry(
         rt,
         b"relation epsdelta_bisimilar ",
         counts,
-        entries::EPSDELTA_BISIMILAR,
+        Entry::EpsdeltaBisimilar.place(),
     );
-    tally::print_entry(rt, b"relation min_epsilon ", counts, entries::MIN_EPSILON);
-    tally::print_entry(rt, b"related ", counts, entries::RELATED);
+    tally::print_entry(
+        rt,
+        b"relation min_epsilon ",
+        counts,
+        Entry::MinEpsilon.place(),
+    );
+    tally::print_entry(rt, b"related ", counts, Entry::Related.place());
     tally::print_end(rt, counts);
 }
 

@@ -1,5 +1,6 @@
 // The kinds `relation` and `related`.
-use crate::{entries, store};
+use crate::entries::Entry;
+use crate::store;
 use bisim_core::ids::StateId;
 use bisim_core::wlts::Wlts;
 use bisimilar::bisimilar::epsdelta_bisimilar;
@@ -24,7 +25,7 @@ struct Asked<'a> {
 fn check<F: FnOnce(&mut Reader, Asked, &mut [u8])>(
     r: &mut Reader,
     counts: &mut [u64; 48],
-    entry: usize,
+    entry: Entry,
     x: Asked,
     lent: &mut [u8],
     answer: F,
@@ -34,7 +35,7 @@ fn check<F: FnOnce(&mut Reader, Asked, &mut [u8])>(
     store::fill(lent, x.listed);
     answer(r, x, lent);
     store::expect(r, lent, x.listed.len());
-    r.count(counts, entry);
+    r.count(counts, entry.place());
 }
 
 fn run_epsdelta(r: &mut Reader, x: Asked, lent: &mut [u8]) {
@@ -74,16 +75,9 @@ fn run_lent(r: &mut Reader, counts: &mut [u64; 48], bytes: &mut [u8], left: Wlts
         listed: l.listed,
     };
     let lent = lists::front_mut(bytes, l.room);
-    check(r, counts, entries::EPSDELTA, x, lent, run_epsdelta);
-    check(
-        r,
-        counts,
-        entries::EPSDELTA_BISIMILAR,
-        x,
-        lent,
-        run_bisimilar,
-    );
-    check(r, counts, entries::MIN_EPSILON, x, lent, run_least);
+    check(r, counts, Entry::Epsdelta, x, lent, run_epsdelta);
+    check(r, counts, Entry::EpsdeltaBisimilar, x, lent, run_bisimilar);
+    check(r, counts, Entry::MinEpsilon, x, lent, run_least);
 }
 
 // Both models, and what comes after them.
@@ -106,5 +100,5 @@ pub fn run_related(r: &mut Reader, counts: &mut [u64; 48], bytes: &mut [u8]) {
     let lent = lists::front_mut(bytes, l.room);
     store::fill(lent, l.listed);
     r.expect_answer(related(left, right, lent, s, t));
-    r.count(counts, entries::RELATED);
+    r.count(counts, Entry::Related.place());
 }

@@ -5,40 +5,40 @@ use Rattle.min_epsilon.proofs.Halvings.{going_start, going_done, going_valid, go
 use Rattle.min_epsilon.proofs.least.bisect.Goals as goal
 
 pub loop-hi-init : goal.loop-hi-init
-loop-hi-init c = (c.requires.cleared, going_start (alike c.args.left.now c.args.right.now c.args.rho))
+loop-hi-init c = (c.requires.cleared, going_start (alike c.args.sides.now c.args.rho))
 
 pub holds-requires : goal.holds-requires
 holds-requires c =
     let a = c.args in
     let l = c.loop-hi in
-    allowed a.left.now a.right.now a.rho _ l.relation a.relation.now c.requires.unrefused (zero_length l.relation a.relation.now l.invariant.0)
-    (going_valid (alike a.left.now a.right.now a.rho) l.lo l.hi _ c.loop-hi-test.true refl l.invariant.1)
+    allowed a.sides.now a.rho _ l.relation a.relation.now c.requires.unrefused (zero_length l.relation a.relation.now l.invariant.0)
+    (going_valid (alike a.sides.now a.rho) l.lo l.hi _ c.loop-hi-test.true refl l.invariant.1)
 
 pub loop-hi-smaller-then-holds : goal.loop-hi-smaller-then-holds
 loop-hi-smaller-then-holds c =
     let a = c.args in
     let l = c.loop-hi in
-    fewer_lower (alike a.left.now a.right.now a.rho) l.lo l.hi _ c.loop-hi-test.true refl l.invariant.1
+    fewer_lower (alike a.sides.now a.rho) l.lo l.hi _ c.loop-hi-test.true refl l.invariant.1
 
 pub loop-hi-preserved-then-holds : goal.loop-hi-preserved-then-holds
 loop-hi-preserved-then-holds c =
     let a = c.args in
     let l = c.loop-hi in
     let r = c.holds in
-    (zero_again r.new.relation l.relation a.relation.now l.invariant.0 r.ensures.1, going_lower (alike a.left.now a.right.now a.rho) l.lo l.hi _ c.loop-hi-test.true refl l.invariant.1 r.result r.ensures.0 c.if-holds.true)
+    (zero_again r.new.relation l.relation a.relation.now l.invariant.0 r.ensures.1, going_lower (alike a.sides.now a.rho) l.lo l.hi _ c.loop-hi-test.true refl l.invariant.1 r.result r.ensures.0 c.if-holds.true)
 
 pub loop-hi-smaller : goal.loop-hi-smaller
 loop-hi-smaller c =
     let a = c.args in
     let l = c.loop-hi in
-    fewer_upper (alike a.left.now a.right.now a.rho) l.lo l.hi _ c.loop-hi-test.true refl l.invariant.1
+    fewer_upper (alike a.sides.now a.rho) l.lo l.hi _ c.loop-hi-test.true refl l.invariant.1
 
 pub loop-hi-preserved : goal.loop-hi-preserved
 loop-hi-preserved c =
     let a = c.args in
     let l = c.loop-hi in
     let r = c.holds in
-    (zero_again r.new.relation l.relation a.relation.now l.invariant.0 r.ensures.1, going_upper (alike a.left.now a.right.now a.rho) l.lo l.hi _ c.loop-hi-test.true refl l.invariant.1 r.result r.ensures.0 c.if-holds.false)
+    (zero_again r.new.relation l.relation a.relation.now l.invariant.0 r.ensures.1, going_upper (alike a.sides.now a.rho) l.lo l.hi _ c.loop-hi-test.true refl l.invariant.1 r.result r.ensures.0 c.if-holds.false)
 
 pub shape_of-relation : goal.shape_of-relation
 shape_of-relation c = zero_length c.loop-hi.relation c.args.relation.now c.loop-hi.invariant.0
@@ -46,4 +46,4 @@ shape_of-relation c = zero_length c.loop-hi.relation c.args.relation.now c.loop-
 pub returns : goal.returns
 returns c =
     let l = c.loop-hi in
-    (going_done (alike c.args.left.now c.args.right.now c.args.rho) l.lo l.hi l.invariant.1 c.loop-hi-test.false, l.invariant.0)
+    (going_done (alike c.args.sides.now c.args.rho) l.lo l.hi l.invariant.1 c.loop-hi-test.false, l.invariant.0)
