@@ -1,5 +1,5 @@
 -- Sweeps resumed at a place: each test of a pair, the end of a row and the end of a sweep lead from place to place as the definition goes on.
-use mathlib.Core.Path.{◌≡◌, refl, sym, ap, subst, subst⁻¹, ◌∙◌}
+use mathlib.Core.Path.{◌≡◌, refl, sym, ap, subst⁻¹, ◌∙◌}
 use Prim.Native.Nat.{ℕ, zero, suc, ◌+◌, ◌-◌, ◌*◌, ◌≤◌, ◌<◌}
 use mathlib.Core.Bool.{Bool, true, false, ◌&&◌, not, false≢true}
 use mathlib.Core.List.{List}
@@ -9,6 +9,8 @@ use native.Mathlib.Numerals.{add-one}
 use native.Mathlib.Nat.{mul-le-mul_right, suc-mul}
 use lib.Ieee.{Float, nan}
 use lib.ListN.{length, get_or}
+use Rattle.std.specs.Prelude.{⊤, Result, Ok, Err}
+use Rattle.std.specs.Result.{IsErrAnd}
 use Rattle.numbers.specs.Real.{is_zero}
 use Rattle.numbers.specs.Bits.{packed, unpack, bit_at, cleared}
 use Rattle.numbers.proofs.Bools.{one_if, lt_or_ge, and_f}
@@ -21,6 +23,11 @@ use Rattle.epsdelta_theory.proofs.TasksIn.{RowsFit, SweepsIn, Stored, test_in, R
 use Rattle.epsdelta_theory.proofs.Unchanged.{Noted, noted, noted_next, noted_strike, noted_row, noted_again, noted_start}
 use Rattle.flow_duality.proofs.Plenty.{Plenty, Even, even_strike}
 use Rattle.flow_duality.proofs.Places.{row_from, rows_from, ending, from_turn, At, Bytes, standing, Held, room, weight, Moves}
+use Rattle.epsdelta_sweeps.specs.declared.place.Asked.{Asked}
+use Rattle.epsdelta_sweeps.specs.declared.place.Place.{Place}
+use Rattle.epsdelta_sweeps.specs.declared.place.Terms.{Terms}
+use Rattle.epsdelta_sweeps.specs.declared.changes.Memory.{Memory}
+use Rattle.epsdelta_sweeps.specs.Leading.{Moving, FromTurn, ToEnd}
 use Rattle.epsdelta_sweeps.proofs.Noting.{noted_absent, noted_no_exit, noted_as}
 
 -- ---- what the definition still does
@@ -274,26 +281,10 @@ module _ {n : ℕ} {E : List Float} {S T : List ℕ} {P : List Float} {need plen
       → Moves n E S T P need plenty store₁ s₁ t₁ back₁ struck₁ asks₁ v store₂ C₂ s₂ t₂ back₂ struck₂ asks₂ → Moves n E S T P need plenty store s t back struck asks w store₂ C₂ s₂ t₂ back₂ struck₂ asks₂
   moves_then M h N = record { leads = λ Q K z a. N.leads Q K z (M.leads Q K z a); held = N.held; falls = (let f = M.falls in let g = N.falls in omega arith) }
 
--- a place that does not ask, by what is known of it
-module _ {n : ℕ} {E : List Float} {S T : List ℕ} {P : List Float} {need plenty : Float} {store : List ℕ} {s t : ℕ} {back struck asks : Bool} {w : ℕ} {store' C' : List ℕ} {s' t' : ℕ} {back' struck' asks' : Bool} where
-  pub resting : Moves n E S T P need plenty store s t back struck asks w store' C' s' t' back' struck' asks' → asks' ≡ false → {u v : ℕ} → (s' ≡ u) × (t' ≡ v) × (back' ≡ false)
-      → Moves n E S T P need plenty store s t back struck asks w store' C' u v false struck' false
-  resting M e {u} {v} (f, g, h) =
-      subst (λ (x : ℕ). Moves n E S T P need plenty store s t back struck asks w store' C' x v false struck' false) f
-      (subst (λ (x : ℕ). Moves n E S T P need plenty store s t back struck asks w store' C' s' x false struck' false) g
-      (subst (λ (x : Bool). Moves n E S T P need plenty store s t back struck asks w store' C' s' t' x struck' false) h
-      (subst (λ (x : Bool). Moves n E S T P need plenty store s t back struck asks w store' C' s' t' back' struck' x) e M)))
-
-  -- one that asks
-  pub asking : Moves n E S T P need plenty store s t back struck asks w store' C' s' t' back' struck' asks' → asks' ≡ true → Moves n E S T P need plenty store s t back struck asks w store' C' s' t' back' struck' true
-  asking M e = subst (λ (x : Bool). Moves n E S T P need plenty store s t back struck asks w store' C' s' t' back' struck' x) e M
-
--- the test that is asked for, by its direction
-pub by_back : {n : ℕ} {E : List Float} {S T : List ℕ} {P : List Float} {need plenty : Float} {store C : List ℕ} {s t : ℕ} {back b struck : Bool} {store' C' : List ℕ} {s' t' : ℕ} {back' struck' asks' : Bool} → back ≡ b
-    → (Held n E S T P need plenty store C s t b true → Moves n E S T P need plenty store s t b struck true (weight n store s t b struck) store' C' s' t' back' struck' asks')
-    → Held n E S T P need plenty store C s t back true → Moves n E S T P need plenty store s t back struck true (weight n store s t back struck) store' C' s' t' back' struck' asks'
-by_back {n} {E} {S} {T} {P} {need} {plenty} {store} {C} {s} {t} {back} {b} {struck} {store'} {C'} {s'} {t'} {back'} {struck'} {asks'} e f =
-    subst⁻¹ (λ (x : Bool). Held n E S T P need plenty store C s t x true → Moves n E S T P need plenty store s t x struck true (weight n store s t x struck) store' C' s' t' back' struck' asks') e f
+-- what a call hands on that asks
+pub handed : {A : Type 0} (X : Result A Asked → Type 0) (r : Result A Asked) {a : Asked} → IsErrAnd r (λ b. b ≡ a) → X (Err a) → X r
+handed X (Ok x) h p = absurd h
+handed X (Err b) h p = subst⁻¹ (λ c. X (Err c)) h p
 
 -- both orders are cleared, and the strike is noted
 struck_held : {n : ℕ} {E : List Float} {S T : List ℕ} {P : List Float} {need plenty : Float} → RowsFit n S T P → {store C : List ℕ} {s t : ℕ} {back : Bool} {store' C' : List ℕ} → Held n E S T P need plenty store C s t back true → store' ≡ cleared (cleared store (s * n + t)) (t * n + s) → C' ≡ noted C s t
@@ -452,18 +443,44 @@ module _ {n : ℕ} {E : List Float} {S T : List ℕ} {P : List Float} {need plen
     falls = subst⁻¹ (λ (b : Bool). weight n store 0 1 false false < weight n store s t false b) e (again_falls n store s t);
   }
 
+-- a sweep from the first pair leaves no more pairs, with one for a strike
+pub sweep_falls : (n : ℕ) (store store' : List ℕ) (s t : ℕ) (struck : Bool) → weight n store' s t false struck < weight n store 0 1 false false + 1 → standing n store' + one_if struck ≤ standing n store
+unfolding weight
+sweep_falls n store store' s t struck h = pick (lt_or_ge (standing n store) (standing n store' + one_if struck))
+  where
+    a : ℕ
+    a = standing n store' + one_if struck
+
+    c : ℕ
+    c = standing n store
+
+    w : ℕ
+    w = 2 * room n + 2
+
+    pick : (c < a) ⊎ (a ≤ c) → a ≤ c
+    pick (inr l) = l
+    pick (inl l) =
+        let e : (c + 1) * w ≡ c * w + w = ap (λ (m : ℕ). m * w) (add-one c) ∙ suc-mul c w in
+        let f : (c + 0) * w ≡ c * w = ap (λ (m : ℕ). m * w) (let z : c + 0 ≡ c = omega arith in z) in
+        let g : (c + 1) * w ≤ a * w = mul-le-mul_right w (omega arith) in
+        absurd (omega arith)
+
 -- a sweep that struck, and the next
 pub sweep_again : {n : ℕ} {E : List Float} {S T : List ℕ} {P : List Float} {need plenty : Float} → RowsFit n S T P
-    → {store : List ℕ} {s t : ℕ} {back struck asks : Bool} {w : ℕ} {store₁ C₁ : List ℕ} {s₁ t₁ : ℕ} {back₁ struck₁ asks₁ : Bool} {C' store₂ C₂ : List ℕ} {s₂ t₂ : ℕ} {back₂ struck₂ asks₂ : Bool}
-    → Moves n E S T P need plenty store s t back struck asks w store₁ C₁ s₁ t₁ back₁ struck₁ asks₁ → asks₁ ≡ false → (n ≤ s₁) × (n ≤ t₁) × (back₁ ≡ false) → struck₁ ≡ true
+    → {store : List ℕ} {s t : ℕ} {back struck asks : Bool} {w : ℕ} {store₁ C₁ : List ℕ} {s₁ t₁ : ℕ} {struck₁ : Bool} (C' : List ℕ) {store₂ C₂ : List ℕ} {s₂ t₂ : ℕ} {back₂ struck₂ asks₂ : Bool}
+    → Moves n E S T P need plenty store s t back struck asks w store₁ C₁ s₁ t₁ false struck₁ false → n ≤ s₁ → n ≤ t₁ → struck₁ ≡ true
     → length C' ≡ length C₁ → ((u : ℕ) → u < n → get_or C' (2 * u + 1) 0 ≡ get_or C₁ (2 * u) 0)
-    → (Held n E S T P need plenty store₁ C' 0 1 false false → Moves n E S T P need plenty store₁ 0 1 false false false (weight n store₁ 0 1 false false + 1) store₂ C₂ s₂ t₂ back₂ struck₂ asks₂)
-    → Moves n E S T P need plenty store s t back struck asks w store₂ C₂ s₂ t₂ back₂ struck₂ asks₂ × (weight n store₂ s₂ t₂ back₂ struck₂ < weight n store₁ s₁ t₁ back₁ struck₁)
-sweep_again {n} F {store₁ = store₁} {s₁ = s₁} {t₁ = t₁} {struck₁ = struck₁} {store₂ = store₂} {s₂ = s₂} {t₂ = t₂} {back₂ = back₂} {struck₂ = struck₂} M e (h, i, b) k z f g =
-    let N = resting M e (refl, refl, b) in
-    let A = sweep_ends F struck₁ h i k z f N.held in
-    let B = moves_then A (omega arith) (g A.held) in
-    (moves_then N (omega arith) B, subst⁻¹ (λ (x : Bool). weight n store₂ s₂ t₂ back₂ struck₂ < weight n store₁ s₁ t₁ x struck₁) b B.falls)
+    → Moves n E S T P need plenty store₁ 0 1 false false false (weight n store₁ 0 1 false false + 1) store₂ C₂ s₂ t₂ back₂ struck₂ asks₂
+    → Moves n E S T P need plenty store s t back struck asks w store₂ C₂ s₂ t₂ back₂ struck₂ asks₂
+sweep_again F {struck₁ = struck₁} C' M h i k z f N =
+    let A = sweep_ends F struck₁ h i k {C' = C'} z f M.held in
+    moves_then M (omega arith) (moves_then A (omega arith) N)
+
+-- from a place to the turn of another, and the sweeps from there
+pub ended_then : (terms : Terms) (old mid new : Memory) (p q : Place) (b asks : Bool) (w : ℕ) (r : Result ⊤ Asked) → Moving terms old p b asks w mid q.s q.t false q.struck false → ToEnd (FromTurn terms mid q new) terms.rows.states r
+    → ToEnd (Moving terms old p b asks w new) terms.rows.states r
+ended_then terms old mid new p q b asks w (Ok x) M E = (E.0, E.1, E.2, E.3, moves_then M (omega arith) E.4)
+ended_then terms old mid new p q b asks w (Err a) M N = moves_then M (omega arith) N
 
 -- ---- the run
 
@@ -471,8 +488,6 @@ module _ {n : ℕ} {E : List Float} {S T : List ℕ} {P : List Float} {need plen
   pub held_start : {store C : List ℕ} → Bytes n store → Plenty n S T P need plenty → Even n store → 2 * n < length C → get_or C (2 * n) 0 ≡ 0 → Held n E S T P need plenty store C 0 1 false false
   held_start B p e l f = record { bytes = B; noted = noted_start B.0 B.1 l f; even = e; enough = p; asked = unasked }
 
-  -- a place that does not ask, after a sweep without a strike, is the end
-  pub runs_to : {store₀ store C : List ℕ} {w s t : ℕ} {back struck asks : Bool} → Moves n E S T P need plenty store₀ 0 1 false false false w store C s t back struck asks
-      → asks ≡ false → (struck ≡ false) × (n ≤ s) × (n ≤ t) → RunsTo n E S T P need store₀ store
-  runs_to {store = store} {s = s} {t = t} {back = back} {struck = struck} M e (f, h, i) Q K x q k l =
-      at_over Q n K (sweeps Q k x) store s t struck h i f (subst (λ (b : Bool). At n Q (sweeps Q k x) store s t back struck b) e (M.leads Q K (sweeps Q k x) (at_start Q n K x q k l)))
+  -- past the last pair, after a sweep without a strike, is the end
+  pub runs_to : {store₀ store C : List ℕ} {w s t : ℕ} → Moves n E S T P need plenty store₀ 0 1 false false false w store C s t false false false → n ≤ s → n ≤ t → RunsTo n E S T P need store₀ store
+  runs_to {store = store} {s = s} {t = t} M h i Q K x q k l = at_over Q n K (sweeps Q k x) store s t false h i refl (M.leads Q K (sweeps Q k x) (at_start Q n K x q k l))

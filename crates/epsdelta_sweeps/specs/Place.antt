@@ -1,22 +1,8 @@
 -- Where sweeps stand, and what they write.
-use Rattle.std.specs.Prelude.{Bool, true, false, ◌&&◌, ◌≡◌, ⊤}
+use Rattle.std.specs.Prelude.{Bool, true, ◌&&◌, ◌≡◌, ⊤}
 use Rattle.flow_direct.specs.declared.reach.Ways.{Ways}
 use Rattle.flow_direct.specs.declared.reach.Ways.TheVariants as ways
-use Rattle.epsdelta_sweeps.specs.declared.place.Asks.{Asks}
-use Rattle.epsdelta_sweeps.specs.declared.place.Asks.TheVariants as asks
 use Rattle.epsdelta_sweeps.specs.declared.changes.Memory.{Memory}
-
--- whether a flow test is asked for
-abbrev pub waits : Asks → Bool
-waits asks.Nothing = false
-waits asks.Forth = true
-waits asks.Back = true
-
--- and whether it is the one back
-abbrev pub back : Asks → Bool
-back asks.Nothing = false
-back asks.Forth = false
-back asks.Back = true
 
 -- the same lent bytes of a relation
 abbrev pub Same : Memory → Memory → Type 0

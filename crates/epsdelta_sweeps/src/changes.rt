@@ -4,6 +4,7 @@ ghost use Rattle.std.specs.Prelude.{◌≡◌, ℕ, ◌≤◌, ◌<◌, ◌+◌,
 ghost use Rattle.numbers.specs.Bits.{bit_at, cleared};
 ghost use Rattle.epsdelta_theory.proofs.Unchanged.{Off, Told, Missed, QuietAt, Quiet, noted};
 ghost use Rattle.epsdelta_sweeps.specs.Place.{Same};
+ghost use Rattle.epsdelta_sweeps.specs.Leading.{Worded};
 ghost use Rattle.flow_links.proofs.RowsRead.{Fitting};
 
 use crate::rows::row;
@@ -17,11 +18,25 @@ pub(crate) struct Memory<'a> {
     pub(crate) changed: &'a mut [u64],
 }
 
-// Whether bit i of the relation is set.
-pub(crate) fn holds(memory: &Memory, i: usize) -> bool
-    ensures { result ≡ bit_at memory.now.relation.now i }
-{
-    bit(memory.relation, i)
+impl Memory<'_> {
+    // Whether the pair (s, t) of so many states stands.
+    pub(crate) fn holds(&self, states: usize, s: usize, t: usize) -> bool
+        requires { (states ≤ 2000) × (s < states) × (t < states) }
+        ensures { result ≡ bit_at self.now.relation.now (s * states + t) }
+    {
+        bit(self.relation, s * states + t)
+    }
+
+    // Strikes (s, t): both orders are cleared, and the strike is noted.
+    pub(crate) fn strike(&mut self, states: usize, s: usize, t: usize)
+        requires { Worded states self.old × (s < states) × (t < states) }
+        ensures { (self.new.relation.now ≡ cleared (cleared self.old.relation.now (s * states + t)) (t * states + s)) × (self.new.changed.now ≡ noted self.old.changed.now s t) × Same self.old self.new }
+    {
+        clear_bit(self.relation, s * states + t);
+        clear_bit(self.relation, t * states + s);
+        self.changed[2 * s] |= 1 << (t % 64);
+        self.changed[2 * t] |= 1 << (s % 64);
+    }
 }
 
 // The strikes of some states: the bits of those with any of them, in this sweep, and in the sweep before with one that is not below another.
@@ -43,7 +58,7 @@ fn not_below(u: usize, s: usize, word: u64) -> u64
 
 // The strikes of these targets, if all of them are states.
 fn strikes_of(row: &[u32], states: usize, memory: &Memory, s: usize) -> Option<Strikes>
-    requires { (states ≤ 2000) × (2 * states < length memory.now.changed.now) }
+    requires { Worded states memory.now }
     ensures { IfSome result (λ m. (i : ℕ) → i < length row.now → Told states memory.now.changed.now s (get_or row.now i 0) m.recent m.before) }
 {
     let mut recent = 0;
@@ -96,20 +111,9 @@ pub(crate) fn unchanged(rows: &Rows, memory: &Memory, s: usize, t: usize) -> boo
     }
 }
 
-// Strikes (s, t): both orders are cleared, and the strike is noted.
-pub(crate) fn strike(states: usize, memory: &mut Memory, s: usize, t: usize)
-    requires { (states ≤ 2000) × (2 * states < length memory.old.changed.now) × (s < states) × (t < states) }
-    ensures { (memory.new.relation.now ≡ cleared (cleared memory.old.relation.now (s * states + t)) (t * states + s)) × (memory.new.changed.now ≡ noted memory.old.changed.now s t) × Same memory.old memory.new }
-{
-    clear_bit(memory.relation, s * states + t);
-    clear_bit(memory.relation, t * states + s);
-    memory.changed[2 * s] |= 1 << (t % 64);
-    memory.changed[2 * t] |= 1 << (s % 64);
-}
-
 // A sweep is over: its strikes are those of the sweep before.
 pub(crate) fn fade(states: usize, memory: &mut Memory)
-    requires { (states ≤ 2000) × (2 * states < length memory.old.changed.now) }
+    requires { Worded states memory.old }
     ensures { ((u : ℕ) → u < states → get_or memory.new.changed.now (2 * u + 1) 0 ≡ get_or memory.old.changed.now (2 * u) 0) × (length memory.new.changed.now ≡ length memory.old.changed.now) × (memory.new.relation.now ≡ memory.old.relation.now) × Same memory.old memory.new }
 {
     for u in 0..states {

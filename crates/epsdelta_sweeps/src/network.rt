@@ -8,10 +8,11 @@ ghost use Rattle.flow_duality.proofs.Places.{Held, Moves, weight};
 ghost use Rattle.flow.specs.declared.network.FlowNetwork.{FlowNetwork};
 ghost use Rattle.flow.specs.Filled.{flow_rows};
 ghost use Rattle.flow_direct.specs.Reaches.{at_least};
-ghost use Rattle.epsdelta_sweeps.specs.Place.{waits, back, Same};
+ghost use Rattle.epsdelta_sweeps.specs.Place.{Same};
+ghost use Rattle.epsdelta_sweeps.specs.Leading.{Whole, Paired, passes_in, Answers, AtTest, FromTest, FromAsked, Past, ToEnd};
 
 use crate::changes::Memory;
-use crate::place::{Place, Terms};
+use crate::place::{Asked, Terms};
 use crate::rows::test;
 use crate::sweeps::settle;
 use flow::network::FlowNetwork;
@@ -35,37 +36,38 @@ pub(crate) struct LinkStore {
 pub(crate) struct Laid {
     places: usize,
     nodes: usize,
-    source: usize,
-    sink: usize,
+    ends: Ends,
 }
 
 // Writes the links of the flow test from s to t.
 fn lay_links(rows: &Rows, memory: &Memory, s: usize, t: usize, store: &mut LinkStore) -> Laid
-    requires { Fitting rows.now × (s < rows.now.states) × (t < rows.now.states) }
+    requires { Paired rows.now s t }
     ensures { (N : FlowNetwork) → length N.links ≡ 2176 → length N.list ≡ 2176 → (costs : List Float) → length costs ≡ 2046 → (need : Float) (R : List Bool) → memory.now.relation.now ≡ packed R
-        → test_in rows.now.states rows.now.starts.now rows.now.targets.now rows.now.probs.now need R s t ≡ at_least need (flow_rows N store.new.heads store.new.caps costs result.places result.nodes result.source result.sink).answer }
+        → passes_in rows.now need R s t ≡ at_least need (flow_rows N store.new.heads store.new.caps costs result.places result.nodes result.ends.source result.ends.sink).answer }
 {
     let test = test(rows, memory, s, t);
     let source = test.left.targets.len() + test.right.targets.len();
     Laid {
         places: write_links(&test, &mut store.heads, &mut store.caps).unwrap_or(0),
         nodes: source + 2,
-        source,
-        sink: source + 1,
+        ends: Ends {
+            source,
+            sink: source + 1,
+        },
     }
 }
 
 // Writes the links of the flow test that a place asks for.
-fn lay(rows: &Rows, memory: &Memory, p: Place, store: &mut LinkStore) -> Laid
-    requires { Fitting rows.now × (p.s < rows.now.states) × (p.t < rows.now.states) }
+fn lay(rows: &Rows, memory: &Memory, asked: Asked, store: &mut LinkStore) -> Laid
+    requires { Paired rows.now asked.at.s asked.at.t }
     ensures { (N : FlowNetwork) → length N.links ≡ 2176 → length N.list ≡ 2176 → (costs : List Float) → length costs ≡ 2046 → (need : Float) (R : List Bool) → memory.now.relation.now ≡ packed R
-        → (back p.asks ≡ false → test_in rows.now.states rows.now.starts.now rows.now.targets.now rows.now.probs.now need R p.s p.t ≡ at_least need (flow_rows N store.new.heads store.new.caps costs result.places result.nodes result.source result.sink).answer)
-        × (back p.asks ≡ true → test_in rows.now.states rows.now.starts.now rows.now.targets.now rows.now.probs.now need R p.t p.s ≡ at_least need (flow_rows N store.new.heads store.new.caps costs result.places result.nodes result.source result.sink).answer) }
+        → (asked.back ≡ false → passes_in rows.now need R asked.at.s asked.at.t ≡ at_least need (flow_rows N store.new.heads store.new.caps costs result.places result.nodes result.ends.source result.ends.sink).answer)
+        × (asked.back ≡ true → passes_in rows.now need R asked.at.t asked.at.s ≡ at_least need (flow_rows N store.new.heads store.new.caps costs result.places result.nodes result.ends.source result.ends.sink).answer) }
 {
-    if p.asks.back() {
-        return lay_links(rows, memory, p.t, p.s, store);
+    if asked.back {
+        return lay_links(rows, memory, asked.at.t, asked.at.s, store);
     }
-    lay_links(rows, memory, p.s, p.t, store)
+    lay_links(rows, memory, asked.at.s, asked.at.t, store)
 }
 
 // The flow test that a place asks for, on a network and rows that are lent.
@@ -73,18 +75,14 @@ fn asked_on(
     net: &mut FlowNetwork,
     rows: &Rows,
     memory: &Memory,
-    p: Place,
+    asked: Asked,
     store: &mut LinkStore,
 ) -> Result<Flow, Refusal>
-    requires { Fitting rows.now × (p.s < rows.now.states) × (p.t < rows.now.states) }
-    ensures { (need : Float) (R : List Bool) → memory.now.relation.now ≡ packed R → (back p.asks ≡ false → test_in rows.now.states rows.now.starts.now rows.now.targets.now rows.now.probs.now need R p.s p.t ≡ at_least need (numbered result)) × (back p.asks ≡ true → test_in rows.now.states rows.now.starts.now rows.now.targets.now rows.now.probs.now need R p.t p.s ≡ at_least need (numbered result)) }
+    requires { Paired rows.now asked.at.s asked.at.t }
+    ensures { Answers rows.now memory.now asked (numbered result) }
 {
     let _link = net.links[0]; // for the proof: a read tells how long the network's arrays are
-    let w = lay(rows, memory, p, store);
-    let ends = Ends {
-        source: w.source,
-        sink: w.sink,
-    };
+    let w = lay(rows, memory, asked, store);
     flow_rows(
         net,
         &mut store.heads,
@@ -92,8 +90,23 @@ fn asked_on(
         &mut store.costs,
         w.places,
         w.nodes,
-        ends,
+        w.ends,
     )
+}
+
+// The sweeps from the test that is asked for up to the next.
+fn answered(
+    net: &mut FlowNetwork,
+    terms: &Terms,
+    memory: &mut Memory,
+    asked: Asked,
+    store: &mut LinkStore,
+) -> Result<(), Asked>
+    requires { Whole terms.now.rows × AtTest terms.now memory.old asked }
+    ensures { ToEnd (FromTest terms.now memory.old asked.at asked.back memory.new) terms.now.rows.states result × Same memory.old memory.new }
+{
+    let answer = asked_on(net, &terms.rows, memory, asked, store);
+    settle(terms, memory, asked, answer)
 }
 
 // Sweeps from a place until one without a strike: each test that asks is made on the network that is lent.
@@ -102,17 +115,15 @@ fn run_on(
     terms: &Terms,
     memory: &mut Memory,
     store: &mut LinkStore,
-    first: Place,
-) -> Place
-    requires { Fitting terms.now.rows × (terms.now.rows.states ≤ length terms.now.rows.exits.now) × Held terms.now.rows.states terms.now.rows.exits.now terms.now.rows.starts.now terms.now.rows.targets.now terms.now.rows.probs.now terms.now.need terms.now.plenty memory.old.relation.now memory.old.changed.now first.s first.t (back first.asks) (waits first.asks) × (waits first.asks ≡ false → (first.struck ≡ false) × (terms.now.rows.states ≤ first.s) × (terms.now.rows.states ≤ first.t)) }
-    ensures { Moves terms.now.rows.states terms.now.rows.exits.now terms.now.rows.starts.now terms.now.rows.targets.now terms.now.rows.probs.now terms.now.need terms.now.plenty memory.old.relation.now first.s first.t (back first.asks) first.struck (waits first.asks) (weight terms.now.rows.states memory.old.relation.now first.s first.t (back first.asks) first.struck + 1) memory.new.relation.now memory.new.changed.now result.s result.t (back result.asks) result.struck (waits result.asks) × (waits result.asks ≡ false) × (result.struck ≡ false) × (terms.now.rows.states ≤ result.s) × (terms.now.rows.states ≤ result.t) × Same memory.old memory.new }
+    first: Asked,
+)
+    requires { Whole terms.now.rows × AtTest terms.now memory.old first }
+    ensures { Past (FromAsked terms.now memory.old first memory.new) terms.now.rows.states false × Same memory.old memory.new }
 {
-    let mut p = first;
-    while p.asks.waits() {
-        let answer = asked_on(net, &terms.rows, memory, p, store);
-        p = settle(terms, memory, p, answer);
+    let mut asked = first;
+    while let Err(next) = answered(net, terms, memory, asked, store) {
+        asked = next;
     }
-    p
 }
 
 // The same on a network that is handed in.
@@ -121,19 +132,19 @@ fn on_network(
     terms: &Terms,
     memory: &mut Memory,
     store: &mut LinkStore,
-    first: Place,
-) -> Place
-    requires { Fitting terms.now.rows × (terms.now.rows.states ≤ length terms.now.rows.exits.now) × Held terms.now.rows.states terms.now.rows.exits.now terms.now.rows.starts.now terms.now.rows.targets.now terms.now.rows.probs.now terms.now.need terms.now.plenty memory.old.relation.now memory.old.changed.now first.s first.t (back first.asks) (waits first.asks) × (waits first.asks ≡ false → (first.struck ≡ false) × (terms.now.rows.states ≤ first.s) × (terms.now.rows.states ≤ first.t)) }
-    ensures { Moves terms.now.rows.states terms.now.rows.exits.now terms.now.rows.starts.now terms.now.rows.targets.now terms.now.rows.probs.now terms.now.need terms.now.plenty memory.old.relation.now first.s first.t (back first.asks) first.struck (waits first.asks) (weight terms.now.rows.states memory.old.relation.now first.s first.t (back first.asks) first.struck + 1) memory.new.relation.now memory.new.changed.now result.s result.t (back result.asks) result.struck (waits result.asks) × (waits result.asks ≡ false) × (result.struck ≡ false) × (terms.now.rows.states ≤ result.s) × (terms.now.rows.states ≤ result.t) × Same memory.old memory.new }
+    first: Asked,
+)
+    requires { Whole terms.now.rows × AtTest terms.now memory.old first }
+    ensures { Past (FromAsked terms.now memory.old first memory.new) terms.now.rows.states false × Same memory.old memory.new }
 {
     let mut net = made;
     run_on(&mut net, terms, memory, store, first)
 }
 
 // The same on a network and rows that are made here.
-pub(crate) fn with_rows(terms: &Terms, memory: &mut Memory, first: Place) -> Place
-    requires { Fitting terms.now.rows × (terms.now.rows.states ≤ length terms.now.rows.exits.now) × Held terms.now.rows.states terms.now.rows.exits.now terms.now.rows.starts.now terms.now.rows.targets.now terms.now.rows.probs.now terms.now.need terms.now.plenty memory.old.relation.now memory.old.changed.now first.s first.t (back first.asks) (waits first.asks) × (waits first.asks ≡ false → (first.struck ≡ false) × (terms.now.rows.states ≤ first.s) × (terms.now.rows.states ≤ first.t)) }
-    ensures { Moves terms.now.rows.states terms.now.rows.exits.now terms.now.rows.starts.now terms.now.rows.targets.now terms.now.rows.probs.now terms.now.need terms.now.plenty memory.old.relation.now first.s first.t (back first.asks) first.struck (waits first.asks) (weight terms.now.rows.states memory.old.relation.now first.s first.t (back first.asks) first.struck + 1) memory.new.relation.now memory.new.changed.now result.s result.t (back result.asks) result.struck (waits result.asks) × (waits result.asks ≡ false) × (result.struck ≡ false) × (terms.now.rows.states ≤ result.s) × (terms.now.rows.states ≤ result.t) × Same memory.old memory.new }
+pub(crate) fn with_rows(terms: &Terms, memory: &mut Memory, first: Asked)
+    requires { Whole terms.now.rows × AtTest terms.now memory.old first }
+    ensures { Past (FromAsked terms.now memory.old first memory.new) terms.now.rows.states false × Same memory.old memory.new }
 {
     let mut store = LinkStore {
         heads: [0; 2046],

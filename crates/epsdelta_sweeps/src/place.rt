@@ -1,6 +1,5 @@
-// Where sweeps stand, and what they are asked for.
+// Where sweeps stand, and what they ask for.
 ghost use Rattle.std.specs.Prelude.{◌≡◌};
-ghost use Rattle.epsdelta_sweeps.specs.Place.{waits, back};
 
 use flow_links::rows::Rows;
 
@@ -12,39 +11,26 @@ pub(crate) struct Terms<'a> {
     pub(crate) plenty: f64,
 }
 
-// Which flow test of a pair is not known without a network.
-#[derive(Clone, Copy)]
-pub(crate) enum Asks {
-    Nothing,
-    Forth,
-    Back,
-}
-
-impl Asks {
-    pub(crate) fn waits(self) -> bool
-        ensures { result ≡ waits self }
-    {
-        match self {
-            Asks::Nothing => false,
-            Asks::Forth | Asks::Back => true,
-        }
-    }
-
-    pub(crate) fn back(self) -> bool
-        ensures { result ≡ back self }
-    {
-        match self {
-            Asks::Nothing | Asks::Forth => false,
-            Asks::Back => true,
-        }
-    }
-}
-
-// Where sweeps stand: the pair (s, t) whose turn it is, whether the sweep has struck, and which test is asked for.
+// Where sweeps stand: the pair (s, t) whose turn it is, and whether the sweep has struck.
 #[derive(Clone, Copy)]
 pub(crate) struct Place {
     pub(crate) s: usize,
     pub(crate) t: usize,
     pub(crate) struck: bool,
-    pub(crate) asks: Asks,
+}
+
+impl Place {
+    // Where a sweep begins.
+    pub(crate) const FIRST: Place = Place {
+        s: 0,
+        t: 1,
+        struck: false,
+    };
+}
+
+// A flow test of a place's pair that is not known without a network: the one from s to t, or the one back.
+#[derive(Clone, Copy)]
+pub(crate) struct Asked {
+    pub(crate) at: Place,
+    pub(crate) back: bool,
 }

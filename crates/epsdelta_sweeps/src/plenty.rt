@@ -1,7 +1,8 @@
 // How much flow is plenty: so much that the flow test back passes too.
 ghost use Rattle.std.specs.Prelude.{◌≡◌, true, ℕ, ◌≤◌, ◌<◌, ◌+◌, length, get_or};
-ghost use Rattle.flow_duality.proofs.Plenty.{Formed, Light, LightRow, Plenty, Between};
+ghost use Rattle.flow_duality.proofs.Plenty.{Formed, Light, Between};
 ghost use Rattle.flow_links.proofs.RowsRead.{Fitting};
+ghost use Rattle.epsdelta_sweeps.specs.Leading.{LightIn, Enough};
 
 use crate::place::Terms;
 use crate::rows::row;
@@ -22,7 +23,7 @@ fn light(targets: &[u32], rates: &[f64], states: usize) -> bool
 // True only if these are the jumps of s.
 fn light_row(rows: &Rows, s: usize) -> bool
     requires { Fitting rows.now × (s < rows.now.states) }
-    ensures { result ≡ true → LightRow rows.now.states rows.now.starts.now rows.now.targets.now rows.now.probs.now s }
+    ensures { result ≡ true → LightIn rows.now s }
 {
     let row = row(rows, s);
     light(row.targets, row.rates, rows.states)
@@ -31,7 +32,7 @@ fn light_row(rows: &Rows, s: usize) -> bool
 // True only if these are the jumps of all states.
 fn all_light(rows: &Rows) -> bool
     requires { Fitting rows.now }
-    ensures { result ≡ true → (s : ℕ) → s < rows.now.states → LightRow rows.now.states rows.now.starts.now rows.now.targets.now rows.now.probs.now s }
+    ensures { result ≡ true → (s : ℕ) → s < rows.now.states → LightIn rows.now s }
 {
     (0..rows.states).all(
         |s|
@@ -40,10 +41,10 @@ fn all_light(rows: &Rows) -> bool
     )
 }
 
-// SPARE more than what is needed, where all rows are such; else no flow is plenty.
+// SPARE more than what is needed, where all rows are such; else NaN, so that no flow is plenty.
 pub(crate) fn plenty_of(rows: &Rows, need: f64) -> f64
     requires { Fitting rows.now × Formed need }
-    ensures { Plenty rows.now.states rows.now.starts.now rows.now.targets.now rows.now.probs.now need result }
+    ensures { Enough rows.now need result }
 {
     if !all_light(rows) {
         return 0.0 / 0.0;
@@ -51,7 +52,7 @@ pub(crate) fn plenty_of(rows: &Rows, need: f64) -> f64
     need + SPARE
 }
 
-// Plenty, where the rows of s and t have at most ROW_MOST jumps each; else no flow is.
+// Plenty, where the rows of s and t have at most ROW_MOST jumps each; else NaN, so that no flow is.
 pub(crate) fn plenty_between(terms: &Terms, s: usize, t: usize) -> f64
     requires { (s + 1 < length terms.now.rows.starts.now) × (t + 1 < length terms.now.rows.starts.now) × (get_or terms.now.rows.starts.now s 0 ≤ get_or terms.now.rows.starts.now (s + 1) 0) × (get_or terms.now.rows.starts.now t 0 ≤ get_or terms.now.rows.starts.now (t + 1) 0) }
     ensures { Between (get_or terms.now.rows.starts.now s 0) (get_or terms.now.rows.starts.now (s + 1) 0) (get_or terms.now.rows.starts.now t 0) (get_or terms.now.rows.starts.now (t + 1) 0) terms.now.plenty result }

@@ -44,6 +44,7 @@ fn make(rows: &Rows, classes: &[u32], epsilon: f64, rho: f64, relation: &mut [u8
 
 // The relation of states with these rows, one class for each.
 // It is made if the lists can be read, and bytes past it are kept; else the answer is no, and the bytes are as they were.
+// Stays: no value goes with the answer, so an Option<()> in place of it says no more.
 pub fn relate(rows: &Rows, classes: &[u32], epsilon: f64, rho: f64, relation: &mut [u8]) -> bool
     ensures { (result ≡ readable rows.now.states classes.now rows.now.exits.now rows.now.starts.now rows.now.targets.now rows.now.probs.now (length relation.old))
         × (relation.new ≡ written result (relation_in rows.now.states classes.now rows.now.exits.now rows.now.starts.now rows.now.targets.now rows.now.probs.now epsilon rho) relation.old) }

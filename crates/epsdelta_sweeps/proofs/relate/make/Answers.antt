@@ -6,7 +6,7 @@ pub run-requires : goal.run-requires
 run-requires c =
     let a = c.args in
     let l = c.marks.new.relation in
-    record { rows_fit = (c.requires.0, c.requires.1, c.plenty_of-plenty.ensures, marks_even a.rows.now.states a.classes.now a.rows.now.exits.now a.rho l c.marks.ensures); relation_value = marks_bytes a.rows.now.states a.classes.now a.rows.now.exits.now a.rho l c.marks.ensures }
+    record { rows_fit = ((c.requires.0, c.requires.1), c.plenty_of-plenty.ensures, marks_even a.rows.now.states a.classes.now a.rows.now.exits.now a.rho l c.marks.ensures); relation_value = marks_bytes a.rows.now.states a.classes.now a.rows.now.exits.now a.rho l c.marks.ensures }
 
 pub returns : goal.returns
 returns c =

@@ -1,29 +1,50 @@
-use Rattle.std.proofs.Common.{rules}
-use mathlib.Core.Path.{refl, sym, ◌∙◌}
-use mathlib.Core.Bool.{true≢false}
+use mathlib.Core.Path.{◌≡◌, ap, subst, ◌∙◌}
+use mathlib.Core.Bool.{Bool}
 use native.Mathlib.Omega.{arith}
-use Rattle.epsdelta_sweeps.proofs.Resuming.{moves_then, sweep_again, sweep_ends, resting}
+use Rattle.numbers.proofs.Bools.{one_if}
+use Rattle.epsdelta_sweeps.specs.Leading.{FromTurn, Past, ToEnd}
+use Rattle.epsdelta_sweeps.proofs.Resuming.{handed, sweep_again, sweep_ends, sweep_falls}
 use Rattle.epsdelta_sweeps.proofs.sweeps.advance.Goals as goal
 
-pub sweep-p-requires-in-loop-p : goal.sweep-p-requires-in-loop-p
-sweep-p-requires-in-loop-p c =
-    let l = c.loop-p.invariant in
-    let e = (sym c.waits.ensures ∙ c.if-waits.false) in
-    let (h, i, b) = l.1 e in
-    (c.requires.0, c.requires.1, omega arith, omega arith, (λ k. omega arith), rw c.fade.ensures.2 ((sweep_ends c.requires.0 c.loop-p.p.struck h i c.loop-p-test.true c.fade.ensures.1 c.fade.ensures.0 (resting l.0 e (refl, refl, b)).held).held))
+pub loop-struck-init : goal.loop-struck-init
+loop-struck-init c = c.in_ok-struck.ensures
 
-pub loop-p-smaller : goal.loop-p-smaller
-loop-p-smaller c = let l = c.loop-p.invariant in (sweep_again c.requires.0 {C' = c.fade.new.memory.changed.now} l.0 (sym c.waits.ensures ∙ c.if-waits.false) (l.1 (sym c.waits.ensures ∙ c.if-waits.false)) c.loop-p-test.true c.fade.ensures.1 c.fade.ensures.0 (λ _. rw c.fade.ensures.2 at c.sweep-p-in-loop-p.ensures.0)).1
+pub fade-requires : goal.fade-requires
+fade-requires c = (c.requires.0.0.few, c.loop-struck.invariant.0.4.held.noted.long)
 
-pub loop-p-preserved : goal.loop-p-preserved
-loop-p-preserved c =
-    let l = c.loop-p.invariant in
-    ((sweep_again c.requires.0 {C' = c.fade.new.memory.changed.now} l.0 (sym c.waits.ensures ∙ c.if-waits.false) (l.1 (sym c.waits.ensures ∙ c.if-waits.false)) c.loop-p-test.true c.fade.ensures.1 c.fade.ensures.0 (λ _. rw c.fade.ensures.2 at c.sweep-p-in-loop-p.ensures.0)).0, c.sweep-p-in-loop-p.ensures.1, search rules)
+pub sweep-requires-in-loop-struck : goal.sweep-requires-in-loop-struck
+sweep-requires-in-loop-struck c =
+    let l = c.loop-struck.invariant.0 in
+    (c.requires.0, omega arith, omega arith, (λ k. omega arith), rw c.fade.ensures.2 ((sweep_ends c.requires.0.0 c.loop-struck.struck l.2 l.3 c.loop-struck-test.true c.fade.ensures.1 c.fade.ensures.0 l.4.held).held))
+
+pub returns-in_err-struck-2 : goal.returns-in_err-struck-2
+returns-in_err-struck-2 c =
+    let a = c.args in
+    let i = c.loop-struck.invariant in
+    let l = i.0 in
+    let N = rw c.fade.ensures.2 at c.in_err-struck-2.ensures.0 in (
+      handed (ToEnd (FromTurn a.terms.now a.memory.now a.at c.sweep-in-loop-struck.new.memory) a.terms.now.rows.states) _ c.from_residual-in_err-struck-2.ensures.1
+          (sweep_again c.requires.0.0 c.fade.new.memory.changed.now l.4 l.2 l.3 c.loop-struck-test.true c.fade.ensures.1 c.fade.ensures.0 N),
+      c.sweep-in-loop-struck.ensures.1 ∙ c.fade.ensures.3 ∙ i.1,
+    )
+
+pub loop-struck-smaller : goal.loop-struck-smaller
+loop-struck-smaller c =
+    let P = c.in_ok-struck-2.ensures.0 in
+    let e : one_if c.loop-struck.struck ≡ 1 = ap one_if c.loop-struck-test.true in
+    let f = rw c.fade.ensures.2 at (sweep_falls c.args.terms.now.rows.states c.fade.new.memory.relation.now c.sweep-in-loop-struck.new.memory.relation.now P.0 P.1 c.in_ok-struck-2.struck P.4.falls) in
+    omega arith
+
+pub loop-struck-preserved : goal.loop-struck-preserved
+loop-struck-preserved c =
+    let i = c.loop-struck.invariant in
+    let l = i.0 in
+    let P = c.in_ok-struck-2.ensures.0 in
+    let N = rw c.fade.ensures.2 at P.4 in
+    ((P.0, P.1, P.2, P.3, sweep_again c.requires.0.0 c.fade.new.memory.changed.now l.4 l.2 l.3 c.loop-struck-test.true c.fade.ensures.1 c.fade.ensures.0 N), c.sweep-in-loop-struck.ensures.1 ∙ c.fade.ensures.3 ∙ i.1)
 
 pub returns : goal.returns
 returns c =
-    let l = c.loop-p.invariant in
-    (moves_then c.sweep-p.ensures.0 (omega arith) l.0, (λ q. let r = l.1 q in (c.loop-p-test.false, r.0, r.1)), search rules)
-
-pub returns-then-waits : goal.returns-then-waits
-returns-then-waits c = (moves_then c.sweep-p.ensures.0 (omega arith) c.loop-p.invariant.0, (λ q. absurd (true≢false (sym c.if-waits.true ∙ c.waits.ensures ∙ q))), search rules)
+    let a = c.args in
+    let i = c.loop-struck.invariant in
+    (subst (λ (b : Bool). Past (FromTurn a.terms.now a.memory.now a.at c.loop-struck.memory) a.terms.now.rows.states b) c.loop-struck-test.false i.0, i.1)

@@ -1,18 +1,45 @@
--- `sweeps::tested` meets its contract: the test back or the other, by what the place says, or the pair's turn is over where both pass (Resuming).
-use mathlib.Core.Path.{refl, sym, ◌∙◌}
-use Rattle.epsdelta_sweeps.proofs.Resuming.{by_back, both_pass}
+-- `sweeps::tested` meets its contract: the test back or the other, by what was asked for, or the pair's turn is over where both pass (Resuming, Turns).
+use mathlib.Core.Path.{refl, sym, subst⁻¹, ◌∙◌}
+use mathlib.Core.Bool.{Bool, true, false}
+use Prim.Native.Nat.{◌+◌}
+use Rattle.numbers.specs.Refuse.{numbered}
+use Rattle.epsdelta_sweeps.specs.Leading.{Holding, FromTest, ToTurn}
+use Rattle.epsdelta_sweeps.proofs.Resuming.{both_pass}
+use Rattle.epsdelta_sweeps.proofs.Turns.{ample_in}
 use Rattle.epsdelta_sweeps.proofs.sweeps.tested.Goals as goal
 
-pub returns-then-back : goal.returns-then-back
-returns-then-back c =
-    let b = sym c.back.ensures ∙ c.if-back.true in (
-      (λ E plenty H f g. by_back b (λ G. c.tested_back.ensures.0 E c.args.terms.now.rows.starts.now c.args.terms.now.rows.targets.now c.args.terms.now.rows.probs.now c.args.terms.now.need plenty c.requires.0 G (λ R e. (f R e).1 b)) H),
-      (λ _. (c.tested_back.ensures.1, c.tested_back.ensures.2, c.tested_back.ensures.3)),
-      c.tested_back.ensures.4,
+pub returns-then-asked : goal.returns-then-asked
+returns-then-asked c =
+    let p = c.requires in
+    let w = c.args.terms.now in
+    let m = c.args.memory.now in
+    let q = c.args.asked.at in
+    let b = c.if-asked.true in (
+      subst⁻¹ (λ (x : Bool). Holding w m q x true → FromTest w m q x c.tested_back.new.memory q.s (q.t + 1) false c.tested_back.result false) b
+          (λ H. c.tested_back.ensures.0 H (λ R e. (p.3 w.need R e).1 b ∙ sym c.enough-passes.ensures)) p.2,
+      c.tested_back.ensures.1,
     )
 
-pub returns-then-both : goal.returns-then-both
-returns-then-both c = let b = sym c.back.ensures ∙ c.if-back.false in ((λ E plenty H f g. by_back b (λ G. both_pass c.requires.0 c.args.at.struck G (g c.if-both.true b)) H), (λ _. (refl, refl, refl)), refl)
+pub returns-then-ample : goal.returns-then-ample
+returns-then-ample c =
+    let p = c.requires in
+    let w = c.args.terms.now in
+    let m = c.args.memory.now in
+    let q = c.args.asked.at in
+    let b = c.if-asked.false in (
+      subst⁻¹ (λ (x : Bool). Holding w m q x true → FromTest w m q x m q.s (q.t + 1) false q.struck false) b
+          (λ H. both_pass p.0.0 q.struck H (λ R e. ample_in p.0.0 w.need w.plenty p.2.enough m.relation.now R e p.2.even q.s q.t (numbered c.args.answer) p.0.1 p.0.2 (c.ample.ensures c.if-ample.true) ((p.3 w.plenty R e).0 b))) p.2,
+      refl,
+    )
 
 pub returns : goal.returns
-returns c = let b = sym c.back.ensures ∙ c.if-back.false in ((λ E plenty H f g. by_back b (λ G. c.tested_forth.ensures.0 E plenty G (λ R e. (f R e).0 b)) H), c.tested_forth.ensures.1, c.tested_forth.ensures.2)
+returns c =
+    let p = c.requires in
+    let w = c.args.terms.now in
+    let m = c.args.memory.now in
+    let q = c.args.asked.at in
+    let b = c.if-asked.false in (
+      subst⁻¹ (λ (x : Bool). Holding w m q x true → ToTurn (FromTest w m q x c.tested_forth.new.memory) q.s (q.t + 1) c.tested_forth.result) b
+          (λ H. c.tested_forth.ensures.0 H (λ R e. (p.3 w.need R e).0 b ∙ sym c.enough-passes.ensures)) p.2,
+      c.tested_forth.ensures.1,
+    )

@@ -2,7 +2,7 @@ use mathlib.Core.Path.{refl, ap, ◌∙◌}
 use mathlib.Core.List.{List}
 use Prim.Native.Nat.{ℕ, ◌+◌, ◌*◌}
 use Rattle.numbers.specs.Bits.{cleared}
-use Rattle.epsdelta_sweeps.proofs.changes.strike.Goals as goal
+use Rattle.epsdelta_sweeps.proofs.changes.Memory.strike.Goals as goal
 
 pub returns : goal.returns
 returns c = (c.clear_bit-2.ensures ∙ ap (λ (l : List ℕ). cleared l (c.args.t * c.args.states + c.args.s)) c.clear_bit.ensures, refl, refl)

@@ -1,0 +1,122 @@
+-- The words of the contracts of sweeps: what holds at a place, and what leads from one to another, of the terms and the memory of a run.
+use mathlib.Core.Path.{◌≡◌}
+use Prim.Native.Nat.{ℕ, ◌+◌, ◌*◌, ◌≤◌, ◌<◌}
+use mathlib.Core.Bool.{Bool, true, false}
+use mathlib.Core.List.{List}
+use lib.Ieee.{Float}
+use lib.ListN.{length}
+use Rattle.std.specs.Prelude.{⊤, Result, Ok, Err}
+use Rattle.numbers.specs.Bits.{packed}
+use Rattle.epsdelta_theory.proofs.TasksIn.{test_in, RunsTo}
+use Rattle.flow_duality.proofs.Plenty.{Plenty, Even, LightRow}
+use Rattle.flow_duality.proofs.Places.{Held, Moves, weight}
+use Rattle.flow_links.proofs.RowsRead.{Fitting}
+use Rattle.flow_links.specs.declared.rows.Rows.{Rows}
+use Rattle.flow_core.specs.declared.Flow.{Flow}
+use Rattle.flow_direct.specs.Reaches.{at_least}
+use Rattle.epsdelta_sweeps.specs.declared.place.Place.{Place}
+use Rattle.epsdelta_sweeps.specs.declared.place.Asked.{Asked}
+use Rattle.epsdelta_sweeps.specs.declared.place.Terms.{Terms}
+use Rattle.epsdelta_sweeps.specs.declared.changes.Memory.{Memory}
+
+-- ---- rows
+
+-- rows that can be read, with an exit rate for each state
+abbrev pub Whole : Rows → Type 0
+Whole rows = Fitting rows × (rows.states ≤ length rows.exits.now)
+
+-- the same, and two of their states
+abbrev pub Paired : Rows → ℕ → ℕ → Type 0
+Paired rows s t = Fitting rows × (s < rows.states) × (t < rows.states)
+
+-- whether the flow test from s to t passes against a relation
+abbrev pub passes_in : Rows → Float → List Bool → ℕ → ℕ → Bool
+passes_in rows need R s t = test_in rows.states rows.starts.now rows.targets.now rows.probs.now need R s t
+
+-- the jumps of s are to states, with rates that are shares
+abbrev pub LightIn : Rows → ℕ → Type 0
+LightIn rows s = LightRow rows.states rows.starts.now rows.targets.now rows.probs.now s
+
+-- so much flow is plenty
+abbrev pub Enough : Rows → Float → Float → Type 0
+Enough rows need plenty = Plenty rows.states rows.starts.now rows.targets.now rows.probs.now need plenty
+
+-- ---- the memory
+
+-- the words of strikes of so many states
+abbrev pub Worded : ℕ → Memory → Type 0
+Worded states memory = (states ≤ 2000) × (2 * states < length memory.changed.now)
+
+-- how the flow test from s to t ended, against whatever relation the bytes are
+abbrev pub Tested : Terms → Memory → ℕ → ℕ → Bool → Type 0
+Tested terms memory s t b = (R : List Bool) → memory.relation.now ≡ packed R → passes_in terms.rows terms.need R s t ≡ b
+
+-- an answer says whether the flow of the test that is asked for is enough
+abbrev pub Answers : Rows → Memory → Asked → Result Flow ℕ → Type 0
+Answers rows memory a answer = (need : Float) (R : List Bool) → memory.relation.now ≡ packed R
+    → (a.back ≡ false → passes_in rows need R a.at.s a.at.t ≡ at_least need answer) × (a.back ≡ true → passes_in rows need R a.at.t a.at.s ≡ at_least need answer)
+
+-- what holds at a place, where it is the turn of its pair, or a flow test of it is asked for
+abbrev pub Holding : Terms → Memory → Place → Bool → Bool → Type 0
+Holding terms memory p back asks = Held terms.rows.states terms.rows.exits.now terms.rows.starts.now terms.rows.targets.now terms.rows.probs.now terms.need terms.plenty memory.relation.now memory.changed.now p.s p.t back asks
+
+abbrev pub AtTurn : Terms → Memory → Place → Type 0
+AtTurn terms memory p = Holding terms memory p false false
+
+abbrev pub AtTest : Terms → Memory → Asked → Type 0
+AtTest terms memory a = Holding terms memory a.at a.back true
+
+-- the rows can be read, and the pair at the place is that of a state and a higher one, or of none where the sweep is over
+abbrev pub Sweepable : Terms → Memory → Place → Type 0
+Sweepable terms memory p = Whole terms.rows × (p.s < p.t) × (p.s ≤ terms.rows.states) × (p.s < terms.rows.states → p.t ≤ terms.rows.states) × AtTurn terms memory p
+
+-- ---- from place to place
+
+-- what is left from a place
+abbrev pub left : Terms → Memory → Place → Bool → ℕ
+left terms memory p back = weight terms.rows.states memory.relation.now p.s p.t back p.struck
+
+-- from a place to the pair (s, t), with less than w left
+abbrev pub Moving : Terms → Memory → Place → Bool → Bool → ℕ → Memory → ℕ → ℕ → Bool → Bool → Bool → Type 0
+Moving terms old p b asks w new s t c struck d = Moves terms.rows.states terms.rows.exits.now terms.rows.starts.now terms.rows.targets.now terms.rows.probs.now terms.need terms.plenty old.relation.now p.s p.t b p.struck asks w new.relation.now new.changed.now s t c struck d
+
+-- from the turn of its pair
+abbrev pub FromTurn : Terms → Memory → Place → Memory → ℕ → ℕ → Bool → Bool → Bool → Type 0
+FromTurn terms old p new s t c struck d = Moving terms old p false false (left terms old p false + 1) new s t c struck d
+
+-- from how a flow test of it ended
+abbrev pub FromTest : Terms → Memory → Place → Bool → Memory → ℕ → ℕ → Bool → Bool → Bool → Type 0
+FromTest terms old p b new s t c struck d = Moving terms old p b true (left terms old p b) new s t c struck d
+
+-- from where it is asked for
+abbrev pub FromAsked : Terms → Memory → Asked → Memory → ℕ → ℕ → Bool → Bool → Bool → Type 0
+FromAsked terms old a new s t c struck d = Moving terms old a.at a.back true (left terms old a.at a.back + 1) new s t c struck d
+
+-- to the turn of (s, t), or to a flow test that is asked for
+abbrev pub ToTurn : (ℕ → ℕ → Bool → Bool → Bool → Type 0) → ℕ → ℕ → Result Bool Asked → Type 0
+ToTurn F s t (Ok struck) = F s t false struck false
+ToTurn F s t (Err a) = F a.at.s a.at.t a.back a.at.struck true
+
+-- past the last pair of n states
+abbrev pub Past : (ℕ → ℕ → Bool → Bool → Bool → Type 0) → ℕ → Bool → Type 0
+Past F n struck = (s : ℕ) × (t : ℕ) × (n ≤ s) × (n ≤ t) × F s t false struck false
+
+-- to the end of a sweep over n states
+abbrev pub ToSweepEnd : (ℕ → ℕ → Bool → Bool → Bool → Type 0) → ℕ → Result Bool Asked → Type 0
+ToSweepEnd F n (Ok struck) = Past F n struck
+ToSweepEnd F n (Err a) = F a.at.s a.at.t a.back a.at.struck true
+
+-- to the end of one without a strike
+abbrev pub ToEnd : (ℕ → ℕ → Bool → Bool → Bool → Type 0) → ℕ → Result ⊤ Asked → Type 0
+ToEnd F n (Ok _) = Past F n false
+ToEnd F n (Err a) = F a.at.s a.at.t a.back a.at.struck true
+
+-- ---- a run
+
+-- the bytes are those of a symmetric relation, and so much flow is plenty
+abbrev pub Runnable : Terms → List ℕ → Type 0
+Runnable terms store = Whole terms.rows × Enough terms.rows terms.need terms.plenty × Even terms.rows.states store
+
+-- they are those that the definition's sweeps come to
+abbrev pub RunsIn : Terms → List ℕ → List ℕ → Type 0
+RunsIn terms old new = RunsTo terms.rows.states terms.rows.exits.now terms.rows.starts.now terms.rows.targets.now terms.rows.probs.now terms.need old new
