@@ -3,21 +3,15 @@ ghost use Rattle.std.specs.Prelude.{◌≡◌, true, ◌+◌, ◌*◌, ◌≤◌
 ghost use Rattle.card_layout.specs.Layout;
 ghost use Rattle.card_layout.specs.Layout.{value};
 
-const SPACE: u8 = 32;
-
-const ZERO: u8 = 48;
-
-const LINE_FEED: u8 = 10;
-
 // The byte at the place of the power p: a space above the first digit, else a digit.
 fn place(p: u32, n: u32) -> u8
     requires { 0 < p }
     ensures { result ≡ Layout.place p n }
 {
     if n < p {
-        return SPACE;
+        return b' ';
     }
-    ZERO + (n / p % 10) as u8
+    b'0' + (n / p % 10) as u8
 }
 
 // The six bytes of a number; of one over 999,999 its last six digits.
@@ -30,7 +24,7 @@ pub fn column(n: u32) -> [u8; 6]
         place(1000, n),
         place(100, n),
         place(10, n),
-        ZERO + (n % 10) as u8,
+        b'0' + (n % 10) as u8,
     ]
 }
 
@@ -38,7 +32,7 @@ pub fn column(n: u32) -> [u8; 6]
 fn digit(s: &[u8], i: usize) -> u32
     ensures { (result ≡ Layout.digit (get_or s.now i 0)) × (result ≤ 207) }
 {
-    s.get(i).map_or(0, |b| u32::from(b.saturating_sub(ZERO)))
+    s.get(i).map_or(0, |b| u32::from(b.saturating_sub(b'0')))
 }
 
 // The number in the six bytes at `at`; 0 past the end.
@@ -72,7 +66,7 @@ fn line_laid(bytes: &[u8], k: usize) -> bool
         }
         rest = &rest[6..];
     }
-    rest.starts_with(&[LINE_FEED])
+    rest.starts_with(b"\n")
 }
 
 // The n lines of k columns that the bytes begin with are as laid out.
