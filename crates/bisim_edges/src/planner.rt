@@ -81,6 +81,24 @@ fn plan_in(
     Ok((edges, count))
 }
 
+// `plan` of at most N transitions.
+fn plan_with<const N: usize>(
+    draft: &Draft,
+    short: bool,
+    label_values: &mut [u32],
+    triples: &mut [u64],
+    edge_weights: &mut [f64],
+) -> Result<(usize, usize), Refusal>
+    requires { (draft.now.given ≤ N) × (N ≤ 4096) }
+    ensures { ending (numbered result) (lists label_values.new triples.new edge_weights.new)
+        ≡ planned rank draft.now.states draft.now.initial (transitions_of draft.now) draft.now.given short
+        (lists label_values.old triples.old edge_weights.old) }
+{
+    let mut store = [0u64; N];
+    let keys = &mut store[..draft.given];
+    plan_in(draft, short, label_values, triples, edge_weights, keys)
+}
+
 // How many edges and how many labels the draft makes, its transitions in order: label values by id, triples of source, label id and target, and weights go over the front of the last three lists, each of which needs as many entries as there are transitions.
 // Turned back with the first of checks 3 to 7 that fails, 7 also where the caller has a short list: then the lists are left as they were.
 pub fn plan(
@@ -99,11 +117,8 @@ pub fn plan(
         return Err(Refusal::ModelSize);
     }
     if given <= 256 {
-        let mut store = [0u64; 256];
-        let keys = &mut store[..given];
-        return plan_in(draft, short, label_values, triples, edge_weights, keys);
+        plan_with::<256>(draft, short, label_values, triples, edge_weights)
+    } else {
+        plan_with::<4096>(draft, short, label_values, triples, edge_weights)
     }
-    let mut store = [0u64; 4096];
-    let keys = &mut store[..given];
-    plan_in(draft, short, label_values, triples, edge_weights, keys)
 }

@@ -73,8 +73,6 @@ pub fn label_id(model: &Wlts, value: u32) -> Result<Option<LabelId>, Refusal>
     ensures { numbered result ≡ label_id model.now.shape (columns_of model.now) value }
 {
     checked(model)?;
-    match seek(&model.label_values[..model.shape.labels], value) {
-        Some(at) => Ok(Some(LabelId(at as u32))),
-        None => Ok(None),
-    }
+    let place = seek(&model.label_values[..model.shape.labels], value);
+    Ok(place.map(|at| LabelId(at as u32)))
 }

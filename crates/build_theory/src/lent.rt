@@ -2,6 +2,7 @@
 use bisim_core::ids::StateId;
 
 // The model asked for: its state count and initial state, and its transitions, column by column, of which the first `given` count.
+// Stays: the C interface lends columns with room for more, and `given` may be too large.
 #[derive(Clone, Copy, Debug)]
 pub struct Draft<'a> {
     pub states: usize,

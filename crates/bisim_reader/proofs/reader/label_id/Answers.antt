@@ -1,10 +1,12 @@
 -- A model that passes has as many label values as it counts; a value is listed if it has a place among them.
-use Rattle.std.proofs.Common.{sym, ap, ◌∙◌, Ok, take, arith}
+use Rattle.std.proofs.Common.{rules, sym, ap, ◌∙◌, Ok, take, arith}
+use borrow.Author.Tests.{tests}
 use lib.Seq.{length-take-le}
 use Rattle.numbers.proofs.Refuses.{answered_ok}
 use Rattle.bisim_core.specs.Data.{columns_of}
 use Rattle.bisim_core.specs.Model.{label_id}
-use Rattle.bisim_reader.proofs.Answers.{passed, id_found, id_absent, id_below}
+use Rattle.bisim_core.proofs.Interning.{id_at}
+use Rattle.bisim_reader.proofs.Answers.{passed}
 use Rattle.bisim_reader.proofs.reader.label_id.Goals as goal
 
 pub slice_bounds-seek-end : goal.slice_bounds-seek-end
@@ -12,19 +14,8 @@ slice_bounds-seek-end c =
     let M = c.args.model.now in
     sym (length-take-le M.shape.labels M.label_values.now (passed M.shape (columns_of M) (sym c.in_ok-checked.ensures.refusal)).1.room.labels_in)
 
-pub overflow_cast-result : goal.overflow_cast-result
-overflow_cast-result c =
-    let M = c.args.model.now in
-    let p = passed M.shape (columns_of M) (sym c.in_ok-checked.ensures.refusal) in
-    let s = p.0.labels_in in
-    let l = length-take-le M.shape.labels M.label_values.now p.1.room.labels_in in
-    let h = id_below c.args.value c.in-Some.at (take M.shape.labels M.label_values.now) (sym c.in-Some.is ∙ c.seek.ensures) in
-    record { fits = omega arith }
-
-pub returns-in-Some : goal.returns-in-Some
+pub returns : goal.returns
 unfolding label_id
-returns-in-Some c = ap Ok (id_found c.args.value _ (take c.args.model.now.shape.labels c.args.model.now.label_values.now) (sym c.in-Some.is ∙ c.seek.ensures)) ∙ answered_ok _ _ c.in_ok-checked.ensures.refusal
-
-pub returns-in-None : goal.returns-in-None
-unfolding label_id
-returns-in-None c = ap Ok (id_absent c.args.value (take c.args.model.now.shape.labels c.args.model.now.label_values.now) (sym c.in-None.is ∙ c.seek.ensures)) ∙ answered_ok _ _ c.in_ok-checked.ensures.refusal
+returns c =
+    let l = take c.args.model.now.shape.labels c.args.model.now.label_values.now in
+    ap Ok (id_at c.args.value l _ _ c.map.ensures.cases (λ i y q. search (rules, tests)) c.seek-place.ensures) ∙ answered_ok _ _ c.in_ok-checked.ensures.refusal
