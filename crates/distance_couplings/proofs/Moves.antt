@@ -2,7 +2,8 @@
 use mathlib.Core.Path.{◌≡◌, refl, sym, ap, ap₂, ◌∙◌}
 use Prim.Native.Nat.{ℕ, ◌*◌, ◌≤◌, ◌<◌}
 use mathlib.Core.Bool.{Bool, true, false, not, ◌&&◌, true≢false}
-use Rattle.std.specs.Result.{is_ok}
+use Rattle.std.specs.Result.{is_ok, result_ok}
+use Rattle.std.specs.Option.{is_some}
 use mathlib.Core.List.{List, map}
 use native.Mathlib.Omega.{arith}
 use native.Mathlib.Nat.{mul-le-mul}
@@ -17,7 +18,7 @@ use Rattle.numbers.proofs.Refuses.{check_skip}
 use Rattle.transport_theory.specs.Transport.{Cell, Transport, transport}
 use Rattle.transport_theory.specs.Refusal.{short}
 use Rattle.transport.specs.Outcome.{Outcome, ends, settled, size_refusal, transport_sized}
-use Rattle.std.specs.Prelude.{Result, Ok, Err}
+use Rattle.std.specs.Prelude.{Result, Ok, Err, Option, Some, None}
 use Rattle.numbers.specs.declared.refusal.Refusal.{Refusal}
 use Rattle.numbers.specs.Refuse.{numbered}
 use Rattle.transport.specs.declared.plan.Plan.{Plan}
@@ -31,6 +32,19 @@ use Rattle.distance_theory.proofs.Bests.{Look, ats, parts, independent_by, best_
 abbrev plan_of : Result Plan ℕ → Plan
 plan_of (Ok p) = p
 plan_of (Err k) = record { total = nought; cells = 0 }
+
+abbrev plan_in : Option Plan → Plan
+plan_in (Some p) = p
+plan_in None = record { total = nought; cells = 0 }
+
+-- what is there where an answer is taken without its refusal
+pub ok_is : (r : Result Plan Refusal) {o : Option Plan} {p : Plan} → o ≡ result_ok r → o ≡ Some p → r ≡ Ok p
+ok_is (Ok q) {o} {p} e f = let g : Option Plan → Result Plan Refusal = λ u. Ok (plan_in u) in ap g (sym e ∙ f)
+ok_is (Err k) e f = absurd (true≢false (ap is_some (sym f ∙ e)))
+
+pub err_is : (r : Result Plan Refusal) {o : Option Plan} → o ≡ result_ok r → o ≡ None → (k : Refusal) × (r ≡ Err k)
+err_is (Ok q) e f = absurd (true≢false (ap is_some (sym e ∙ f)))
+err_is (Err k) e f = (k, refl)
 
 module _ {a b costs : List Float} {xs ys : List ℕ} {codes places masses : ℕ} (M : Movable a b costs xs ys codes places masses) where
   abbrev result : Transport

@@ -32,7 +32,8 @@ fn lay_values(xs: &[u32], ys: &[u32], codes: &[u64], values: &[f64], costs: &mut
     for k in 0..cells {
         let x = xs[k / n];
         let y = ys[k % n];
-        costs[k] = value_at(values, place_of(codes, StateId(x), StateId(y)));
+        let at = place_of(codes, StateId(x), StateId(y)).unwrap_or(codes.len());
+        costs[k] = value_at(values, at);
     }
 }
 
@@ -89,16 +90,12 @@ fn move_masses(
         columns: &mut columns,
         masses: &mut shares.masses[..],
     };
-    match transport_sized(of, &mut plan) {
-        Ok(moved) => {
-            lay_planned(xs, ys, codes, &plan, moved.cells, &mut shares.places[..]);
-            Some(Best {
-                value: moved.total,
-                cells: moved.cells,
-            })
-        }
-        Err(_) => None,
-    }
+    let moved = transport_sized(of, &mut plan).ok()?;
+    lay_planned(xs, ys, codes, &plan, moved.cells, &mut shares.places[..]);
+    Some(Best {
+        value: moved.total,
+        cells: moved.cells,
+    })
 }
 
 // Rows of several entries each: by transport of one to the other, the values as costs.

@@ -11,7 +11,7 @@ use chain_theory::Chain;
 use distance_theory::lent::{Best, SharesMut};
 
 // The cheapest coupling of the states x and y over the front of two lists. None where a row can't be read or has over 32 entries, there are over 4,096 codes, or a list is short: the lists are then as they were.
-// Stays: the two lists are apart, as those of `lay_pair`.
+// Stays: the two lists are apart; `&mut SharesMut` was tried, and the proof of `improve_each`, which cuts both lists after the call, didn't close.
 pub fn best_pair(
     x: usize,
     y: usize,

@@ -41,7 +41,7 @@ pub(crate) fn place(codes: &[u64], x: u32, y: u32) -> u32
     requires { length codes.now ≤ 4096 }
     ensures { result ≡ look_up codes.now (pair x y) }
 {
-    place_of(codes, StateId(x), StateId(y)) as u32
+    place_of(codes, StateId(x), StateId(y)).unwrap_or(codes.len()) as u32
 }
 
 // The independent coupling of two rows over the front of two lists: each entry with each, the probabilities multiplied.

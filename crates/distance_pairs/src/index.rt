@@ -1,5 +1,5 @@
 // The index of the pairs: each pair with its number as one code, the codes rising, searched by halves.
-ghost use Rattle.std.specs.Prelude.{◌≡◌, ◌≤◌, ◌<◌, length};
+ghost use Rattle.std.specs.Prelude.{◌≡◌, ◌≤◌, ◌<◌, length, unwrap_or};
 ghost use Rattle.distance_theory.specs.Pairs.{pair};
 ghost use Rattle.distance_theory.proofs.Index.{keyed, look_up};
 ghost use Rattle.distance_theory.proofs.Index;
@@ -52,20 +52,16 @@ pub(crate) fn is_at(list: &[u64], at: usize, key: u64) -> bool
     list.get(at).is_some_and(|code| *code / 4096 == key)
 }
 
-// The number of a pair of states, by the codes of all pairs; how many these are if it is none of them.
-pub fn place_of(codes: &[u64], left: StateId, right: StateId) -> usize
-    ensures { result ≡ look_up codes.now (pair left.0 right.0) }
+// The number of a pair of states, by the codes of all pairs; none if it is none of them.
+pub fn place_of(codes: &[u64], left: StateId, right: StateId) -> Option<usize>
+    ensures { unwrap_or result (length codes.now) ≡ look_up codes.now (pair left.0 right.0) }
 {
-    let n = codes.len();
     if right.0 < 2048 {
         let pair = key(left.0, right.0);
         let at = goes_by(codes, pair);
-        if at < n {
-            let code = codes[at];
-            if code / 4096 == pair {
-                return (code % 4096) as usize;
-            }
+        if is_at(codes, at, pair) {
+            return Some((codes[at] % 4096) as usize);
         }
     }
-    n
+    None
 }

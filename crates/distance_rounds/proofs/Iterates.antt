@@ -25,9 +25,9 @@ iterates_start T k x v l p m e = record {
 }
 
 module _ {T : Task} {k : ℕ} {v₀ : List Float} {l₀ p₀ : List ℕ} {m₀ : List Float} {x : Float} {n : ℕ} {v : List Float} {l p : List ℕ} {m : List Float} (I : Iterates T k v₀ l₀ p₀ m₀ x n v l p m) where
-  pub iterates_end : k ≤ n → iterated x n v l p m ≡ iterate_from T k (inf false) 0 v₀ l₀ p₀ m₀
+  pub iterates_end : k ≤ n → iterated x k v l p m ≡ iterate_from T k (inf false) 0 v₀ l₀ p₀ m₀
   unfolding iterate_from
-  iterates_end h = ap (λ (j : ℕ). iterate_from T j x n v l p m) (let b = I.left in let e : 0 ≡ k - n = omega arith in e) ∙ I.comes
+  iterates_end h = ap (λ (j : ℕ). iterated x j v l p m) (let b = I.left in let e : k ≡ n = omega arith in e) ∙ ap (λ (j : ℕ). iterate_from T j x n v l p m) (let b = I.left in let e : 0 ≡ k - n = omega arith in e) ∙ I.comes
 
   -- a round
   module _ (h : n < k) {r : Bool} {u : List Float} (eu : valued r u ≡ evaluated many T.starts l p m T.cost T.gamma T.fine v T.pairs)

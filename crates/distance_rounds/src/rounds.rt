@@ -43,16 +43,19 @@ pub fn iterate(
     ensures iterated { iterated_as result values.new store.new ≡ iterate_in max_rounds task.now aim tol store.old values.old }
 {
     let mut residual = infinity();
-    let mut rounds = 0;
-    // Stays: the count is answered, and a `for` would count beside it, so that it is no plainer.
-    while rounds < max_rounds {
+    for rounds in 0..max_rounds {
         evaluate(task, store, tol, values);
         let step = improve(task, values, store);
         residual = step.residual;
-        rounds += 1;
         if ended(step, aim) {
-            return Rounds { residual, rounds };
+            return Rounds {
+                residual,
+                rounds: rounds + 1,
+            };
         }
     }
-    Rounds { residual, rounds }
+    Rounds {
+        residual,
+        rounds: max_rounds,
+    }
 }

@@ -8,7 +8,7 @@ use native.Mathlib.Omega.{arith}
 use native.Mathlib.Nat.{le_of_suc-le-suc, not-suc-le-zero}
 use lib.Dec.{eqb, ltb}
 use lib.ListN.{length, get_or}
-use borrow.Author.Tests.{ltb-true, lt-ltb, le-ltb, eqb-true, eq-eqb, ne_eqb}
+use borrow.Author.Tests.{ltb-true, lt-ltb, le-ltb, eqb-true, eq-eqb}
 use Rattle.numbers.specs.Lists.{In}
 use Rattle.numbers.specs.Sort.{put, insert, sort}
 use Rattle.numbers.proofs.Bools.{and_t, lt_or_ge, eq_or_ne}
@@ -105,14 +105,14 @@ module _ (l : List ℕ) (p : Pair) (k at : ℕ) (ek : k ≡ key p) (ea : at ≡ 
   unfolding look_up
   answered = ap answer (ea ∙ ap (keyed l) ek)
 
-  pub look_hit : p.right < 2048 → at < length l → get_or l at 0 / 4096 ≡ k → get_or l at 0 % 4096 ≡ look_up l p
-  look_hit h i e = rw (lt-ltb p.right 2048 h, lt-ltb at (length l) i, eq-eqb (get_or l at 0 / 4096) (key p) (e ∙ ek)) at answered
+  pub look_hit : p.right < 2048 → is_at l at k ≡ true → get_or l at 0 % 4096 ≡ look_up l p
+  look_hit h e = rw (lt-ltb p.right 2048 h, sym (ap (is_at l at) ek) ∙ e) at answered
 
-  pub look_other : p.right < 2048 → at < length l → (get_or l at 0 / 4096 ≡ k → ⊥) → length l ≡ look_up l p
-  look_other h i e = rw (lt-ltb p.right 2048 h, lt-ltb at (length l) i, ne_eqb (get_or l at 0 / 4096) (key p) (λ q. e (q ∙ sym ek))) at answered
+  pub look_other : p.right < 2048 → is_at l at k ≡ false → length l ≡ look_up l p
+  look_other h e = rw (lt-ltb p.right 2048 h, sym (ap (is_at l at) ek) ∙ e) at answered
 
-  pub look_end : p.right < 2048 → length l ≤ at → length l ≡ look_up l p
-  look_end h i = rw (lt-ltb p.right 2048 h, le-ltb at (length l) i) at answered
+  pub is_within : is_at l at k ≡ true → at < length l
+  is_within e = ltb-true at (length l) (and_t (ltb at (length l)) (eqb (get_or l at 0 / 4096) k) e).0
 
 pub look_high : (l : List ℕ) (p : Pair) → 2048 ≤ p.right → length l ≡ look_up l p
 unfolding look_up

@@ -17,7 +17,7 @@ loop-k-preserved c =
       λ ps qs B.
           let n = costs_length (look_up c.args.codes.now) c.args.xs.now ps c.args.ys.now qs (length c.args.codes.now) B c.args.values.now in
           over_next (costs_by (look_up c.args.codes.now) c.args.xs.now ps c.args.ys.now qs (length c.args.codes.now) B c.args.values.now) c.args.costs.now c.loop-k.costs c.loop-k.k nan _ (I.2 ps qs B)
-          (c.value_at.ensures ∙ ap (λ (i : ℕ). get_or c.args.values.now i nan) c.place_of.ensures ∙ sym (costs_at (look_up c.args.codes.now) c.args.xs.now ps c.args.ys.now qs (length c.args.codes.now) B c.args.values.now c.loop-k.k h))
+          (c.value_at.ensures ∙ ap (λ (i : ℕ). get_or c.args.values.now i nan) (c.unwrap_or-at.ensures ∙ c.place_of.ensures) ∙ sym (costs_at (look_up c.args.codes.now) c.args.xs.now ps c.args.ys.now qs (length c.args.codes.now) B c.args.values.now c.loop-k.k h))
           (omega arith) (let r = c.requires.2 in omega arith),
     )
 

@@ -1,7 +1,6 @@
 use mathlib.Core.Path.{ap₂, ◌∙◌}
 use Prim.Native.Nat.{ℕ}
 use mathlib.Core.List.{List}
-use native.Mathlib.Omega.{arith}
 use Rattle.std.proofs.Common.{rules}
 use Rattle.chain_theory.specs.Lent.{of_chain}
 use Rattle.distance_theory.specs.Rounds.{many}
@@ -9,9 +8,6 @@ use Rattle.distance_words.proofs.Valuing.{evaluated}
 use Rattle.distance_words.proofs.Improving.{improve}
 use Rattle.distance_rounds.proofs.Iterates.{iterates_end, iterates_stop, iterates_next}
 use Rattle.distance_rounds.proofs.rounds.iterate.Goals as goal
-
-pub overflow_add-rounds : goal.overflow_add-rounds
-overflow_add-rounds c = let h = c.loop-rounds-test.true in let g = c.ranges.max_rounds in omega arith
 
 pub returns-then-ended-clause-iterated : goal.returns-then-ended-clause-iterated
 returns-then-ended-clause-iterated c =
