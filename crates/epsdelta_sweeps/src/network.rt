@@ -2,9 +2,6 @@
 ghost use Rattle.std.specs.Prelude.{◌≡◌, ℕ, ◌≤◌, ◌<◌, ◌+◌, ◌*◌, ◌-◌, Bool, true, false, List, Float, length};
 ghost use Rattle.numbers.specs.Bits.{packed};
 ghost use Rattle.numbers.specs.Refuse.{numbered};
-ghost use Rattle.epsdelta_theory.proofs.TasksIn.{test_in};
-ghost use Rattle.flow_links.proofs.RowsRead.{Fitting};
-ghost use Rattle.flow_duality.proofs.Places.{Held, Moves, weight};
 ghost use Rattle.flow.specs.declared.network.FlowNetwork.{FlowNetwork};
 ghost use Rattle.flow.specs.Filled.{flow_rows};
 ghost use Rattle.flow_direct.specs.Reaches.{at_least};
@@ -109,7 +106,7 @@ fn answered(
     settle(terms, memory, asked, answer)
 }
 
-// Sweeps from a place until one without a strike: each test that asks is made on the network that is lent.
+// Sweeps from a test that is asked for until one without a strike: each test that they ask for is made on the network that is lent.
 fn run_on(
     net: &mut FlowNetwork,
     terms: &Terms,

@@ -2,7 +2,6 @@
 ghost use Rattle.std.specs.Prelude.{◌≡◌, ℕ, ◌≤◌, ◌<◌, ◌+◌, Bool, true, false, List, length, get_or, IfSome};
 ghost use Rattle.numbers.specs.Bits.{packed};
 ghost use Rattle.numbers.specs.Refuse.{numbered};
-ghost use Rattle.flow_links.proofs.RowsRead.{Fitting};
 ghost use Rattle.flow_duality.specs.Spare.{row_most};
 ghost use Rattle.flow_duality.proofs.Plenty.{Even};
 ghost use Rattle.flow_direct.specs.Reaches.{at_least};
