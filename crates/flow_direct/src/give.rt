@@ -35,12 +35,8 @@ fn first_open(rest: &Rest, from: usize) -> usize
     requires { Shut from rest.now.rights.now }
     ensures { Shut result rest.now.rights.now }
 {
-    for k in from..rest.rights.len() {
-        if remains(rest.rights[k]) {
-            return k;
-        }
-    }
-    rest.rights.len()
+    let n = rest.rights.len();
+    (from..n).find(|k| remains(rest.rights[*k])).unwrap_or(n)
 }
 
 // Target i of s gives to each target of t from `from` on, those before having nothing left; gives the flow then.

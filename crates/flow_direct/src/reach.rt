@@ -18,10 +18,7 @@ use numbers::refusal::Refusal;
 pub fn enough(answer: Result<Flow, Refusal>, need: f64) -> bool
     ensures { result ≡ at_least need (numbered answer) }
 {
-    match answer {
-        Ok(f) => need <= f.flow,
-        Err(_) => false,
-    }
+    answer.is_ok_and(|f| need <= f.flow)
 }
 
 // The first pushes, and the search where they are not enough, with room lent for each pair of targets.
