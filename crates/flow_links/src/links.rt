@@ -2,7 +2,6 @@
 ghost use Rattle.std.specs.Prelude.{◌≡◌, ◌+◌, ◌*◌, ◌≤◌, ◌<◌, true, ◌&&◌, [], ◌∷◌, cond, is_some, length, get_or};
 ghost use Rattle.numbers.specs.Lists.{over};
 ghost use Rattle.epsdelta_theory.specs.FlowTest;
-ghost use Rattle.epsdelta_theory.specs.FlowTest.{link_if};
 ghost use Rattle.epsdelta_theory.proofs.LinkRows.{Added, Free, has_room, source_row, sink_row, cross_row, cross_rows, row_links};
 ghost use Rattle.flow_links.specs.Lent.{test_fits, test_links, test_room, places_if};
 ghost use Rattle.flow_links.specs.Rows.{Same};
@@ -58,18 +57,6 @@ fn add_sinks(rates: &[f64], first: usize, sink: usize, rows: &mut LinkRows)
     }
 }
 
-// Writes a link of infinite capacity if the two nodes are related.
-fn put_if(related: bool, rows: &mut LinkRows, from: usize, to: usize)
-    requires free { Free rows.old.heads.now rows.old.caps.now rows.old.next (length (link_if related from to [])) }
-    requires from_bound { (from ≤ 65) × (to ≤ 65) }
-    ensures added { Added (link_if related from to []) rows.old.heads.now rows.old.caps.now rows.old.next rows.new.heads.now rows.new.caps.now rows.new.next }
-    ensures same { Same rows.old rows.new }
-{
-    if related {
-        put(rows, from, to, infinity());
-    }
-}
-
 // The links from left target `node` to the right targets that are related with it.
 fn add_cross(test: &Test, node: usize, rows: &mut LinkRows)
     requires bounds { (node < length test.now.left.targets.now) × (length test.now.left.targets.now + length test.now.right.targets.now ≤ 65) × (test.now.states ≤ 2000) }
@@ -81,7 +68,9 @@ fn add_cross(test: &Test, node: usize, rows: &mut LinkRows)
     let base = test.left.targets[node] as usize * test.states;
     for (j, target) in test.right.targets.iter().enumerate() {
         let v = *target as usize;
-        put_if(bit(test.relation, base + v), rows, node, first + j);
+        if bit(test.relation, base + v) {
+            put(rows, node, first + j, infinity());
+        }
     }
 }
 
