@@ -21,6 +21,7 @@ pub struct Link {
 }
 
 // A network: links 2k and 2k + 1 are an added link and its reverse; node u's list is list[starts[u]..starts[u + 1]].
+// Stays: links beside a count, since the C interface lends a network as these rows.
 #[repr(C)]
 #[derive(Clone, Copy)]
 pub struct FlowNetwork {

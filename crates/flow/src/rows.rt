@@ -31,6 +31,7 @@ fn list_links(
     }
     Err(Refusal::NetworkOrMasses)
 }
+
 // Puts the first n heads and capacities over the network's first links; the links added cost 0, their reverses its negation.
 fn store_links(net: &mut FlowNetwork, heads: &[u32], caps: &[f64], n: usize, nodes: usize)
     requires { (n ≤ 2176) × (n ≤ length heads.now) × (n ≤ length caps.now) }

@@ -4,7 +4,8 @@
 mod index; // index.rt: node lists as rows
 pub mod check; // check.rt: the check
 
-// The links of a network, a lent slice for each column, and its node lists; links 2k and 2k + 1 are an added link and its reverse. The capacities stand beside it, since a run changes them.
+// The links of a network, a lent slice for each column, and its node lists; links 2k and 2k + 1 are an added link and its reverse.
+// Stays: the capacities stand beside it, since a run changes them while it reads the rest: with them in it two structs would be needed, as & and &mut are two types.
 #[derive(Clone, Copy, Debug)]
 pub struct Network<'a> {
     pub heads: &'a [u32], // the node where each link ends

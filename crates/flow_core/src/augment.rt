@@ -64,7 +64,7 @@ fn walk(phase: &Phase, caps: &[f64], next: &mut [usize], path: &mut [usize]) -> 
             len -= 1;
             let e = path[len];
             u = net.heads[e ^ 1] as usize;
-            next[u] = next[u] + 1;
+            next[u] += 1;
         }
     }
     Some(len)

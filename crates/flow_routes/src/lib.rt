@@ -1,4 +1,4 @@
-// The flow of a flow test path by path: theory (proofs/) of `flow_direct`.
+// The flow of a flow test path by path: theory (proofs/) of `flow_direct`, and the words for what its steps come to.
 #![tactic(auto)]
 
 ghost use Rattle.std.specs.Prelude.{◌≡◌};

@@ -1,4 +1,4 @@
-// The flow run as a definition (specs/) and what is proved of every run (proofs/Theorem.antt).
+// The flow run as a definition (specs/), what is proved of every run (proofs/Theorem.antt), and the push along a path.
 #![tactic(auto)]
 
 ghost use Rattle.std.specs.Prelude.{◌≡◌};

@@ -5,18 +5,12 @@ use crate::nets::Listed;
 use crate::{entries, kept, lent, nets};
 use flow::network::{FlowNetwork, Link};
 use flow_check::Edge;
-use numbers::refusal;
 use replay_text::lists::front;
 use replay_text::text::{Reader, narrow};
 
 // Two places more than n, where there is room.
 fn two_more(n: usize) -> usize {
     n.min(2174) + 2
-}
-
-fn expect(r: &mut Reader, refused: u32, net: &FlowNetwork) {
-    let count = if refused == 0 { net.count } else { 0 };
-    r.expect_numbered(refused, count);
 }
 
 fn expect_links(r: &mut Reader, links: &[Link]) {
@@ -65,7 +59,7 @@ fn same_else(l: Listed, x: Edge, made: Left<()>) -> bool {
 }
 
 fn compare(r: &mut Reader, l: Listed, x: Edge, made: Left<()>) {
-    expect(r, refusal::code(&made.answer), &made.net);
+    r.expect_answer(made.answer.map(|()| made.net.count));
     expect_links(r, front(&made.net.links, two_more(l.links)));
     r.expect_list(front(&made.net.starts, l.starts));
     r.expect_list(front(&made.net.list, two_more(l.list)));

@@ -3,17 +3,8 @@ use crate::kept::From;
 use crate::{entries, kept, lent, nets};
 use flow::network::FlowNetwork;
 use flow_check::Ends;
-use flow_core::Flow;
-use numbers::refusal::Refusal;
 use replay_text::lists::front;
 use replay_text::text::Reader;
-
-fn expect(r: &mut Reader, answer: Result<Flow, Refusal>) {
-    match answer {
-        Ok(f) => r.expect_numbered(0, (f.flow, f.phases, f.pushes)),
-        Err(k) => r.expect_numbered(k.number(), (0.0, 0usize, 0usize)),
-    }
-}
 
 // Only capacities of the n links listed may change.
 fn same_else(before: &FlowNetwork, after: &FlowNetwork, n: usize) -> bool {
@@ -37,7 +28,7 @@ pub fn run(r: &mut Reader, counts: &mut [u64; 48]) {
         sink: r.number_field() as usize,
     };
     let ran = lent::max_flow(l.net, ends);
-    expect(r, ran.answer);
+    r.expect_answer(ran.answer.map(|f| (f.flow, f.phases, f.pushes)));
     r.expect_each(front(&ran.net.links, l.links), |link| link.cap);
     r.compared(same_else(&l.net, &ran.net, l.links));
     r.count(counts, entries::MAX_FLOW);
