@@ -26,7 +26,13 @@ shut_to {f} n {B} s None t = record { at = λ q m. pick q m (lt_or_ge q f) }
     pick q m (inl l) = s.at q l
     pick q m (inr g) = t q g m
 
--- the first of all, if there is one
-pub found_of : (n : ℕ) (P : ℕ → Type 0) (r : Option ℕ) → MatchOption r ((k : ℕ) → 0 ≤ k → k < n → P k → ⊥) (λ i. (0 ≤ i) × (i < n) × P i × ((k : ℕ) → 0 ≤ k → k < i → P k → ⊥)) → Found n P r
-found_of n P (Some i) (a, b, y, before) = (b, record { upto = omega arith; found = λ _. y; none = λ j l. before j (omega arith) l })
-found_of n P None t = record { upto = omega arith; found = λ l. absurd (omega arith); none = λ j l. t j (omega arith) l }
+-- the first number below n of which Yes holds, and No of those before it: it is the first of which P holds, where Yes is that and No that it does not
+pub found_by : (n : ℕ) (P : ℕ → Type 0) (r : Option ℕ) (Yes No : ℕ → Type 0) → MatchOption r ((k : ℕ) → k < n → No k) (λ i. (i < n) × Yes i × ((k : ℕ) → k < i → No k)) → ((i : ℕ) → i < n → Yes i → P i) → ((i : ℕ) → i < n → No i → P i → ⊥) → Found n P r
+found_by n P (Some i) Yes No (b, y, before) f g = (b, record { upto = omega arith; found = λ _. f i b y; none = λ j l. g j (omega arith) (before j l) })
+found_by n P None Yes No t f g = record { upto = omega arith; found = λ l. absurd (omega arith); none = λ j l. g j l (t j l) }
+
+-- of the numbers from j on, r is the first below n of which Yes holds, or n; of those before it No holds
+pub record FirstAfter (n j r : ℕ) (Yes No : ℕ → Type 0) : Type 0 where
+  pub upto : r ≤ n
+  pub found : r < n → Yes r
+  pub none : (i : ℕ) → j ≤ i → i < r → No i

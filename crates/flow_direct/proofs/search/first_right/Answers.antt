@@ -1,8 +1,8 @@
-use Rattle.flow_routes.proofs.Coding.{found_one, found_none}
+-- `search::first_right` meets its contract: the first that passes.
+use Rattle.std.proofs.Common.{rules, tests}
+use borrow.Author.Tests.{eqb-true, eqb-false}
+use Rattle.flow_direct.proofs.Finding.{found_by}
 use Rattle.flow_direct.proofs.search.first_right.Goals as goal
 
-pub returns-then-r-n : goal.returns-then-r-n
-returns-then-r-n c = found_one c.loop-j.invariant.1 c.loop-j-test.false c.if-r-n.true
-
-pub returns-else-r-n : goal.returns-else-r-n
-returns-else-r-n c = found_none c.loop-j.invariant.1 c.loop-j-test.false c.if-r-n.false
+pub returns : goal.returns
+returns c = found_by _ _ c.first.result _ _ c.first.ensures (λ i h y. search (rules, tests)) (λ i h y p. search (rules, tests))
