@@ -9,7 +9,8 @@
 4 by hand    a function that only converts a number, or copies, fills or compares a slice
 5 models     a function that takes a built model as six parameters; 5 chains: a chain as five; 5 rows: the rows of jumps, of links, of pairs or of couplings one by one
 6 lengths    a function that takes a slice and beside it how many of its entries are in use
-With -v each place is named.
+7 switches   a function, not of exports, that takes a bool
+A place stays where a comment line `// Stays: ..` above it says why; the second number counts these. With -v each place is named, with its reason.
 """
 import collections
 import glob
@@ -20,6 +21,7 @@ import sys
 ARGS = [a for a in sys.argv[1:] if a != "-v"]
 ROOT = ARGS[0] if ARGS else os.path.dirname(os.path.dirname(os.path.realpath(__file__)))
 FOUND = collections.defaultdict(list)
+STAYS = {}
 GROUPS = {
     "5 models": [["label_values", "offsets", "edge_labels", "edge_targets", "edge_weights"], ["left_values", "left_offsets", "left_labels", "left_targets", "left_weights"]],
     "5 chains": [["left_offsets", "left_targets", "left_probs"], ["chain_offsets", "chain_targets", "chain_probs"], ["left_chain_offsets", "left_chain_targets", "left_chain_probs"], ["offsets", "targets", "probs"]],
@@ -51,7 +53,11 @@ def norm(params, body):
 
 def scan(path):
     crate = path.split("/")[-3]
-    text = re.sub(r"//[^\n]*", "", open(path).read())
+    text = open(path).read()
+    for m in re.finditer(r"^ *// Stays: ([^\n]*)\n(?: *(?://|#)[^\n]*\n)*(?: *(?:pub(?:\(crate\))? )?(?:extern \"C\" )?(fn|enum|struct) (\w+))?", text, re.M):
+        named = m[3] or next((n for n, _, _, body in functions(text) if m[1] in body), os.path.basename(path))
+        STAYS[f"{crate}::{named}" if m[2] in ("enum", "struct") else f"{crate}::{os.path.basename(path)[:-3]}::{named}"] = m[1]
+    text = re.sub(r"//[^\n]*", "", text)
     for m in re.finditer(r"enum (\w+)[^{]*\{(.*?)\n *\}\n", text, re.S):
         if "Refused(u32)" in m[2] or re.search(r"\bAbsent\b", m[2]):
             FOUND["1 enums"].append(f"{crate}::{m[1]}")
@@ -77,6 +83,8 @@ def scan(path):
                     FOUND[group].append(where)
             if re.search(r"\b(n|m|count|given|left_count|right_count): usize", params) and "&" in params and "[" in params:
                 FOUND["6 lengths"].append(where)
+            if re.search(r": bool\b", params):
+                FOUND["7 switches"].append(where)
         if len(lines) > 4:
             TWINS[norm(params, body)].append(where)
         elif lines:
@@ -89,8 +97,8 @@ for p in sorted(glob.glob(os.path.join(ROOT, "crates/*/src/*.rt"))):
 for group in TWINS.values():
     if len(group) > 1:
         FOUND["2 twins"] += group
-for kind in ["1 enums", "1 flags", "1 numbers", "2 twins", "3 loops", "4 by hand", "5 models", "5 chains", "5 rows", "6 lengths"]:
-    print(f"{kind:10} {len(FOUND[kind]):4}")
+for kind in ["1 enums", "1 flags", "1 numbers", "2 twins", "3 loops", "4 by hand", "5 models", "5 chains", "5 rows", "6 lengths", "7 switches"]:
+    print(f"{kind:10} {len(FOUND[kind]):4} {sum(w in STAYS for w in FOUND[kind]):4}")
     if "-v" in sys.argv:
         for w in FOUND[kind]:
-            print("          ", w)
+            print("          ", w, STAYS.get(w, ""))
