@@ -2,7 +2,7 @@
 // The names of lines are skipped. A case whose values are not as laid out, or with a list that is too long, differs.
 #![tactic(auto)]
 
-mod chains; // chains.rt: the kind `distance`
+mod runs; // runs.rt: the kind `distance`
 
 use replay_text::text::Reader;
 use replay_text::{cases, tally};
@@ -10,14 +10,14 @@ use std::io;
 
 fn run_kind(r: &mut Reader, kind: &[u8], counts: &mut [u64; 48]) {
     match kind {
-        b"distance" => chains::run(r, counts),
+        b"distance" => runs::run(r, counts),
         _ => r.unknown(counts),
     }
 }
 
 fn main(rt: HostRuntime) -> io::Result<()> {
     let counts = cases::run(&rt, run_kind)?;
-    tally::print_entry(&rt, b"distance distance ", &counts, chains::DISTANCE);
+    tally::print_entry(&rt, b"distance distance ", &counts, runs::DISTANCE);
     tally::print_end(&rt, &counts);
     Ok(())
 }
