@@ -135,12 +135,12 @@ unfolding link_if
 if_before true i k ls = refl
 if_before false i k ls = refl
 
-pub cross_next : (store : List ℕ) (b i k j : ℕ) (ts : List ℕ) → j < length ts
-    → cross_row store b i (k + j) (drop j ts) ≡ link_if (bit_at store (b + get_or ts j 0)) i (k + j) [] ++ cross_row store b i (k + (j + 1)) (drop (j + 1) ts)
+pub cross_next : (store : List ℕ) (b i k j : ℕ) (ts : List ℕ) {r : Bool} → r ≡ bit_at store (b + get_or ts j 0) → j < length ts
+    → cross_row store b i (k + j) (drop j ts) ≡ link_if r i (k + j) [] ++ cross_row store b i (k + (j + 1)) (drop (j + 1) ts)
 unfolding cross_row
-cross_next store b i k j ts h =
+cross_next store b i k j ts z h =
     ap (cross_row store b i (k + j)) (drop-cons ts j 0 h)
-    ∙ rw (add-one j, let q : k + suc j ≡ suc (k + j) = omega arith in q) (if_before (bit_at store (b + get_or ts j 0)) i (k + j) (cross_row store b i (suc (k + j)) (drop (suc j) ts)))
+    ∙ rw (add-one j, z, let q : k + suc j ≡ suc (k + j) = omega arith in q) (if_before (bit_at store (b + get_or ts j 0)) i (k + j) (cross_row store b i (suc (k + j)) (drop (suc j) ts)))
 
 -- a link of infinite capacity was written, or none
 pub if_put : (b : Bool) {i k : ℕ} {x : Float} {h h' : List ℕ} {c c' : List Float} {e e' : ℕ} → b ≡ true → x ≡ inf false → Added (record { from = i; to = k; cap = x } ∷ []) h c e h' c' e' → Added (link_if b i k []) h c e h' c' e'

@@ -7,7 +7,7 @@ ghost use Rattle.flow_links.specs.Lent.{test_fits, test_links, test_room, places
 ghost use Rattle.flow_links.specs.Rows.{Same};
 
 use crate::rows::Test;
-use numbers::{bit, infinity};
+use numbers::infinity;
 
 // Rows that links are written into, and the next place in them.
 #[derive(Drop)]
@@ -65,10 +65,9 @@ fn add_cross(test: &Test, node: usize, rows: &mut LinkRows)
     ensures same { Same rows.old rows.new }
 {
     let first = test.left.targets.len();
-    let base = test.left.targets[node] as usize * test.states;
-    for (j, target) in test.right.targets.iter().enumerate() {
-        let v = *target as usize;
-        if bit(test.relation, base + v) {
+    let u = test.left.targets[node];
+    for (j, v) in test.right.targets.iter().enumerate() {
+        if test.related(u, *v) {
             put(rows, node, first + j, infinity());
         }
     }

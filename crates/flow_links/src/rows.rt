@@ -1,5 +1,8 @@
 // The rows of jumps that flow tests read.
-ghost use Rattle.std.specs.Prelude.{◌≡◌};
+ghost use Rattle.std.specs.Prelude.{◌≡◌, ◌≤◌, ◌+◌, ◌*◌};
+ghost use Rattle.numbers.specs.Bits.{bit_at};
+
+use numbers::bit;
 
 // The rows of all states: the exit rate of each, and its jumps at starts[s]..starts[s + 1] of targets and probs.
 #[derive(Clone, Copy, Debug)]
@@ -28,6 +31,14 @@ pub struct Test<'a> {
 }
 
 impl<'a> Test<'a> {
+    // Whether state v is related with state u, by their numbers: none are past the last state of all, nor past the relation's end.
+    pub fn related(&self, u: u32, v: u32) -> bool
+        ensures { self.now.states ≤ 2000 → result ≡ bit_at self.now.relation.now (u * self.now.states + v) }
+    {
+        let row = (u as usize).wrapping_mul(self.states);
+        bit(self.relation, row.wrapping_add(v as usize))
+    }
+
     // The test back, from the right row to the left one.
     pub fn back(&self) -> Test<'a>
         ensures { (result.left ≡ self.now.right) × (result.right ≡ self.now.left) × (result.states ≡ self.now.states) × (result.relation ≡ self.now.relation) }
