@@ -2,3 +2,4 @@ pub mod Checking
 pub mod Laying
 pub mod Accepting
 pub mod Relists
+pub mod Leaving

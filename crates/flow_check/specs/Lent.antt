@@ -1,5 +1,6 @@
 -- A network that is lent.
-use Rattle.std.specs.Prelude.{Bool, List, Float}
+use Rattle.std.specs.Prelude.{ℕ, ◌+◌, Bool, ◌&&◌, cond, List, [], length, get_or, ltb, leb, Float}
+use Rattle.std.specs.List.{slice_range}
 use Rattle.flow_theory.specs.Network.{Net}
 use Rattle.flow_theory.specs.Rows.{network}
 use Rattle.flow_check.specs.Refusal.{network_fits, accepts}
@@ -17,3 +18,10 @@ fits_lent N c = network_fits N.heads.now c N.costs.now N.starts.now N.list.now N
 -- the whole check
 abbrev pub accepts_lent : Network → List Float → Ends → Bool
 accepts_lent N c E = accepts N.heads.now c N.costs.now N.starts.now N.list.now N.nodes E.source E.sink
+
+-- the links that leave node u: its part of the list, from its start up to the next; none where there is no such node, or no such part
+abbrev pub leaving : Network → ℕ → List ℕ
+leaving N u =
+    let from = get_or N.starts.now u 0 in
+    let to = get_or N.starts.now (u + 1) 0 in
+    cond (ltb u 66 && (leb from to && leb to (length N.list.now))) (slice_range N.list.now from to) []

@@ -1,6 +1,9 @@
 // Refusal 15: the check of a network handed in, over rows of numbers.
 #![tactic(auto)]
 
+ghost use Rattle.std.specs.Prelude.{◌≡◌};
+ghost use Rattle.flow_check.specs.Lent.{leaving};
+
 mod index; // index.rt: node lists as rows
 pub mod check; // check.rt: the check
 
@@ -13,6 +16,20 @@ pub struct Network<'a> {
     pub starts: &'a [u32; 67], // node u's links are list[starts[u]..starts[u + 1]]
     pub list: &'a [u32],
     pub nodes: usize,
+}
+
+impl<'a> Network<'a> {
+    // The links that leave node u; none where there is no such node, or the list ends before its part does.
+    pub fn leaving(&self, u: usize) -> &'a [u32]
+        ensures { result.now ≡ leaving self.now u }
+    {
+        if 66 <= u {
+            return &[];
+        }
+        let from = self.starts[u] as usize;
+        let to = self.starts[u + 1] as usize;
+        self.list.get(from..to).unwrap_or(&[])
+    }
 }
 
 // Where a flow comes from, and where it goes.
