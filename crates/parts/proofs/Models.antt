@@ -1,15 +1,17 @@
 -- What two models are refused for, by what each is refused for; and the edge columns of an accepted model.
 use mathlib.Core.Path.{◌≡◌, sym, ap, ◌∙◌}
-use Prim.Native.Nat.{ℕ}
+use Prim.Native.Nat.{ℕ, ◌<◌, ◌≤◌}
 use native.Mathlib.Omega.{arith}
-use Rattle.bisim_core.specs.Data.{Columns}
+use Rattle.bisim_core.specs.Data.{Columns, columns_of}
 use Rattle.bisim_core.specs.declared.wlts.Shape.{Shape}
+use Rattle.bisim_core.specs.declared.wlts.Wlts.{Wlts}
 use Rattle.bisim_core.specs.Model.{model_refusal, large, unfit, weights_outside, crowded}
 use Rattle.bisim_core.proofs.Accepted.{Accepted}
 use Rattle.epsdelta_theory.specs.Refusal.{models_refusal}
 use Rattle.epsdelta_theory.proofs.RowsIn.{Readable}
 use Rattle.epsdelta_theory.proofs.Unrefused.{models_passed}
 use Rattle.parts.specs.Earlier.{earlier}
+use Rattle.parts.specs.Jumping.{HasRow}
 use Rattle.parts.proofs.Earlier.{both_four}
 
 models_are : (SL : Shape) (ML : Columns) (SR : Shape) (MR : Columns) → earlier (model_refusal SL ML) (model_refusal SR MR) ≡ models_refusal SL ML SR MR 0
@@ -36,3 +38,7 @@ readable A =
       edges_few = let h = A.edges_few in omega arith;
       target_low = λ i h. A.target_low i (omega arith);
     }
+
+-- so can that of one of its states
+pub has_row : (M : Wlts) (s off : ℕ) → Accepted M.shape (columns_of M) → s < M.shape.states → off ≤ 2000 → HasRow M s off
+has_row M s off A h l = (readable A, h, l)

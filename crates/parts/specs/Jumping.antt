@@ -31,6 +31,10 @@ HasRow M s off = HasRows M × (s < M.shape.states) × (off ≤ 2000)
 abbrev pub degree : Columns → ℕ → ℕ
 degree M s = begins M (s + 1) - begins M s
 
+-- there is room for the jumps of a state's edges behind those that are there
+abbrev pub HasRoom : Columns → ℕ → Jumps → Type 0
+HasRoom M s V = (V.len + degree M s ≤ length V.targets.now) × (V.len + degree M s ≤ length V.rates.now)
+
 -- an edge, its weight by g
 abbrev pub weighed : (Float → Float) → Edge → Edge
 weighed g e = record { source = e.source; label = e.label; target = e.target; weight = g e.weight }

@@ -17,8 +17,9 @@ pub returns-then-n-lt4096-clause-met : goal.returns-then-n-lt4096-clause-met
 returns-then-n-lt4096-clause-met c =
     let p = c.args.pairs.now in
     let at = c.goes-at.result in
-    let R = c.requires in (
+    let R = c.requires in
+    let noted = (let a = R.codes_long in let b = c.goes-at.ensures in c.insert.ensures.put (omega arith) (omega arith)) in (
       (let f = R.few in omega arith),
-      λ h. record { few = h; lefts_long = rw length-set R.lefts_long; rights_long = rw length-set R.rights_long; codes_long = (let a = R.codes_long in let e = ap length c.insert.ensures ∙ put_length at (p.count - at) p.codes.now c.code.result in omega arith) },
-      takes_new c.args.x c.args.y p.count p.lefts.now p.rights.now p.codes.now c.requires _ at c.key-pair.ensures.0 c.goes-at.ensures.0 (sym c.known.ensures ∙ c.if-known.false) c.if-n-lt4096.true _ (c.insert.ensures ∙ ap (put at (p.count - at) p.codes.now) c.code.ensures),
+      λ h. record { few = h; lefts_long = rw length-set R.lefts_long; rights_long = rw length-set R.rights_long; codes_long = (let a = R.codes_long in let e = ap length noted ∙ put_length at (p.count - at) p.codes.now c.code.result in omega arith) },
+      takes_new c.args.x c.args.y p.count p.lefts.now p.rights.now p.codes.now c.requires _ at c.key-pair.ensures.0 c.goes-at.ensures.0 (sym c.known.ensures ∙ c.if-known.false) c.if-n-lt4096.true _ (noted ∙ ap (put at (p.count - at) p.codes.now) c.code.ensures),
     )

@@ -4,6 +4,7 @@ use Rattle.std.proofs.Common.{rules, ◌∙◌}
 use Rattle.bisim_core.specs.Data.{columns_of}
 use Rattle.bisim_core.specs.Model.{row}
 use Rattle.epsdelta_theory.specs.Jumps.{jumps_of}
+use native.Mathlib.Omega.{arith}
 use Rattle.epsdelta_jumps.proofs.Fills.{exit_is, row_made, laid_named}
 use Rattle.epsdelta_jumps.proofs.rates.make.Goals as goal
 
@@ -12,7 +13,7 @@ unfolding jumps_of
 returns-clause-exit c =
     let a = c.args in
     let X = c.add_edges.new.self in
-    let L = c.add_edges.ensures.added (λ w. w) (λ x y p. search rules) in
+    let L = c.add_edges.ensures.added c.requires.model (let r = c.requires.room in (omega arith, omega arith)) (λ w. w) (λ x y p. search rules) in
     c.finish.ensures.0 ∙ exit_is a.off (row (columns_of a.model.now) a.s) X.len a.targets.now a.rates.now X.targets.now _ (laid_named refl (search rules) L) (search rules) (search rules)
 
 pub returns-clause-made : goal.returns-clause-made
@@ -20,5 +21,5 @@ unfolding jumps_of
 returns-clause-made c =
     let a = c.args in
     let X = c.add_edges.new.self in
-    let L = c.add_edges.ensures.added (λ w. w) (λ x y p. search rules) in
+    let L = c.add_edges.ensures.added c.requires.model (let r = c.requires.room in (omega arith, omega arith)) (λ w. w) (λ x y p. search rules) in
     row_made a.off (row (columns_of a.model.now) a.s) X.len a.targets.now a.rates.now _ _ (laid_named (search rules) (search rules) L) (search rules) (search rules) _ c.finish.ensures.1
