@@ -24,8 +24,7 @@ use Rattle.numbers.specs.Refuse.{numbered}
 use Rattle.transport.specs.declared.plan.Plan.{Plan}
 use Rattle.epsdelta_theory.specs.Jumps.{Jump, jumps_of}
 use Rattle.epsdelta_theory.proofs.RowReads.{jumps_length}
-use Rattle.distance_theory.specs.Couplings.{Share, expected, fitted, point_mass}
-use Rattle.distance_theory.proofs.Held.{shares_of}
+use Rattle.distance_theory.specs.Couplings.{Share, expected, fitted, point_mass, shares_of}
 use Rattle.distance_theory.proofs.Stored.{shares_front}
 use Rattle.distance_theory.proofs.Bests.{Look, ats, parts, independent_by, best_by, laid, lay_if, Bested, bested, best_if, Beside, Movable, moved_on, places_by, freely_length, costs_by, costs_length, fitted_is, moved_is, moved_celled, moved_few, cells_read, places_shares}
 

@@ -8,8 +8,7 @@ ghost use Rattle.numbers.specs.Real.{sum};
 ghost use Rattle.distance_theory.specs.Lent.{SameShares};
 ghost use Rattle.distance_theory.proofs.Index.{look_up};
 ghost use Rattle.transport_theory.specs.Transport.{transport};
-ghost use Rattle.distance_theory.specs.Couplings.{expected, point_mass};
-ghost use Rattle.distance_theory.proofs.Held.{shares_of};
+ghost use Rattle.distance_theory.specs.Couplings.{expected, point_mass, shares_of};
 ghost use Rattle.distance_theory.proofs.PairRows.{row_jumps};
 ghost use Rattle.distance_theory.proofs.Bests.{Beside, costs_by, places_by, Movable, moved_on, best_by, bested, bested_as, best_if, best_on};
 

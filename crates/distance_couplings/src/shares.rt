@@ -4,10 +4,9 @@ ghost use Rattle.std.specs.Float.{nan};
 ghost use Rattle.std.proofs.Math.Seq.{slice};
 ghost use Rattle.numbers.specs.Lists.{over};
 ghost use Rattle.distance_theory.specs.Pairs.{pair};
-ghost use Rattle.distance_theory.specs.Couplings.{expected};
+ghost use Rattle.distance_theory.specs.Couplings.{expected, shares_of};
 ghost use Rattle.distance_theory.specs.Lent.{SameShares};
 ghost use Rattle.distance_theory.proofs.Index.{look_up};
-ghost use Rattle.distance_theory.proofs.Held.{shares_of};
 ghost use Rattle.distance_theory.proofs.PairRows.{row_jumps};
 ghost use Rattle.distance_theory.proofs.Bests.{ats, parts, independent_by, Beside, rows_fit, cells_fit, laid_as, lay_on};
 

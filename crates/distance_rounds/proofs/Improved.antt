@@ -17,12 +17,12 @@ use Rattle.numbers.proofs.Bools.{and_second, eq_or_ne, lt_or_ge}
 use Rattle.epsdelta_theory.specs.Jumps.{Jump, jumps_of}
 use Rattle.chain_theory.specs.Columns.{ChainColumns}
 use Rattle.distance_theory.specs.Pairs.{Pair, pair_at}
-use Rattle.distance_theory.specs.Couplings.{Share, expected, Metric, row_l, row_r, Best, point_mass, best_of, best_coupling, room}
+use Rattle.distance_theory.specs.Couplings.{Share, expected, Metric, row_l, row_r, Best, point_mass, best_of, best_coupling, room, shares_of}
 use Rattle.distance_theory.specs.Rounds.{backup, Improvement, better, improve, improve_all, improved_from}
 use Rattle.distance_theory.specs.Rounds
 use Rattle.distance_theory.proofs.Index.{look_up}
 use Rattle.distance_theory.proofs.Turns.{coupling_at, improve_next, no_item}
-use Rattle.distance_theory.proofs.Held.{shares_of, shares_in}
+use Rattle.distance_theory.proofs.Held.{shares_in}
 use Rattle.distance_theory.proofs.Store.{space, best_length}
 use Rattle.distance_theory.proofs.Stored.{shares_of_lem}
 use Rattle.distance_theory.proofs.Bests.{Look, ats, parts, best_by, best_by_lem}

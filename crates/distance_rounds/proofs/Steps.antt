@@ -23,10 +23,10 @@ use Rattle.parts.proofs.Lent.{part, back, part_all, back_is}
 use Rattle.chain_theory.specs.Columns.{ChainColumns}
 use Rattle.transport_theory.specs.Transport.{transport}
 use Rattle.distance_theory.specs.Pairs.{target_pair}
-use Rattle.distance_theory.specs.Couplings.{Share, share, expected, Best, fitted, point_mass}
+use Rattle.distance_theory.specs.Couplings.{Share, share, expected, Best, fitted, point_mass, shares_of}
 use Rattle.distance_theory.proofs.Index.{look_up}
 use Rattle.distance_theory.proofs.Crossings.{cross_length}
-use Rattle.distance_theory.proofs.Held.{shares_of, shares_in}
+use Rattle.distance_theory.proofs.Held.{shares_in}
 use Rattle.distance_theory.proofs.Store.{rates_length, fitted_length, transport_length}
 use Rattle.distance_theory.proofs.Bests.{Look, ats, parts, independent_by, values_by, planned_by, best_by, rows_fit, cells_fit, fitting, Bested, bested, bested_as, best_if, beside, cells_few}
 use Rattle.distance_theory.proofs.PairRows.{row_targets, row_rates, reads_row, bested_when, best_pair}

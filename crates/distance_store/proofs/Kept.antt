@@ -16,12 +16,12 @@ use Rattle.epsdelta_theory.specs.Jumps.{jumps_of}
 use Rattle.epsdelta_theory.proofs.RowReads.{jumps_length}
 use Rattle.chain_theory.specs.Columns.{ChainColumns, begins}
 use Rattle.distance_theory.specs.Pairs.{Pair, pair, pair_at, place}
-use Rattle.distance_theory.specs.Couplings.{Share, independent, Metric, row_l, row_r, room}
+use Rattle.distance_theory.specs.Couplings.{Share, independent, Metric, row_l, row_r, room, shares_of}
 use Rattle.distance_theory.specs.Rounds.{first_coupling}
 use Rattle.distance_theory.proofs.Index.{look_up}
 use Rattle.distance_theory.proofs.Turns.{coupling_at}
 use Rattle.distance_theory.proofs.Crossings.{map_at}
-use Rattle.distance_theory.proofs.Held.{shares_of, shares_in}
+use Rattle.distance_theory.proofs.Held.{shares_in}
 use Rattle.distance_theory.proofs.Store.{space, independent_length, room_take, room_within}
 use Rattle.distance_theory.proofs.Stored.{shares_of_lem}
 use Rattle.distance_theory.proofs.Bests.{Look, ats, parts, independent_by, independent_by_lem, rows_fit, fitting, Laid, lay_if}

@@ -1,27 +1,21 @@
 -- The coupling store as the code has it: the couplings of the pairs one after the other, each in places of its own, and as many of these in use as it is long.
 use mathlib.Core.Path.{◌≡◌, refl, sym, subst, ap, ap₂, ◌∙◌}
 use mathlib.Core.Logic.{◌⊎◌, inl, inr}
-use Prim.Native.Nat.{ℕ, zero, suc, ◌+◌, ◌-◌, ◌≤◌, ◌<◌}
+use Prim.Native.Nat.{ℕ, zero, suc, ◌+◌, ◌-◌, ◌≤◌, ◌<◌, min}
 use mathlib.Core.List.{List, [], ◌∷◌, map}
 use native.Mathlib.Omega.{arith}
 use native.Mathlib.Nat.{le_of_suc-le-suc, not-suc-le-zero}
-use lib.ListN.{length, get_or, set, take, drop, length-map}
+use lib.ListN.{length, get_or, set, take, drop, length-map, length-take}
 use lib.Seq.{slice, length-slice, get_or-drop, get_or-take, take-set-le, take-set-lt, drop-set-lt}
 use lib.Ieee.{Float, nan}
-use Rattle.std.proofs.lemmas.List.{drop-take}
+use Rattle.std.proofs.lemmas.List.{drop-take, take_min, drop_min}
 use Rattle.numbers.specs.Lists.{span}
 use Rattle.numbers.proofs.Bools.{lt_or_ge}
 use Rattle.numbers.proofs.Spans.{span_length}
 use Rattle.epsdelta_theory.proofs.Rows.{at_map_span}
-use Rattle.distance_theory.specs.Couplings.{Share, share}
+use Rattle.distance_theory.specs.Couplings.{Share, share, shares_of}
 use Rattle.distance_theory.specs.declared.lent.Store.{Store}
 use Rattle.distance_theory.proofs.Turns.{share_at, coupling_at}
-
--- places and masses, side by side
-unfoldable pub shares_of : List ℕ → List Float → List Share
-shares_of [] ms = []
-shares_of (p ∷ ps) [] = []
-shares_of (p ∷ ps) (m ∷ ms) = share p m ∷ shares_of ps ms
 
 -- those from a to b
 abbrev pub shares_in : List ℕ → List Float → ℕ → ℕ → List Share
@@ -136,3 +130,11 @@ slice_kept a b l i x (inl h) = pick (lt_or_ge i b)
 
 pub in_kept : (P : List ℕ) (M : List Float) (a b i p : ℕ) (m : Float) → (i < a) ⊎ (b ≤ i) → shares_in (set P i p) (set M i m) a b ≡ shares_in P M a b
 in_kept P M a b i p m h = ap₂ shares_of (slice_kept a b P i p h) (slice_kept a b M i m h)
+
+-- of the entries from a to b those that there are, as code lends them
+pub part_there : {A : Type 0} (a b : ℕ) (l : List A) {m n : ℕ} → n ≡ min b (length l) → m ≡ min a n → take (n - m) (drop m l) ≡ slice a b l
+part_there a b l {m} {n} en em =
+    part_is m n l (omega arith)
+    ∙ ap₂ (λ (i : ℕ) (k : ℕ). drop i (take k l)) (em ∙ ap (min a) (en ∙ sym (length-take b l))) en
+    ∙ ap (drop (min a (length (take b l)))) (take_min b l)
+    ∙ drop_min a (take b l)

@@ -10,6 +10,7 @@ pub mod Checks
 pub mod Runs
 pub mod Made
 pub mod Held
+pub mod Summing
 pub mod ValueRows
 pub mod Choosing
 pub mod Index

@@ -10,8 +10,8 @@ use lib.Seq.{slice, drop-cons, get_or-take, take_at}
 use lib.Ieee.{Float, nan, binary64, add, mul}
 use Rattle.numbers.specs.Lists.{over}
 use Rattle.numbers.specs.Real.{nought, sum, sum_from}
-use Rattle.distance_theory.specs.Couplings.{Share, weighed, expected}
-use Rattle.distance_theory.proofs.Held.{shares_of, no_shares}
+use Rattle.distance_theory.specs.Couplings.{Share, weighed, expected, shares_of}
+use Rattle.distance_theory.proofs.Held.{no_shares}
 use Rattle.numbers.proofs.Bools.{lt_or_ge}
 use Rattle.distance_theory.proofs.Bests.{ats, parts}
 

@@ -18,6 +18,12 @@ pub record Share : Type 0 where
 abbrev pub share : ℕ → Float → Share
 share j m = record { at = j; mass = m }
 
+-- places and masses, side by side
+unfoldable pub shares_of : List ℕ → List Float → List Share
+shares_of [] ms = []
+shares_of (p ∷ ps) [] = []
+shares_of (p ∷ ps) (m ∷ ms) = share p m ∷ shares_of ps ms
+
 abbrev pub weighed : List Float → Share → Float
 weighed v c = mul binary64 c.mass (get_or v c.at nan)
 

@@ -1,5 +1,7 @@
 -- What is lent to be written.
-use Rattle.std.specs.Prelude.{◌≡◌, length}
+use Rattle.std.specs.Prelude.{◌≡◌, ◌+◌, ℕ, length, get_or}
+use Rattle.std.proofs.Math.Seq.{slice}
+use Rattle.distance_theory.specs.declared.lent.Shares.{Shares}
 use Rattle.distance_theory.specs.declared.lent.SharesMut.{SharesMut}
 use Rattle.distance_theory.specs.declared.lent.PairsMut.{PairsMut}
 use Rattle.distance_theory.specs.declared.lent.Scratch.{Scratch}
@@ -23,3 +25,10 @@ SameShares a b = (b.places.ghost_name ≡ a.places.ghost_name) × (b.masses.ghos
 -- the same couplings, to be read
 abbrev pub Reads : StoreMut → Store → Type 0
 Reads a b = (b.starts.now ≡ a.starts.now) × (b.lengths.now ≡ a.lengths.now) × (b.places.now ≡ a.places.now) × (b.masses.now ≡ a.masses.now)
+
+-- the coupling of pair k: it starts at starts[k] and is lengths[k] long
+abbrev pub Couples : Store → ℕ → Shares → Type 0
+Couples S k R =
+    let a = get_or S.starts.now k 0 in
+    let b = a + get_or S.lengths.now k 0 in
+    (R.places.now ≡ slice a b S.places.now) × (R.masses.now ≡ slice a b S.masses.now)

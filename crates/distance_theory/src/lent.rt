@@ -1,6 +1,11 @@
 // What the parts of `distance` lend each other.
-ghost use Rattle.distance_theory.specs.Lent.{Reads};
+ghost use Rattle.std.specs.Prelude.{◌≡◌};
+ghost use Rattle.std.proofs.Math.Seq.{slice};
+ghost use Rattle.distance_theory.specs.Couplings;
+ghost use Rattle.distance_theory.specs.Couplings.{shares_of};
+ghost use Rattle.distance_theory.specs.Lent.{Reads, Couples};
 
+use crate::value_at;
 use chain_theory::Chain;
 
 // The entries of a state of a chain: their targets, and the probability of each.
@@ -50,6 +55,48 @@ pub struct Store<'a> {
     pub lengths: &'a [u32],
     pub places: &'a [u32],
     pub masses: &'a [f64],
+}
+
+// Shares that are read: a place of a pair and a mass for each.
+#[derive(Clone, Copy, Debug)]
+pub struct Shares<'a> {
+    pub places: &'a [u32],
+    pub masses: &'a [f64],
+}
+
+impl Shares<'_> {
+    // Σ mass × value.
+    pub fn expected(&self, values: &[f64]) -> f64
+        ensures { result ≡ Couplings.expected values.now (shares_of self.now.places.now self.now.masses.now) }
+    {
+        let mut total = 0.0;
+        for (place, mass) in self.places.iter().zip(self.masses) {
+            total += *mass * value_at(values, *place as usize);
+        }
+        total
+    }
+}
+
+// The entries from..to, of those that there are.
+fn part<T>(list: &[T], from: usize, to: usize) -> &[T]
+    ensures { result.now ≡ slice from to list.now }
+{
+    let to = to.min(list.len());
+    &list[from.min(to)..to]
+}
+
+impl<'a> Store<'a> {
+    // The coupling of pair k: those of its shares that are in the store.
+    pub fn shares(&self, k: usize) -> Shares<'a>
+        ensures { Couples self.now k result }
+    {
+        let from = self.starts.get(k).copied().unwrap_or(0) as usize;
+        let to = from + self.lengths.get(k).copied().unwrap_or(0) as usize;
+        Shares {
+            places: part(self.places, from, to),
+            masses: part(self.masses, from, to),
+        }
+    }
 }
 
 // The lists that couplings are laid in.

@@ -1,7 +1,9 @@
 // `distance` and `bisim_distance` of kantorovich.rs: their data, their definitions (specs/), and laws of these (proofs/).
 #![tactic(auto)]
 
-ghost use Rattle.std.specs.Prelude.{◌≡◌};
+ghost use Rattle.std.specs.Prelude.{◌≡◌, leb, get_or};
+ghost use Rattle.std.specs.Float.{nan};
+ghost use Rattle.numbers.specs.Lists.{all};
 ghost use Rattle.distance_theory.specs.Rounds;
 ghost use Rattle.distance_theory.specs.Refusal;
 
@@ -59,4 +61,18 @@ pub fn excessive(options: MetricOptions) -> bool
     ensures { result ≡ Refusal.excessive options }
 {
     options.top > 64 || options.max_rounds > 10000
+}
+
+// Whether each of these lengths is at least n.
+pub fn long(n: usize, lengths: &[usize]) -> bool
+    ensures { result ≡ all (leb n) lengths.now }
+{
+    lengths.iter().all(|length| *length >= n)
+}
+
+// The value at a place; NaN past the last.
+pub fn value_at(values: &[f64], i: usize) -> f64
+    ensures { result ≡ get_or values.now i nan }
+{
+    values.get(i).copied().unwrap_or(f64::NAN)
 }

@@ -9,11 +9,11 @@ use lib.ListN.{length, get_or, set, take, drop, length-set}
 use lib.Ieee.{Float, nan, binary64, add, mul, le}
 use Rattle.numbers.specs.Real.{nought, sum_from, sum}
 use Rattle.numbers.specs.Choice.{larger, apart}
-use Rattle.distance_theory.specs.Couplings.{Share, Metric, weighed, expected}
+use Rattle.distance_theory.specs.Couplings.{Share, Metric, weighed, expected, shares_of}
 use Rattle.distance_theory.specs.Rounds.{Values, backup, update, sweep, swept, sweeps}
 use Rattle.distance_theory.proofs.Turns.{coupling_at, no_item, sweep_next}
 use Rattle.distance_theory.proofs.Lengths.{sweeps_on, sweeps_end}
-use Rattle.distance_theory.proofs.Held.{shares_of, no_shares, coupling, policy_in, Leads, leads_past, part_leads, part_shares, Holds, policy_length, policy_at}
+use Rattle.distance_theory.proofs.Held.{no_shares, coupling, policy_in, Leads, leads_past, part_leads, part_shares, Holds, policy_length, policy_at}
 use Rattle.distance_theory.proofs.ValueRows.{Swept}
 use Rattle.distance_words.proofs.Valuing.{priced}
 

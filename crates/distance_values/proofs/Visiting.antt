@@ -11,11 +11,11 @@ use lib.Ieee.{Float, nan, binary64, add, sub, mul, lt, eq, ne}
 use Rattle.numbers.specs.Real.{nought, one, eps, is_zero, sum}
 use Rattle.numbers.proofs.Parts.{take_replicate, take_replicate_length}
 use Rattle.distance_theory.specs.Pairs.{most}
-use Rattle.distance_theory.specs.Couplings.{Share}
+use Rattle.distance_theory.specs.Couplings.{Share, shares_of}
 use Rattle.distance_theory.specs.Contributions.{Visits, pour, Stay, stay, stay_all, onward, visits, depart}
 use Rattle.distance_theory.proofs.Turns.{coupling_at, no_item, stay_next}
 use Rattle.distance_theory.proofs.Lengths.{visits_on, visits_end}
-use Rattle.distance_theory.proofs.Held.{shares_of, no_shares, coupling, policy_in, Leads, leads_past, part_leads, part_shares, Holds, policy_length, policy_at}
+use Rattle.distance_theory.proofs.Held.{no_shares, coupling, policy_in, Leads, leads_past, part_leads, part_shares, Holds, policy_length, policy_at}
 use Rattle.distance_theory.proofs.ValueRows.{staying, Stayed, Advanced, visiting, Rested}
 
 -- ---- the shares of a coupling

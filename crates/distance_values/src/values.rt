@@ -2,7 +2,8 @@
 ghost use Rattle.std.specs.Prelude.{◌≡◌, ◌≤◌, length};
 ghost use Rattle.distance_theory.specs.Couplings;
 ghost use Rattle.distance_theory.specs.Rounds;
-ghost use Rattle.distance_theory.proofs.Held.{shares_of, policy_of, Leads, StoreHolds};
+ghost use Rattle.distance_theory.specs.Couplings.{shares_of};
+ghost use Rattle.distance_theory.proofs.Held.{policy_of, Leads, StoreHolds};
 ghost use Rattle.distance_theory.proofs.ValueRows.{Swept};
 ghost use Rattle.distance_words.proofs.Valuing.{priced, valued, evaluated};
 

@@ -3,7 +3,8 @@ ghost use Rattle.std.specs.Prelude.{◌≡◌, ◌≤◌, length, replicate};
 ghost use Rattle.numbers.specs.Real.{nought};
 ghost use Rattle.distance_theory.specs.Pairs.{most};
 ghost use Rattle.distance_theory.specs.Contributions;
-ghost use Rattle.distance_theory.proofs.Held.{shares_of, policy_of, Leads, StoreHolds};
+ghost use Rattle.distance_theory.specs.Couplings.{shares_of};
+ghost use Rattle.distance_theory.proofs.Held.{policy_of, Leads, StoreHolds};
 ghost use Rattle.distance_theory.proofs.ValueRows.{staying, Stayed, Advanced, visiting, Rested};
 ghost use Rattle.distance_words.proofs.Valuing.{occupied_as, visited};
 

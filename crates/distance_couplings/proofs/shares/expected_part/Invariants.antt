@@ -1,8 +1,7 @@
 -- The invariant: the sum so far with the shares still to come gives the sum of all.
 use mathlib.Core.Path.{◌≡◌}
 use lib.Seq.{slice}
-use Rattle.distance_theory.specs.Couplings.{expected}
-use Rattle.distance_theory.proofs.Held.{shares_of}
+use Rattle.distance_theory.specs.Couplings.{expected, shares_of}
 use Rattle.distance_theory.proofs.Stored.{sum_part}
 use Rattle.distance_couplings.proofs.shares.expected_part.Given as goal
 
