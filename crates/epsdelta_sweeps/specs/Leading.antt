@@ -51,10 +51,14 @@ Worded states memory = (states ≤ 2000) × (2 * states < length memory.changed.
 abbrev pub Tested : Terms → Memory → ℕ → ℕ → Bool → Type 0
 Tested terms memory s t b = (R : List Bool) → memory.relation.now ≡ packed R → passes_in terms.rows terms.need R s t ≡ b
 
+-- the place whose pair is tested
+abbrev pub place_of : Asked → Place
+place_of a = record { s = a.s; t = a.t; struck = a.struck }
+
 -- an answer says whether the flow of the test that is asked for is enough
 abbrev pub Answers : Rows → Memory → Asked → Result Flow ℕ → Type 0
 Answers rows memory a answer = (need : Float) (R : List Bool) → memory.relation.now ≡ packed R
-    → (a.back ≡ false → passes_in rows need R a.at.s a.at.t ≡ at_least need answer) × (a.back ≡ true → passes_in rows need R a.at.t a.at.s ≡ at_least need answer)
+    → (a.back ≡ false → passes_in rows need R a.s a.t ≡ at_least need answer) × (a.back ≡ true → passes_in rows need R a.t a.s ≡ at_least need answer)
 
 -- what holds at a place, where it is the turn of its pair, or a flow test of it is asked for
 abbrev pub Holding : Terms → Memory → Place → Bool → Bool → Type 0
@@ -64,7 +68,7 @@ abbrev pub AtTurn : Terms → Memory → Place → Type 0
 AtTurn terms memory p = Holding terms memory p false false
 
 abbrev pub AtTest : Terms → Memory → Asked → Type 0
-AtTest terms memory a = Holding terms memory a.at a.back true
+AtTest terms memory a = Holding terms memory (place_of a) a.back true
 
 -- the rows can be read, and the pair at the place is that of a state and a higher one, or of none where the sweep is over
 abbrev pub Sweepable : Terms → Memory → Place → Type 0
@@ -90,12 +94,12 @@ FromTest terms old p b new s t c struck d = Moving terms old p b true (left term
 
 -- from where it is asked for
 abbrev pub FromAsked : Terms → Memory → Asked → Memory → ℕ → ℕ → Bool → Bool → Bool → Type 0
-FromAsked terms old a new s t c struck d = Moving terms old a.at a.back true (left terms old a.at a.back + 1) new s t c struck d
+FromAsked terms old a new s t c struck d = Moving terms old (place_of a) a.back true (left terms old (place_of a) a.back + 1) new s t c struck d
 
 -- to the turn of (s, t), or to a flow test that is asked for
 abbrev pub ToTurn : (ℕ → ℕ → Bool → Bool → Bool → Type 0) → ℕ → ℕ → Result Bool Asked → Type 0
 ToTurn F s t (Ok struck) = F s t false struck false
-ToTurn F s t (Err a) = F a.at.s a.at.t a.back a.at.struck true
+ToTurn F s t (Err a) = F a.s a.t a.back a.struck true
 
 -- past the last pair of n states
 abbrev pub Past : (ℕ → ℕ → Bool → Bool → Bool → Type 0) → ℕ → Bool → Type 0
@@ -104,12 +108,12 @@ Past F n struck = (s : ℕ) × (t : ℕ) × (n ≤ s) × (n ≤ t) × F s t fals
 -- to the end of a sweep over n states
 abbrev pub ToSweepEnd : (ℕ → ℕ → Bool → Bool → Bool → Type 0) → ℕ → Result Bool Asked → Type 0
 ToSweepEnd F n (Ok struck) = Past F n struck
-ToSweepEnd F n (Err a) = F a.at.s a.at.t a.back a.at.struck true
+ToSweepEnd F n (Err a) = F a.s a.t a.back a.struck true
 
 -- to the end of one without a strike
 abbrev pub ToEnd : (ℕ → ℕ → Bool → Bool → Bool → Type 0) → ℕ → Result ⊤ Asked → Type 0
 ToEnd F n (Ok _) = Past F n false
-ToEnd F n (Err a) = F a.at.s a.at.t a.back a.at.struck true
+ToEnd F n (Err a) = F a.s a.t a.back a.struck true
 
 -- ---- a run
 

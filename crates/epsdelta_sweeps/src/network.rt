@@ -6,7 +6,7 @@ ghost use Rattle.flow.specs.declared.network.FlowNetwork.{FlowNetwork};
 ghost use Rattle.flow.specs.Filled.{flow_rows};
 ghost use Rattle.flow_direct.specs.Reaches.{at_least};
 ghost use Rattle.epsdelta_sweeps.specs.Place.{Same};
-ghost use Rattle.epsdelta_sweeps.specs.Leading.{Whole, Paired, passes_in, Answers, AtTest, FromTest, FromAsked, Past, ToEnd};
+ghost use Rattle.epsdelta_sweeps.specs.Leading.{place_of, Whole, Paired, passes_in, Answers, AtTest, FromTest, FromAsked, Past, ToEnd};
 
 use crate::changes::Memory;
 use crate::place::{Asked, Terms};
@@ -56,15 +56,15 @@ fn lay_links(rows: &Rows, memory: &Memory, s: usize, t: usize, store: &mut LinkS
 
 // Writes the links of the flow test that a place asks for.
 fn lay(rows: &Rows, memory: &Memory, asked: Asked, store: &mut LinkStore) -> Laid
-    requires { Paired rows.now asked.at.s asked.at.t }
+    requires { Paired rows.now asked.s asked.t }
     ensures { (N : FlowNetwork) → length N.links ≡ 2176 → length N.list ≡ 2176 → (costs : List Float) → length costs ≡ 2046 → (need : Float) (R : List Bool) → memory.now.relation.now ≡ packed R
-        → (asked.back ≡ false → passes_in rows.now need R asked.at.s asked.at.t ≡ at_least need (flow_rows N store.new.heads store.new.caps costs result.places result.nodes result.ends.source result.ends.sink).answer)
-        × (asked.back ≡ true → passes_in rows.now need R asked.at.t asked.at.s ≡ at_least need (flow_rows N store.new.heads store.new.caps costs result.places result.nodes result.ends.source result.ends.sink).answer) }
+        → (asked.back ≡ false → passes_in rows.now need R asked.s asked.t ≡ at_least need (flow_rows N store.new.heads store.new.caps costs result.places result.nodes result.ends.source result.ends.sink).answer)
+        × (asked.back ≡ true → passes_in rows.now need R asked.t asked.s ≡ at_least need (flow_rows N store.new.heads store.new.caps costs result.places result.nodes result.ends.source result.ends.sink).answer) }
 {
     if asked.back {
-        return lay_links(rows, memory, asked.at.t, asked.at.s, store);
+        return lay_links(rows, memory, asked.t, asked.s, store);
     }
-    lay_links(rows, memory, asked.at.s, asked.at.t, store)
+    lay_links(rows, memory, asked.s, asked.t, store)
 }
 
 // The flow test that a place asks for, on a network and rows that are lent.
@@ -75,7 +75,7 @@ fn asked_on(
     asked: Asked,
     store: &mut LinkStore,
 ) -> Result<Flow, Refusal>
-    requires { Paired rows.now asked.at.s asked.at.t }
+    requires { Paired rows.now asked.s asked.t }
     ensures { Answers rows.now memory.now asked (numbered result) }
 {
     let _link = net.links[0]; // for the proof: a read tells how long the network's arrays are
@@ -100,7 +100,7 @@ fn answered(
     store: &mut LinkStore,
 ) -> Result<(), Asked>
     requires { Whole terms.now.rows × AtTest terms.now memory.old asked }
-    ensures { ToEnd (FromTest terms.now memory.old asked.at asked.back memory.new) terms.now.rows.states result × Same memory.old memory.new }
+    ensures { ToEnd (FromTest terms.now memory.old (place_of asked) asked.back memory.new) terms.now.rows.states result × Same memory.old memory.new }
 {
     let answer = asked_on(net, &terms.rows, memory, asked, store);
     settle(terms, memory, asked, answer)

@@ -6,7 +6,7 @@ ghost use Rattle.flow_duality.specs.Spare.{row_most};
 ghost use Rattle.flow_duality.proofs.Plenty.{Even};
 ghost use Rattle.flow_direct.specs.Reaches.{at_least};
 ghost use Rattle.epsdelta_sweeps.specs.Place.{Same, Judged};
-ghost use Rattle.epsdelta_sweeps.specs.Leading.{Whole, Paired, Worded, Enough, passes_in, Tested, Answers, Holding, AtTurn, AtTest, Sweepable, FromTurn, FromTest, ToTurn, ToSweepEnd, ToEnd};
+ghost use Rattle.epsdelta_sweeps.specs.Leading.{place_of, Whole, Paired, Worded, Enough, passes_in, Tested, Answers, Holding, AtTurn, AtTest, Sweepable, FromTurn, FromTest, ToTurn, ToSweepEnd, ToEnd};
 
 use crate::changes::{Memory, fade, unchanged};
 use crate::place::{Asked, Place, Terms};
@@ -56,7 +56,12 @@ fn tested_forth(terms: &Terms, memory: &mut Memory, at: Place, passes: bool) -> 
     }
     match judge(terms, memory, at.t, at.s) {
         Some(passes) => Ok(tested_back(terms, memory, at, passes)),
-        None => Err(Asked { at, back: true }),
+        None => Err(Asked {
+            s: at.s,
+            t: at.t,
+            struck: at.struck,
+            back: true,
+        }),
     }
 }
 
@@ -79,8 +84,18 @@ fn turn(terms: &Terms, memory: &mut Memory, at: Place) -> Result<bool, Asked>
     match judge_both(terms, memory, s, t) {
         Ways::Plenty => Ok(at.struck),
         Ways::Both(true) => Ok(at.struck),
-        Ways::Forth => Err(Asked { at, back: true }),
-        Ways::Unknown => Err(Asked { at, back: false }),
+        Ways::Forth => Err(Asked {
+            s,
+            t,
+            struck: at.struck,
+            back: true,
+        }),
+        Ways::Unknown => Err(Asked {
+            s,
+            t,
+            struck: at.struck,
+            back: false,
+        }),
         Ways::Both(false) => {
             memory.strike(terms.rows.states, s, t);
             Ok(true)
@@ -142,17 +157,22 @@ fn tested(
     asked: Asked,
     answer: Result<Flow, Refusal>,
 ) -> Result<bool, Asked>
-    requires { Paired terms.now.rows asked.at.s asked.at.t × Worded terms.now.rows.states memory.old × AtTest terms.now memory.old asked × Answers terms.now.rows memory.old asked (numbered answer) }
-    ensures { ToTurn (FromTest terms.now memory.old asked.at asked.back memory.new) asked.at.s (asked.at.t + 1) result × Same memory.old memory.new }
+    requires { Paired terms.now.rows asked.s asked.t × Worded terms.now.rows.states memory.old × AtTest terms.now memory.old asked × Answers terms.now.rows memory.old asked (numbered answer) }
+    ensures { ToTurn (FromTest terms.now memory.old (place_of asked) asked.back memory.new) asked.s (asked.t + 1) result × Same memory.old memory.new }
 {
+    let at = Place {
+        s: asked.s,
+        t: asked.t,
+        struck: asked.struck,
+    };
     let passes = enough(answer, terms.need);
     if asked.back {
-        return Ok(tested_back(terms, memory, asked.at, passes));
+        return Ok(tested_back(terms, memory, at, passes));
     }
-    if ample(terms, asked.at, answer) {
-        return Ok(asked.at.struck);
+    if ample(terms, at, answer) {
+        return Ok(asked.struck);
     }
-    tested_forth(terms, memory, asked.at, passes)
+    tested_forth(terms, memory, at, passes)
 }
 
 // The answer to the test that is asked for, and the sweeps from there on.
@@ -163,14 +183,13 @@ pub(crate) fn settle(
     answer: Result<Flow, Refusal>,
 ) -> Result<(), Asked>
     requires { Whole terms.now.rows × AtTest terms.now memory.old asked × Answers terms.now.rows memory.old asked (numbered answer) }
-    ensures { ToEnd (FromTest terms.now memory.old asked.at asked.back memory.new) terms.now.rows.states result × Same memory.old memory.new }
+    ensures { ToEnd (FromTest terms.now memory.old (place_of asked) asked.back memory.new) terms.now.rows.states result × Same memory.old memory.new }
 {
-    let at = asked.at;
     let struck = tested(terms, memory, asked, answer)?;
     let next = Place {
-        t: at.t + 1,
+        s: asked.s,
+        t: asked.t + 1,
         struck,
-        ..at
     };
     advance(terms, memory, next)
 }

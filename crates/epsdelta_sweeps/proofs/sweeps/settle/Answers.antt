@@ -1,10 +1,11 @@
 -- `sweeps::settle` meets its contract: the next turn, and the sweeps from there (Resuming).
 use mathlib.Core.Path.{◌∙◌}
 use mathlib.Core.Bool.{true}
+use Rattle.epsdelta_sweeps.specs.Leading.{place_of}
 use Rattle.epsdelta_sweeps.proofs.Resuming.{ended_then}
 use Rattle.epsdelta_sweeps.proofs.sweeps.settle.Goals as goal
 
 pub returns : goal.returns
 returns c =
     let a = c.args in
-    (ended_then a.terms.now a.memory.now c.tested.new.memory c.advance.new.memory a.asked.at _ a.asked.back true _ c.advance.result c.in_ok-struck.ensures.0 c.advance.ensures.0, c.advance.ensures.1 ∙ c.tested.ensures.1)
+    (ended_then a.terms.now a.memory.now c.tested.new.memory c.advance.new.memory (place_of a.asked) _ a.asked.back true _ c.advance.result c.in_ok-struck.ensures.0 c.advance.ensures.0, c.advance.ensures.1 ∙ c.tested.ensures.1)
