@@ -12,7 +12,7 @@ use Rattle.bisim_core.specs.declared.wlts.Shape.{Shape}
 use Rattle.bisim_core.specs.Model.{row, rows, rises, large, unfit, weights_outside, crowded}
 use Rattle.epsdelta_theory.specs.Refusal.{absent}
 use Rattle.chain_theory.specs.Columns.{ChainColumns}
-use Rattle.chain_theory.specs.Check.{within, discount_outside, unfitting, cramped}
+use Rattle.chain_theory.specs.Check.{discount_outside, unfitting, cramped}
 use Rattle.distance_theory.specs.Refusal.{short, excessive}
 use Rattle.distance_theory.specs.declared.MetricOptions.{MetricOptions}
 
@@ -26,7 +26,7 @@ beside_refusal S seen C =
 
 -- a model, a state of it, observations, and the lists lent for its chain
 unfoldable pub side_refusal : Shape → Columns → ℕ → List Float → ChainColumns → ℕ
-unfolding every all rises rows row span crowded_in others intern seek lt le within
+unfolding every all rises rows row span crowded_in others intern seek lt le
 side_refusal S M s seen C =
     check 3 (large S)
     (check 4 (leb S.states s || unfit S M)

@@ -1,9 +1,8 @@
 // The tests that a built model has to pass, each made where those before it passed.
 ghost use Rattle.std.specs.Prelude.{◌≡◌, true, false, ◌&&◌, ◌||◌, not, List, [], map, ℕ, ◌+◌, ◌-◌, ◌≤◌, ◌<◌, length, get_or, take, eqb, ltb, leb, Float};
-ghost use Rattle.std.specs.Float.Ieee.{le};
 ghost use Rattle.std.specs.Float.{nan};
 ghost use Rattle.numbers.specs.Lists.{span, every};
-ghost use Rattle.numbers.specs.Real.{is_zero, least_weight, greatest_joined};
+ghost use Rattle.numbers.specs.Real.{is_zero};
 ghost use Rattle.bisim_core.specs.Data.{columns, columns_of};
 ghost use Rattle.bisim_core.specs.Ids.{distinct};
 ghost use Rattle.bisim_core.specs.Edges.{others, crowded_in};
@@ -12,7 +11,9 @@ ghost use Rattle.bisim_core.specs.Model.{edge_at, begins, rises, row};
 
 use crate::ids::single;
 use crate::wlts::{Shape, Wlts, starts_outside};
+use numbers::bounds::Bounds;
 use numbers::{GREATEST_JOINED, LEAST_WEIGHT};
+use std::ops::Range;
 
 // ---- check 3
 
@@ -61,8 +62,10 @@ fn row_rises(model: &Wlts, s: usize) -> bool
 {
     let labels = model.edge_labels;
     let targets = model.edge_targets;
-    let from = model.offsets[s] as usize;
-    let to = model.offsets[s + 1] as usize;
+    let Range {
+        start: from,
+        end: to,
+    } = model.row(s);
     for i in from..to.saturating_sub(1) {
         if !follows(labels[i], targets[i], labels[i + 1], targets[i + 1]) {
             return false;
@@ -124,17 +127,17 @@ pub(crate) fn unfit(model: &Wlts) -> bool
 
 // ---- check 5
 
-fn joined_weighs(weight: f64) -> bool
-    ensures { result ≡ (le least_weight weight && le weight greatest_joined) }
-{
-    LEAST_WEIGHT <= weight && weight <= GREATEST_JOINED
-}
+// What a joined weight may be.
+const JOINED: Bounds = Bounds {
+    least: LEAST_WEIGHT,
+    greatest: GREATEST_JOINED,
+};
 
 pub(crate) fn all_weigh(model: &Wlts) -> bool
     requires { model.now.shape.edges ≤ length model.now.edge_weights.now }
     ensures { result ≡ every (λ i. Model.joined_weighs (edge_at (columns_of model.now) 0 i)) model.now.shape.edges }
 {
-    (0..model.shape.edges).all(|i| joined_weighs(model.edge_weights[i]))
+    JOINED.hold_all(&model.edge_weights[..model.shape.edges])
 }
 
 // ---- check 6
@@ -144,8 +147,10 @@ fn count_others(model: &Wlts, s: usize, marks: &mut [u32]) -> usize
     requires { (s + 1 < length model.now.offsets.now) × (begins (columns_of model.now) s ≤ begins (columns_of model.now) (s + 1)) × (begins (columns_of model.now) (s + 1) ≤ length model.now.edge_targets.now) × (s < length marks.old) × (length marks.old ≤ 2000) × (((i : ℕ) → i < begins (columns_of model.now) (s + 1) → get_or model.now.edge_targets.now i 0 < length marks.old)) × (((x : ℕ) → get_or marks.old x 0 ≤ s)) }
     ensures { (result ≡ length (distinct (others s (row (columns_of model.now) s)))) × (((x : ℕ) → get_or marks.new x 0 ≤ s + 1)) }
 {
-    let from = model.offsets[s] as usize;
-    let to = model.offsets[s + 1] as usize;
+    let Range {
+        start: from,
+        end: to,
+    } = model.row(s);
     let mark = s as u32 + 1;
     marks[s] = mark;
     let mut count = 0;

@@ -1,5 +1,5 @@
 // A built model: its counts and initial state by value, a lent slice for each column.
-ghost use Rattle.std.specs.Prelude.{◌≡◌, ◌+◌, ◌<◌, length};
+ghost use Rattle.std.specs.Prelude.{◌≡◌, ◌+◌};
 ghost use Rattle.numbers.specs.Refuse.{code};
 ghost use Rattle.bisim_core.specs.Data.{columns_of};
 ghost use Rattle.bisim_core.specs.Model.{begins, model_refusal, refusal_with, starts_outside};
@@ -57,12 +57,18 @@ impl Wlts<'_> {
         Ok(())
     }
 
-    // Which edges are those of state s.
+    // Where the edges of state s begin: 0 where there is no offset for it.
+    fn begins(&self, s: usize) -> usize
+        ensures { result ≡ begins (columns_of self.now) s }
+    {
+        self.offsets.get(s).map_or(0, |at| *at as usize)
+    }
+
+    // Which edges are those of state s: up to where those of the next state begin, and none where there is no offset for that.
     pub fn row(&self, s: usize) -> Range<usize>
-        requires { s + 1 < length self.now.offsets.now }
         ensures { (result.start ≡ begins (columns_of self.now) s) × (result.end ≡ begins (columns_of self.now) (s + 1)) }
     {
-        self.offsets[s] as usize..self.offsets[s + 1] as usize
+        self.begins(s)..self.begins(s.saturating_add(1))
     }
 
     pub fn check(&self) -> Result<(), Refusal>

@@ -55,7 +55,8 @@ pub fn successors(model: &Wlts, s: StateId) -> Result<(usize, usize), Refusal>
 {
     let at = s.0 as usize;
     model.check_with(at >= model.shape.states)?;
-    Ok((model.offsets[at] as usize, model.offsets[at + 1] as usize))
+    let edges = model.row(at);
+    Ok((edges.start, edges.end))
 }
 
 // The label value of an id: out of range, 4.

@@ -12,8 +12,15 @@ ghost use Rattle.build_theory.specs.Lent.{transitions_of};
 
 use crate::lent::Draft;
 use bisim_core::wlts::starts_outside;
+use numbers::bounds::Bounds;
 use numbers::refusal::Refusal;
 use numbers::{GREATEST_WEIGHT, LEAST_WEIGHT};
+
+// What a weight other than 0 may be.
+const WEIGHTS: Bounds = Bounds {
+    least: LEAST_WEIGHT,
+    greatest: GREATEST_WEIGHT,
+};
 
 // Whether the entries of a column that count are below the state count.
 fn all_below(draft: &Draft, column: &[u32]) -> bool
@@ -38,7 +45,7 @@ fn outside(draft: &Draft) -> bool
 fn weighs(w: f64) -> bool
     ensures { result ≡ Model.weighs w }
 {
-    w == 0.0 || (LEAST_WEIGHT <= w && w <= GREATEST_WEIGHT)
+    w == 0.0 || WEIGHTS.hold(w)
 }
 
 // 5 fails where this is false.

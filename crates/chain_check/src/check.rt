@@ -6,7 +6,8 @@ ghost use Rattle.chain_theory.specs.Check.{chain_refusal};
 
 use crate::rows::all_proper;
 use crate::shape::misshapen;
-use chain_theory::{Bounds, Chain};
+use chain_theory::Chain;
+use numbers::bounds::Bounds;
 use numbers::refusal::Refusal;
 
 // Turned back by check 4, 7, 12 or 13; `bounds` are those of the observations. A chain of no states fails 4, since its initial state is none of them.

@@ -5,15 +5,11 @@ use Rattle.std.specs.Float.Ieee.{add, lt, le}
 use Rattle.numbers.specs.Real.{nought, one, slack, sum, least_weight, greatest_rate}
 use Rattle.numbers.specs.Choice.{apart}
 use Rattle.numbers.specs.Refuse.{check}
+use Rattle.numbers.specs.Bounds.{within}
 use Rattle.numbers.specs.Lists.{every, all}
 use Rattle.epsdelta_theory.specs.Jumps.{Jump, targets, rates}
 use Rattle.chain_theory.specs.Columns.{ChainColumns, begins, chain_of}
 use Rattle.chain_theory.specs.declared.ChainShape.{ChainShape}
-
--- a number from lo to hi; NaN is none
-unfoldable pub within : Float → Float → Float → Bool
-unfolding le
-within lo hi x = le lo x && le x hi
 
 -- 11, of γ: it is not above 0 and below 1
 abbrev pub discount_outside : Float → Bool
@@ -85,5 +81,5 @@ improper H C = eqb H.states 0 || (ltb 2000 H.states || not (all proper (chain_of
 -- ---- the first check that a chain fails, with observations from lo to hi; 0 if none does
 
 unfoldable pub chain_refusal : Float → Float → ChainShape → ChainColumns → ℕ
-unfolding every all within proper chain_of
+unfolding every all le proper chain_of
 chain_refusal lo hi H C = check 4 (misshapen H C) (check 7 (unobserved H C) (check 12 (unfitting lo hi H.states C.observations) (check 13 (improper H C) 0)))

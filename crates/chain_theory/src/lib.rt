@@ -2,11 +2,10 @@
 #![tactic(auto)]
 
 ghost use Rattle.std.specs.Prelude.{◌≡◌};
-ghost use Rattle.numbers.specs.Lists.{all};
-ghost use Rattle.chain_theory.specs.Check;
 ghost use Rattle.chain_theory.specs.Lent.{of_chain, of_chain_mut};
 
 use bisim_core::ids::StateId;
+use numbers::bounds::Bounds;
 use numbers::{GREATEST_WEIGHT, LEAST_OBSERVATION};
 
 // The counts of a chain, and its initial state.
@@ -61,31 +60,8 @@ pub struct ChainStore<'a> {
     pub observations: &'a mut [f64],
 }
 
-// The numbers from a least one to a greatest one.
-#[derive(Clone, Copy, Debug)]
-pub struct Bounds {
-    pub least: f64,
-    pub greatest: f64,
-}
-
 // What the observations of a model may be.
 pub const OBSERVATIONS: Bounds = Bounds {
     least: LEAST_OBSERVATION,
     greatest: GREATEST_WEIGHT,
 };
-
-impl Bounds {
-    // Whether x is one of them.
-    pub fn hold(self, x: f64) -> bool
-        ensures { result ≡ Check.within self.least self.greatest x }
-    {
-        self.least <= x && x <= self.greatest
-    }
-
-    // Whether each number of a list is one.
-    pub fn hold_all(self, list: &[f64]) -> bool
-        ensures { result ≡ all (Check.within self.least self.greatest) list.now }
-    {
-        list.iter().all(|x| self.hold(*x))
-    }
-}

@@ -16,7 +16,7 @@ use Rattle.epsdelta_theory.specs.Refusal.{absent, models_refusal}
 use Rattle.epsdelta_theory.specs.Bisimilar.{start}
 use Rattle.chain_theory.specs.Chain.{Chain, common_rate, uniformise}
 use Rattle.chain_theory.specs.Columns.{ChainColumns, chain_columns, starts_from, joined, shape_of, columns_of}
-use Rattle.chain_theory.specs.Check.{within, rate_outside, unfitting, cramped}
+use Rattle.chain_theory.specs.Check.{rate_outside, unfitting, cramped}
 use Rattle.chain_theory.specs.declared.ChainShape.{ChainShape}
 
 -- ---- `common_rate` of two models handed in
@@ -30,7 +30,7 @@ rated SL ML SR MR = answered (models_refusal SL ML SR MR 0) (common_rate (model 
 
 -- the model, the rate, the observations and the lists lent: the first check that fails, 0 if none does
 unfoldable pub uniformise_refusal : Shape → Columns → Float → List Float → ChainColumns → ℕ
-unfolding every all rises rows row span crowded_in others intern seek lt le within
+unfolding every all rises rows row span crowded_in others intern seek lt le
 uniformise_refusal S M q seen C =
     check 3 (large S)
     (check 4 (unfit S M)

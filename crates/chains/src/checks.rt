@@ -7,7 +7,8 @@ ghost use Rattle.chain_theory.specs.Lent.{of_store};
 ghost use Rattle.chains.specs.Outcome;
 
 use bisim_core::wlts::{Shape, Wlts};
-use chain_theory::{Bounds, ChainStore, OBSERVATIONS};
+use chain_theory::{ChainStore, OBSERVATIONS};
+use numbers::bounds::Bounds;
 use numbers::refusal::Refusal;
 use numbers::{GREATEST_RATE, LEAST_WEIGHT};
 use parts::starts::absent;

@@ -6,8 +6,9 @@ ghost use Rattle.distance_theory.specs.Refusal.{distance_refusal as refusal_of};
 
 use bisim_checks::rest::{Rest, rest_refusal};
 use chain_check::check::chain_refusal;
-use chain_theory::{Bounds, Chain};
+use chain_theory::Chain;
 use numbers::ONE;
+use numbers::bounds::Bounds;
 use numbers::refusal::Refusal;
 use parts::refusals::earlier;
 

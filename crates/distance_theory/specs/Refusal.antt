@@ -12,7 +12,7 @@ use Rattle.bisim_core.specs.declared.wlts.Shape.{Shape}
 use Rattle.bisim_core.specs.Model.{row, rows, rises, large, unfit, weights_outside, crowded}
 use Rattle.epsdelta_theory.specs.Refusal.{absent}
 use Rattle.chain_theory.specs.Columns.{ChainColumns, chain_of}
-use Rattle.chain_theory.specs.Check.{within, proper, discount_outside, misshapen, unobserved, unfitting, improper, cramped}
+use Rattle.chain_theory.specs.Check.{proper, discount_outside, misshapen, unobserved, unfitting, improper, cramped}
 use Rattle.chain_theory.specs.declared.ChainShape.{ChainShape}
 use Rattle.transport_theory.specs.Refusal.{unequal}
 use Rattle.distance_theory.specs.Pairs.{most}
@@ -29,7 +29,7 @@ excessive o = ltb 64 o.top || ltb 10000 o.max_rounds
 
 -- `distance` of two chains: checks 4 to 14; the lengths of the lists of pairs, and of the row of contribution records
 unfoldable pub distance_refusal : ChainShape → ChainColumns → ChainShape → ChainColumns → Float → MetricOptions → List ℕ → ℕ → ℕ
-unfolding every all within proper chain_of lt
+unfolding every all proper chain_of lt le
 distance_refusal HL CL HR CR γ o lists records =
     check 4 (misshapen HL CL || misshapen HR CR)
     (check 7 (unobserved HL CL || (unobserved HR CR || short lists records))
@@ -51,7 +51,7 @@ run_refusal G o store mass =
 
 -- `bisim_distance` of two models, a state of each, observations, the lists lent for their chains, and those of `distance`: checks 3 to 14
 unfoldable pub bisim_refusal : Shape → Columns → ℕ → List Float → ChainColumns → Shape → Columns → ℕ → List Float → ChainColumns → Float → MetricOptions → List ℕ → ℕ → ℕ
-unfolding every all rises rows row span crowded_in others intern seek lt le within
+unfolding every all rises rows row span crowded_in others intern seek lt le
 bisim_refusal SL ML s seenL CL SR MR t seenR CR γ o lists records =
     check 3 (large SL || large SR)
     (check 4 (unfit SL ML || (unfit SR MR || (leb SL.states s || leb SR.states t)))

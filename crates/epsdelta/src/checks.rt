@@ -5,8 +5,15 @@ ghost use Rattle.epsdelta_theory.specs.Refusal.{short, tolerances_outside, later
 ghost use Rattle.epsdelta.specs.Sides.{EachFew};
 
 use crate::asked::{Settings, Sides, Tolerances};
+use numbers::bounds::Bounds;
 use numbers::refusal::Refusal;
 use numbers::{GREATEST_FACTOR, ONE, Real};
+
+// What ρ may be.
+const FACTORS: Bounds = Bounds {
+    least: ONE,
+    greatest: GREATEST_FACTOR,
+};
 
 // 7: too few classes of a model, or too few bytes for the relation.
 fn lacking(sides: &Sides, bytes: usize) -> bool
@@ -23,7 +30,7 @@ fn lacking(sides: &Sides, bytes: usize) -> bool
 fn outside(of: Tolerances) -> bool
     ensures { result ≡ tolerances_outside of.epsilon of.rho }
 {
-    !Real(of.epsilon).is_valid() || !(ONE <= of.rho && of.rho <= GREATEST_FACTOR)
+    !Real(of.epsilon).is_valid() || !FACTORS.hold(of.rho)
 }
 
 // The first of the four that fails, where the settings say whether 8 does.

@@ -5,12 +5,13 @@ use Rattle.numbers.specs.Refuse.{check}
 use Rattle.numbers.specs.Lists.{every, all, over}
 use Rattle.chain_theory.specs.Chain.{Scaled, normalise}
 use Rattle.chain_theory.specs.Columns.{ChainColumns, chain_of}
-use Rattle.chain_theory.specs.Check.{within, proper, misshapen, unobserved, unfitting, improper}
+use Rattle.std.specs.Float.Ieee.{le}
+use Rattle.chain_theory.specs.Check.{proper, misshapen, unobserved, unfitting, improper}
 use Rattle.chain_theory.specs.declared.ChainShape.{ChainShape}
 
 -- two chains handed in: the first check that fails over both, 0 if none does
 unfoldable pub normalise_refusal : ChainShape → ChainColumns → ChainShape → ChainColumns → ℕ
-unfolding every all within proper chain_of
+unfolding every all le proper chain_of
 normalise_refusal HL CL HR CR =
     check 4 (misshapen HL CL || misshapen HR CR)
     (check 7 (unobserved HL CL || unobserved HR CR)

@@ -89,3 +89,15 @@ pub every_same : (t u : ℕ → Bool) (n : ℕ) → ((i : ℕ) → i < n → t i
 unfolding every
 every_same t u zero f = refl
 every_same t u (suc n) f = ap (λ (b : Bool). b && every t n) (f n (omega arith)) ∙ ap (λ (b : Bool). u n && b) (every_same t u n (λ i h. f i (omega arith)))
+
+-- a test of the first n entries, by the list or by their numbers
+pub all_take {ℓ} : {A : Type ℓ} (t : A → Bool) (l : List A) (z : A) (n : ℕ) → n ≤ length l → all t (take n l) ≡ every (λ i. t (get_or l i z)) n
+all_take t l z n k = pick (all t (take n l)) refl
+  where
+    not_held : all t (take n l) ≡ false → (b : Bool) → every (λ i. t (get_or l i z)) n ≡ b → false ≡ b
+    not_held e true f = absurd (true≢false (sym (all_of t (take n l) z (λ j h. let i : j < n = (let q = length-take-le n l k in omega arith) in ap t (get_or-take n l j z i) ∙ every_at (λ i. t (get_or l i z)) n f j i)) ∙ e))
+    not_held e false f = refl
+
+    pick : (b : Bool) → all t (take n l) ≡ b → b ≡ every (λ i. t (get_or l i z)) n
+    pick true e = sym (every_of (λ i. t (get_or l i z)) n (all_front t l z n k e))
+    pick false e = not_held e _ refl

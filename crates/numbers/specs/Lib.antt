@@ -5,3 +5,4 @@ pub mod Lists
 pub mod Search
 pub mod Sort
 pub mod Bits
+pub mod Bounds

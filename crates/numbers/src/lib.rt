@@ -1,6 +1,7 @@
 // Numbers: `Real` of semiring.rs, the constants of document 01, the search through a list that stands in for hash maps, and the bits of a byte store.
 #![tactic(auto)]
 
+pub mod bounds; // bounds.rt: the numbers from a least one to a greatest one
 pub mod refusal; // refusal.rt: why a call is turned back
 
 ghost use Rattle.std.specs.Prelude.{◌≡◌, min, false, [], ◌∷◌};

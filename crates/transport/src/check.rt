@@ -1,14 +1,14 @@
 // Refusals of `transport`.
 ghost use Rattle.std.specs.Prelude.{◌≡◌, not, ◌*◌, ltb, length};
-ghost use Rattle.numbers.specs.Lists.{all};
 ghost use Rattle.numbers.specs.Refuse.{code};
 ghost use Rattle.numbers.specs.Real.{sum};
-ghost use Rattle.transport_theory.specs.Refusal.{short, fits, masses_fit, costs_fit, unequal, transport_refusal};
+ghost use Rattle.transport_theory.specs.Refusal.{short, masses_fit, costs_fit, unequal, transport_refusal};
 ghost use Rattle.transport.specs.Outcome.{size_refusal};
 
 use crate::plan::PlanRows;
+use numbers::bounds::AMOUNTS;
 use numbers::refusal::Refusal;
-use numbers::{GREATEST_WEIGHT, ONE, Real, SLACK, apart, larger};
+use numbers::{ONE, Real, SLACK, apart, larger};
 use transport_theory::Masses;
 
 // Fewer than m times n places.
@@ -29,25 +29,14 @@ fn short(of: &Masses, plan: &PlanRows) -> bool
         || lacks(plan.masses.len(), m, n)
 }
 
-// A mass or a cost from 0 to 2^40.
-fn value_fits(x: f64) -> bool
-    ensures { result ≡ fits x }
-{
-    0.0 <= x && x <= GREATEST_WEIGHT
-}
-
-// Every value is from 0 to 2^40.
-fn values_fit(xs: &[f64]) -> bool
-    ensures { result ≡ all fits xs.now }
-{
-    xs.iter().all(|x| value_fits(*x))
-}
-
 // At most 32 masses on a side, each from 0 to 2^40.
 fn masses_fit(of: &Masses) -> bool
     ensures { result ≡ masses_fit of.now.left.now of.now.right.now }
 {
-    of.left.len() <= 32 && of.right.len() <= 32 && values_fit(of.left) && values_fit(of.right)
+    of.left.len() <= 32
+        && of.right.len() <= 32
+        && AMOUNTS.hold_all(of.left)
+        && AMOUNTS.hold_all(of.right)
 }
 
 // Each cell's cost, as far as there are costs, is from 0 to 2^40.
@@ -57,9 +46,9 @@ fn costs_fit(of: &Masses) -> bool
     let m = of.left.len();
     let n = of.right.len();
     if lacks(of.costs.len(), m, n) {
-        return values_fit(of.costs);
+        return AMOUNTS.hold_all(of.costs);
     }
-    values_fit(&of.costs[..m * n])
+    AMOUNTS.hold_all(&of.costs[..m * n])
 }
 
 // The totals differ by too much.

@@ -1,13 +1,9 @@
-use Rattle.std.proofs.Common.{rules, refl, arith, ◌∙◌}
-use borrow.Author.Tests.{tests}
-use Rattle.std.proofs.lemmas.Iterator.{YieldsList-from_range, serves_from_Range}
-use Rattle.std.proofs.lemmas.Iterator.Search.{all_from_yields_List}
-use Rattle.numbers.proofs.Loops.{every_of_range}
-use Rattle.bisim_core.specs.Data.{columns_of}
-use Rattle.bisim_core.specs.Model.{joined_weighs, edge_at}
+use Rattle.std.proofs.Common.{◌∙◌}
+use lib.Ieee.{nan}
+use Rattle.numbers.specs.Real.{least_weight, greatest_joined}
+use Rattle.numbers.specs.Bounds.{within}
+use Rattle.numbers.proofs.Alls.{all_take}
 use Rattle.bisim_core.proofs.check.all_weigh.Goals as goal
 
 pub returns : goal.returns
-returns c =
-    let m = c.args.model.now in
-    all_from_yields_List (λ i. joined_weighs (edge_at (columns_of m) 0 i)) _ _ _ c.all.ensures.ran (YieldsList-from_range 0 m.shape.edges m.shape.edges refl (omega arith)) (λ x b q k. search (rules, tests)) ∙ every_of_range _ _
+returns c = let m = c.args.model.now in c.hold_all.ensures ∙ all_take (within least_weight greatest_joined) m.edge_weights.now nan m.shape.edges c.requires

@@ -11,7 +11,7 @@ returns-then-not-follows c =
     let h = c.loop-i-test.true in
     let e = c.saturating_sub-i-end.ensures in
     let M = columns_of c.args.model.now in
-    sym (ap rises (sym (row_is M c.args.s _ _ refl refl)) ∙ c.loop-i.invariant ∙ rise_stop M _ _ _ (omega arith) (sym c.follows.ensures ∙ c.if-not-follows.true))
+    sym (ap rises (sym (row_is M c.args.s _ _ c.row-from.ensures.0 c.row-from.ensures.1)) ∙ c.loop-i.invariant ∙ rise_stop M _ _ _ (omega arith) (sym c.follows.ensures ∙ c.if-not-follows.true))
 
 pub loop-i-preserved : goal.loop-i-preserved
 loop-i-preserved c =
@@ -24,4 +24,4 @@ returns c =
     let h = c.loop-i-test.false in
     let e = c.saturating_sub-i-end.ensures in
     let M = columns_of c.args.model.now in
-    sym (ap rises (sym (row_is M c.args.s _ _ refl refl)) ∙ c.loop-i.invariant ∙ rise_end M _ _ _ (omega arith))
+    sym (ap rises (sym (row_is M c.args.s _ _ c.row-from.ensures.0 c.row-from.ensures.1)) ∙ c.loop-i.invariant ∙ rise_end M _ _ _ (omega arith))

@@ -5,7 +5,7 @@ use Rattle.transport.proofs.Refusing.{costs_whole, costs_front}
 use Rattle.transport.proofs.check.costs_fit.Goals as goal
 
 pub returns-then-lacks : goal.returns-then-lacks
-returns-then-lacks c = costs_whole (length c.args.of.now.left.now) (length c.args.of.now.right.now) c.args.of.now.costs.now (sym c.lacks.ensures ∙ c.if-lacks.true) _ c.values_fit.ensures
+returns-then-lacks c = costs_whole (length c.args.of.now.left.now) (length c.args.of.now.right.now) c.args.of.now.costs.now (sym c.lacks.ensures ∙ c.if-lacks.true) _ c.hold_all.ensures
 
 pub returns : goal.returns
-returns c = costs_front (length c.args.of.now.left.now) (length c.args.of.now.right.now) c.args.of.now.costs.now _ c.values_fit-2.ensures
+returns c = costs_front (length c.args.of.now.left.now) (length c.args.of.now.right.now) c.args.of.now.costs.now _ c.hold_all-2.ensures

@@ -3,8 +3,8 @@ use borrow.Author.Tests.{tests}
 use Rattle.std.proofs.lemmas.Iterator.{YieldsList-from_slice}
 use Rattle.std.proofs.lemmas.Iterator.Search.{all_from_yields_List}
 use Rattle.numbers.proofs.Loops.{list_all_is}
-use Rattle.chain_theory.specs.Check.{within}
-use Rattle.chain_theory.proofs.Bounds.hold_all.Goals as goal
+use Rattle.numbers.specs.Bounds.{within}
+use Rattle.numbers.proofs.bounds.Bounds.hold_all.Goals as goal
 
 pub returns : goal.returns
 returns c =
