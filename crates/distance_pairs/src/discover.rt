@@ -4,7 +4,7 @@ ghost use Rattle.numbers.specs.Refuse.{numbered};
 ghost use Rattle.chain_theory.specs.Lent.{of_chain};
 ghost use Rattle.distance_theory.specs.Lent.{SamePairs};
 ghost use Rattle.distance_theory.specs.Pairs.{pair};
-ghost use Rattle.distance_theory.proofs.Discovery.{Noting, Meets, crossing, row_in, Rowed, Explorable, Explores, found, found_in, discover};
+ghost use Rattle.distance_theory.proofs.Discovery.{Noting, Meets, Over, counted, crossing, row_in, Rowed, Explorable, Explores, found, found_in, discover};
 ghost use Rattle.distance_theory.proofs.Discovery;
 ghost use Rattle.distance_theory.proofs.Index.{keyed};
 ghost use Rattle.distance_theory.proofs.Index;
@@ -18,7 +18,7 @@ use parts::rates::insert;
 
 // Where the codes of a key go among those of the pairs so far.
 fn goes(pairs: &PairsMut, key: u64) -> usize
-    requires { (key ≤ 8800387989504) × (pairs.now.count ≤ length pairs.now.codes.now) }
+    requires { pairs.now.count ≤ length pairs.now.codes.now }
     ensures { (result ≡ keyed (take pairs.now.count pairs.now.codes.now) key) × (result ≤ pairs.now.count) }
 {
     goes_by(&pairs.codes[..pairs.count], key)
@@ -32,52 +32,50 @@ fn known(pairs: &PairsMut, at: usize, key: u64) -> bool
     is_at(&pairs.codes[..pairs.count], at, key)
 }
 
-// A pair is met: it is known, or the next one. Pair 4,097 is counted, and not noted.
-fn meet(pairs: &mut PairsMut, x: u32, y: u32)
+// A pair is met: it is known, or the next one. Turned back by 17 where it is pair 4,097, which is not noted.
+fn meet(pairs: &mut PairsMut, x: u32, y: u32) -> Result<(), Refusal>
     requires { Noting pairs.old }
     ensures lists { SamePairs pairs.old pairs.new }
-    ensures met { Meets (pair x y ∷ []) pairs.old pairs.new }
+    ensures met { Meets (pair x y ∷ []) result pairs.old pairs.new }
 {
     let pair = key(x, y);
     let n = pairs.count;
     let at = goes(pairs, pair);
     if known(pairs, at, pair) {
-        return;
+        return Ok(());
     }
+    if n >= 4096 {
+        return Err(Refusal::Pairs);
+    }
+    insert(pairs.codes, at, n, code(x, y, n));
+    pairs.lefts[n] = x;
+    pairs.rights[n] = y;
     pairs.count = n + 1;
-    if n < 4096 {
-        insert(pairs.codes, at, n, code(x, y, n));
-        pairs.lefts[n] = x;
-        pairs.rights[n] = y;
-    }
+    Ok(())
 }
 
 // State x with each of a row.
-fn meet_row(pairs: &mut PairsMut, x: u32, ys: &[u32])
+fn meet_row(pairs: &mut PairsMut, x: u32, ys: &[u32]) -> Result<(), Refusal>
     requires { Noting pairs.old }
     ensures lists { SamePairs pairs.old pairs.new }
-    ensures met { Meets (map (pair x) ys.now) pairs.old pairs.new }
+    ensures met { Meets (map (pair x) ys.now) result pairs.old pairs.new }
 {
     for y in ys {
-        meet(pairs, x, *y);
-        if pairs.count > 4096 {
-            return;
-        }
+        meet(pairs, x, *y)?;
     }
+    Ok(())
 }
 
 // Each state of one row with each of another.
-fn meet_rows(pairs: &mut PairsMut, xs: &[u32], ys: &[u32])
+fn meet_rows(pairs: &mut PairsMut, xs: &[u32], ys: &[u32]) -> Result<(), Refusal>
     requires { Noting pairs.old }
     ensures lists { SamePairs pairs.old pairs.new }
-    ensures met { Meets (crossing xs.now ys.now) pairs.old pairs.new }
+    ensures met { Meets (crossing xs.now ys.now) result pairs.old pairs.new }
 {
     for x in xs {
-        meet_row(pairs, *x, ys);
-        if pairs.count > 4096 {
-            return;
-        }
+        meet_row(pairs, *x, ys)?;
     }
+    Ok(())
 }
 
 // The targets of a state.
@@ -89,23 +87,21 @@ fn row<'a>(chain: &Chain<'a>, x: usize) -> &'a [u32]
 }
 
 // Discovery from the first pair on, which is noted.
-fn discover_in(left: &Chain, right: &Chain, pairs: &mut PairsMut)
+fn discover_in(left: &Chain, right: &Chain, pairs: &mut PairsMut) -> Result<(), Refusal>
     requires lists { (pairs.old.count ≡ 1) × Noting pairs.old }
     requires explorable { Explorable left.now.offsets.now left.now.targets.now right.now.offsets.now right.now.targets.now pairs.old.lefts.now pairs.old.rights.now pairs.old.codes.now }
     ensures lists { SamePairs pairs.old pairs.new }
-    ensures explores { Explores left.now.offsets.now left.now.targets.now right.now.offsets.now right.now.targets.now pairs.old.lefts.now pairs.old.rights.now pairs.old.codes.now pairs.new.count pairs.new.lefts.now pairs.new.rights.now pairs.new.codes.now }
+    ensures explores { Over result × (pairs.new.count ≤ 4096) × Explores left.now.offsets.now left.now.targets.now right.now.offsets.now right.now.targets.now pairs.old.lefts.now pairs.old.rights.now pairs.old.codes.now (counted result pairs.new.count) pairs.new.lefts.now pairs.new.rights.now pairs.new.codes.now }
 {
     let mut i = 0;
     // Stays: the list grows while it is walked, which a `for` over it or over its length can't do.
     while i < pairs.count {
         let x = pairs.lefts[i] as usize;
         let y = pairs.rights[i] as usize;
-        meet_rows(pairs, row(left, x), row(right, y));
-        if pairs.count > 4096 {
-            return;
-        }
+        meet_rows(pairs, row(left, x), row(right, y))?;
         i += 1;
     }
+    Ok(())
 }
 
 // Columns as check 4 wants them, of at most 2,000 states.
@@ -123,10 +119,11 @@ fn long(pairs: &PairsMut) -> bool
 }
 
 // The first pair is noted, and all that are met from it on.
-fn discover(left: &Chain, right: &Chain, pairs: &mut PairsMut)
+fn discover(left: &Chain, right: &Chain, pairs: &mut PairsMut) -> Result<(), Refusal>
     requires { Discovery.discoverable left.now.shape (of_chain left.now) right.now.shape (of_chain right.now) pairs.old.lefts.now pairs.old.rights.now pairs.old.codes.now ≡ true }
     ensures lists { SamePairs pairs.old pairs.new }
-    ensures discovered { Discovery.discovered pairs.new.count pairs.new.lefts.now pairs.new.rights.now pairs.new.codes.now ≡ discover left.now.shape (of_chain left.now) right.now.shape (of_chain right.now) pairs.old.lefts.now pairs.old.rights.now pairs.old.codes.now }
+    ensures discovered { Over result × (Discovery.discovered (counted result pairs.new.count) pairs.new.lefts.now pairs.new.rights.now pairs.new.codes.now ≡ discover left.now.shape (of_chain left.now) right.now.shape (of_chain right.now) pairs.old.lefts.now pairs.old.rights.now pairs.old.codes.now) }
+    ensures few { pairs.new.count ≤ 4096 }
 {
     let left_state = left.shape.initial.0;
     let right_state = right.shape.initial.0;
@@ -134,7 +131,7 @@ fn discover(left: &Chain, right: &Chain, pairs: &mut PairsMut)
     pairs.rights[0] = right_state;
     pairs.codes[0] = code(left_state, right_state, 0);
     pairs.count = 1;
-    discover_in(left, right, pairs);
+    discover_in(left, right, pairs)
 }
 
 // The pairs of states that are met from the initial ones on, in the order of their discovery: left and right states, and their index. How many there are; 17 where there are more than 4,096, of which the first 4,096 are listed then.
@@ -146,9 +143,6 @@ pub fn discover_from(left: &Chain, right: &Chain, pairs: &mut PairsMut) -> Resul
     if !long(pairs) || !readable(left) || !readable(right) {
         return Err(Refusal::OutOfRange);
     }
-    discover(left, right, pairs);
-    if pairs.count > 4096 {
-        return Err(Refusal::Pairs);
-    }
+    discover(left, right, pairs)?;
     Ok(pairs.count)
 }

@@ -7,6 +7,7 @@ ghost use Rattle.distance_theory.proofs.Index;
 use bisim_core::ids::StateId;
 
 // A pair as one number.
+// Stays: the C interface lends the index as a list of u64, so that a pair and its number are packed into one and not a struct with a derived order.
 pub(crate) fn key(x: u32, y: u32) -> u64
     ensures { (result ≡ Index.key (pair x y)) × (result < 8800387989504) }
 {
@@ -14,6 +15,7 @@ pub(crate) fn key(x: u32, y: u32) -> u64
 }
 
 // Pair number n.
+// Stays: a u64, as `key`.
 pub(crate) fn code(x: u32, y: u32, n: usize) -> u64
     requires { n < 4096 }
     ensures { result ≡ Index.code (pair x y) n }
@@ -21,22 +23,20 @@ pub(crate) fn code(x: u32, y: u32, n: usize) -> u64
     key(x, y) * 4096 + n as u64
 }
 
-// 1 where a code is below those of a key, else 0. The sign of a difference, and no branch, which half of the time would be foretold wrongly.
+// 1 where a code is below those of a key, else 0.
 fn below(code: u64, key: u64) -> usize
-    requires { key ≤ 8800387989504 }
     ensures { (result ≡ Index.below code key) × (result ≤ 1) }
 {
-    ((key + 9223372036854775807 - code / 4096) / 9223372036854775808) as usize
+    usize::from(code / 4096 < key)
 }
 
 // Where the codes of a key go in a list that rises: the larger half is passed by or not.
 pub(crate) fn goes_by(list: &[u64], key: u64) -> usize
-    requires { key ≤ 8800387989504 }
     ensures { (result ≡ keyed list.now key) × (result ≤ length list.now) }
 {
     let mut lo = 0;
     let mut n = list.len();
-    // Stays: `keyed` is what this halving finds in any list, rising or not, and without a branch; `partition_point` promises that of partitioned lists alone.
+    // Stays: `keyed` is what this halving finds in any list, rising or not; `partition_point` promises that of partitioned lists alone.
     while n > 0 {
         let half = n - n / 2;
         lo = lo + half * below(list[lo + half - 1], key);

@@ -11,7 +11,9 @@ use lib.Dec.{eqb, ltb, leb}
 use lib.ListN.{length, get_or, set, take, drop, length-append, length-drop, length-map, length-take, take-append-drop, get_or-append}
 use lib.Seq.{slice, take_all, take-suc, take_at, take-append-le, length-slice, drop-append-add, drop-drop}
 use Rattle.std.specs.Prelude.{Result, Ok, Err}
-use Rattle.numbers.specs.Refuse.{check, answered}
+use Rattle.std.specs.Result.{IsErrAnd}
+use Rattle.numbers.specs.Refuse.{check, answered, number}
+use Rattle.numbers.specs.declared.refusal.Refusal.{Refusal}
 use Rattle.numbers.specs.Lists.{In, over}
 use Rattle.numbers.specs.Sort.{insert}
 use borrow.Author.Tests.{ltb-true, ltb-false, leb-true, not-true, lt-ltb, le-ltb, ne_eqb}
@@ -102,11 +104,25 @@ Takes ps n l r c n' l' r' c' =
 abbrev pub Noting : PairsMut → Type 0
 Noting P = Lists P.count P.lefts.now P.rights.now P.codes.now
 
-abbrev pub Taken : List Pair → PairsMut → PairsMut → Type 0
-Taken ps P Q = Takes ps P.count P.lefts.now P.rights.now P.codes.now Q.count Q.lefts.now Q.rights.now Q.codes.now
+-- what a pair that is met answers, and how many pairs there are then: those that are noted, or one more for which 17 came up
+abbrev pub Over : Result (Unit {0}) Refusal → Type 0
+Over (Ok u) = Unit {0}
+Over (Err r) = number r ≡ 17
 
-abbrev pub Meets : List Pair → PairsMut → PairsMut → Type 0
-Meets ps P Q = (Q.count ≤ 4097) × (Q.count ≤ 4096 → Noting Q) × Taken ps P Q
+abbrev pub counted : Result (Unit {0}) Refusal → ℕ → ℕ
+counted (Ok u) n = n
+counted (Err r) n = suc most
+
+abbrev pub Taken : List Pair → Result (Unit {0}) Refusal → PairsMut → PairsMut → Type 0
+Taken ps a P Q = Takes ps P.count P.lefts.now P.rights.now P.codes.now (counted a Q.count) Q.lefts.now Q.rights.now Q.codes.now
+
+abbrev pub Meets : List Pair → Result (Unit {0}) Refusal → PairsMut → PairsMut → Type 0
+Meets ps a P Q = Over a × Noting Q × Taken ps a P Q
+
+-- 17 is handed on
+pub handed : (ps : List Pair) (P Q : PairsMut) (a : Result (Unit {0}) Refusal) (r : Refusal) → IsErrAnd a (λ e. e ≡ r) → Meets ps (Err r) P Q → Meets ps a P Q
+handed ps P Q (Ok u) r h M = absurd h
+handed ps P Q (Err s) r h (o, N, T) = (ap number h ∙ o, N, T)
 
 -- the number of the refusal, or how many pairs were found; and the lists then
 pub record Found : Type 0 where
@@ -285,12 +301,12 @@ module _ (x y n : ℕ) (l r c : List ℕ) (L : Lists n l r c) where
           (apart_snoc found (pair x y) N.sane.0 (λ i. let j = place_in (pair x y) found i in omega arith), (let z = length-append found (pair x y ∷ []) in omega arith))
 
       -- it is pair 4,097
-      pub takes_last : most ≤ n → Takes (pair x y ∷ []) n l r c (n + 1) l r c
+      pub takes_last : most ≤ n → Takes (pair x y ∷ []) n l r c (suc most) l r c
       takes_last m a b found l₀ r₀ c₀ h w N =
           let f = L.few in let s = N.count_is in
           let z = length-append found (pair x y ∷ []) in
           let t : take most (found ++ (pair x y ∷ [])) ≡ take most found = take-append-le most found (pair x y ∷ []) (omega arith) in
-          subst⁻¹ (λ (z : List Pair). Noted a b z l₀ r₀ c₀ (n + 1) l r c) (new a b found l₀ r₀ c₀ h w N)
+          subst⁻¹ (λ (z : List Pair). Noted a b z l₀ r₀ c₀ (suc most) l r c) (new a b found l₀ r₀ c₀ h w N)
           (record {
             count_is = omega arith;
             lefts_are = N.lefts_are ∙ ap (λ (ps : List Pair). over (lefts ps) l₀) (sym t);
@@ -531,6 +547,11 @@ module _ {O T P U l r c : List ℕ} {i n : ℕ} {l' r' c' : List ℕ} (D : Disco
 
   pub discovers_end : n ≤ i → Explores O T P U l r c n l' r' c'
   discovers_end h A B a b l₀ r₀ c₀ Ra RB F = finds_end A B a b O T P U Ra RB l₀ r₀ c₀ i n l' r' c' (D A B a b l₀ r₀ c₀ Ra RB F) h
+
+-- 17 is handed on
+pub explored : {O T P U l r c : List ℕ} {i : ℕ} {l' r' c' : List ℕ} (a : Result (Unit {0}) Refusal) (e : Refusal) (n : ℕ) → IsErrAnd a (λ d. d ≡ e) → number e ≡ 17 → Discovers O T P U l r c i (suc most) l' r' c' → Over a × Explores O T P U l r c (counted a n) l' r' c'
+explored (Ok u) e n h f D = absurd h
+explored (Err s) e n h f D = (ap number h ∙ f, discovers_full D (omega arith))
 
 -- ---- the whole
 

@@ -16,4 +16,4 @@ returns-clause-discovered c =
     let l = c.args.left.now in
     let r = c.args.right.now in
     let p = c.args.pairs.now in
-    all_discovered l.shape (of_chain l) r.shape (of_chain r) p.lefts.now p.rights.now p.codes.now c.requires l.shape.initial.0 r.shape.initial.0 c.code.result refl refl c.code.ensures c.discover_in.ensures.explores
+    (c.discover_in.ensures.explores.0, all_discovered l.shape (of_chain l) r.shape (of_chain r) p.lefts.now p.rights.now p.codes.now c.requires l.shape.initial.0 r.shape.initial.0 c.code.result refl refl c.code.ensures c.discover_in.ensures.explores.2)
