@@ -1,3 +1,4 @@
 pub mod Tests
 pub mod Theorem
 pub mod Figures
+pub mod Leaving

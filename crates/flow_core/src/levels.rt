@@ -10,7 +10,8 @@ use flow_check::Network;
 use numbers::EPS;
 
 // The level of a node that has none.
-pub(crate) const UNSET: usize = 18446744073709551615;
+// Stays: a level is a number in the definition too (`unset`, flow_theory), and as Options the levels would be compared and counted up by way of Some at each link.
+pub(crate) const UNSET: usize = usize::MAX;
 
 // The nodes that got a level, first in first out: those from `first` on are still to be looked at.
 #[derive(Clone, Copy)]
@@ -58,9 +59,7 @@ pub(crate) fn levels(net: &Network, caps: &[f64], source: usize, level: &mut [us
     queue.nodes[0] = source;
     while queue.first < queue.end {
         let u = queue.nodes[queue.first];
-        let from = net.starts[u] as usize;
-        let to = net.starts[u + 1] as usize;
         queue.first += 1;
-        scan(net, caps, &net.list[from..to], u, level, &mut queue);
+        scan(net, caps, net.leaving(u), u, level, &mut queue);
     }
 }

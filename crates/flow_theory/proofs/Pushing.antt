@@ -5,15 +5,13 @@ use Prim.Native.Nat.{ℕ, suc, ◌+◌, ◌≤◌, ◌<◌}
 use mathlib.Core.List.{List}
 use native.Mathlib.Omega.{arith}
 use native.Mathlib.Numerals.{add-one}
-use lib.Bits.{bit_xor}
 use lib.ListN.{length, get_or, set, drop, length-set, drop_of_length-le}
 use lib.Seq.{drop-cons}
 use Rattle.std.proofs.lemmas.List.{get_or_past}
 use lib.Ieee.{Float, binary64, nan, lt, add, sub}
 use Rattle.numbers.specs.Choice.{choose, smaller}
-use Rattle.flow_theory.specs.Network.{left}
+use Rattle.flow_theory.specs.Network.{rev, left}
 use Rattle.flow_theory.specs.Augment.{least, push_link, push_path}
-use Rattle.flow_theory.proofs.Links.{rev_xor}
 
 -- what is still to come of the path leads from x to the least
 pub record Least (x₀ : Float) (c : List Float) (p : List ℕ) (i : ℕ) (x : Float) : Type 0 where
@@ -58,12 +56,12 @@ module _ {c₀ : List Float} {p : List ℕ} {x : Float} where
     once = set c e (sub binary64 (get_or c e nan) x)
 
     -- what the link and its reverse have then
-    pub pushed_on : (d b : List Float) → d ≡ once → b ≡ set d (bit_xor e 1) (add binary64 (get_or d (bit_xor e 1) nan) x) → PushesOn x c₀ p (i + 1) b
+    pub pushed_on : (back : ℕ) (d b : List Float) → back ≡ rev e → d ≡ once → b ≡ set d back (add binary64 (get_or d back nan) x) → PushesOn x c₀ p (i + 1) b
     unfolding push_path push_link left
-    pushed_on d b q r = record {
+    pushed_on back d b z q r = record {
       ends = omega arith;
       size = rw (r, q) ((simp length-set) ∙ I.size);
-      same = rw (r, q, add-one i, rev_xor e) (ap (λ (es : List ℕ). push_path x es c) (sym (drop-cons p i 0 more)) ∙ I.same);
+      same = rw (r, q, add-one i, z) (ap (λ (es : List ℕ). push_path x es c) (sym (drop-cons p i 0 more)) ∙ I.same);
     }
 
   pub push_ends : {i : ℕ} {c : List Float} → PushesOn x c₀ p i c → length p ≤ i → c ≡ push_path x p c₀

@@ -8,18 +8,19 @@ use native.Mathlib.Omega.{arith}
 use native.Mathlib.Numerals.{add-one}
 use native.Mathlib.Nat.{not-suc-le-zero}
 use borrow.Author.Tests.{lt-ltb, le-ltb, ne_eqb, eq-eqb}
-use lib.Bits.{bit_xor}
 use lib.Dec.{eqb}
 use lib.ListN.{length, get_or, set, take, length-set}
 use lib.Seq.{take-suc, take-suc-set}
 use lib.Ieee.{Float}
-use Rattle.flow_theory.specs.Network.{Net, nodes, links, head, tail, out, residual}
+use Rattle.flow_theory.specs.Network.{Net, rev, nodes, links, head, tail, out, residual}
 use Rattle.flow_theory.specs.Levels.{level_of}
 use Rattle.flow_theory.specs.Augment.{mark, pass_link, admissible, Walk, Walked, reached, blocked, go, stop, step, arrive, look, advance, retreat, walk, walk_fuel}
-use Rattle.flow_theory.proofs.Links.{HasLevel, level_in, residual_in, rev_xor, rev_in}
+use Rattle.flow_theory.proofs.Links.{HasLevel, level_in, residual_in, rev_in}
 use Rattle.flow_theory.proofs.Paths.{Walks, Path, gauge, walk_go, walk_stop, step_on, step_falls, rests_le}
 use Rattle.flow_theory.proofs.PathRows.{Walkable, Leads, Idle}
-use Rattle.flow_theory.proofs.Outs.{out_length, out_at, link_in}
+use Rattle.numbers.specs.Lists.{In}
+use Rattle.numbers.proofs.Members.{in_at}
+use Rattle.flow_theory.proofs.Outs.{out_length}
 use Rattle.flow_theory.proofs.Scanning.{level_at}
 
 -- ---- the definition's step, by its cases
@@ -137,34 +138,22 @@ module _ {N : Net} {starts list : List ℕ} {c : List Float} {L nx₀ p₀ : Lis
     pub path_room : len < length p
     path_room = let d = depth_low in let l = I.path_length in let s = W.size in omega arith
 
-    pub row_in : (get_or starts u 0 ≤ get_or starts (u + 1) 0) × (get_or starts (u + 1) 0 ≤ length list)
-    row_in = rw (add-one u) (W.laid.ordered u u_in)
-
-    size_at : length (out N u) ≡ get_or starts (suc u) 0 - get_or starts u 0
-    size_at = out_length W.laid u u_in
-
     module _ (off : u ≢ N.sink) where
-      -- the mark stands at a link
-      module _ (more : get_or nx u 0 < get_or starts (u + 1) 0 - get_or starts u 0) where
+      -- es are the links of u, and the mark stands at one of them
+      module _ {es : List ℕ} (is : es ≡ out N u) (more : get_or nx u 0 < length es) where
         abbrev at : ℕ
-        at = get_or list (get_or starts u 0 + get_or nx u 0) 0
-
-        more' : get_or starts u 0 + get_or nx u 0 < get_or starts (suc u) 0
-        more' = let m = rw (add-one u) at more in omega arith
-
-        at_out : get_or (out N u) (get_or nx u 0) 0 ≡ at
-        at_out = out_at W.laid u (get_or nx u 0) u_in more'
+        at = get_or es (get_or nx u 0) 0
 
         left_in : mark nx u < length (out N u)
         unfolding mark
-        left_in = let m = more' in let s = size_at in omega arith
+        left_in = rw (← is) more
 
         mark_at : get_or (out N u) (mark nx u) 0 ≡ at
         unfolding mark
-        mark_at = at_out
+        mark_at = ap (λ (xs : List ℕ). get_or xs (get_or nx u 0) 0) (sym is)
 
         pub link_known : (at < links N) × (tail N at ≡ u)
-        link_known = W.good.listed u at (link_in W.laid u (get_or starts u 0 + get_or nx u 0) u_in (omega arith) more')
+        link_known = W.good.listed u at (subst (In at) is (in_at es (get_or nx u 0) 0 more))
 
         pub head_in : get_or N.heads at 0 < nodes N
         unfolding head
@@ -223,10 +212,10 @@ module _ {N : Net} {starts list : List ℕ} {c : List Float} {L nx₀ p₀ : Lis
           skipped_less = falls W I.going (standing u len p (set nx u (get_or nx u 0 + 1))) aside
 
       -- no link is left
-      module _ (none : get_or starts (u + 1) 0 - get_or starts u 0 ≤ get_or nx u 0) where
+      module _ {es : List ℕ} (is : es ≡ out N u) (none : length es ≤ get_or nx u 0) where
         spent : length (out N u) ≤ mark nx u
         unfolding mark
-        spent = let m = rw (add-one u) at none in let s = size_at in omega arith
+        spent = rw (← is) none
 
         pub blocked_ends : len ≡ 0 → blocked nx ≡ ending N c L nx₀
         unfolding retreat
@@ -248,19 +237,19 @@ module _ {N : Net} {starts list : List ℕ} {c : List Float} {L nx₀ p₀ : Lis
           pub last_in : last < links N
           last_in = rw (← W.caps.size) (residual_in c last leg.0.on)
 
-          pub back_in : bit_xor last 1 < links N
-          back_in = let q = W.good.pairs in rw (rev_xor last, q) (rev_in last W.good.added (rw (← q) last_in))
+          pub back_in : rev last < links N
+          back_in = let q = W.good.pairs in rw q (rev_in last W.good.added (rw (← q) last_in))
 
           abbrev from : ℕ
-          from = get_or N.heads (bit_xor last 1) 0
+          from = get_or N.heads (rev last) 0
 
           from_at : tail N last ≡ from
           unfolding head
-          from_at = ap (λ (x : ℕ). get_or N.heads x 0) (sym (rev_xor last))
+          from_at = refl
 
           pub from_in : from < nodes N
           unfolding head
-          from_in = W.good.heads_in (bit_xor last 1) back_in
+          from_in = W.good.heads_in (rev last) back_in
 
           pub from_next : from < length nx
           from_next = let i = from_in in let l = I.next_length in let s = W.size in omega arith

@@ -2,6 +2,8 @@
 ghost use Rattle.flow_theory.specs.Augment;
 ghost use Rattle.std.specs.Prelude.{◌≡◌};
 
+use crate::reverse;
+
 // The least of x and the capacities on the path; a link without one is passed over.
 pub fn least(caps: &[f64], path: &[usize], x: f64) -> f64
     ensures { result ≡ Augment.least caps.now x path.now }
@@ -20,7 +22,7 @@ pub fn push_path(caps: &mut [f64], path: &[usize], x: f64)
     ensures { caps.new ≡ Augment.push_path x path.now caps.old }
 {
     for e in path {
-        let back = *e ^ 1;
+        let back = reverse(*e);
         if *e < caps.len() {
             caps[*e] -= x;
         }

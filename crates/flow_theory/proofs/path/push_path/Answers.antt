@@ -7,7 +7,7 @@ use Rattle.flow_theory.proofs.path.push_path.Goals.{then-e-caps, else-e-caps, th
 
 pub loop-e-preserved : goal.loop-e-preserved
 loop-e-preserved c =
-    let on = pushed_on c.loop-e.invariant c.loop-e-test.true c.if-e-caps.caps c.if-back-caps.caps
+    let on = pushed_on c.loop-e.invariant c.loop-e-test.true c.reverse-back.result c.if-e-caps.caps c.if-back-caps.caps c.reverse-back.ensures
     (elim c.if-e-caps.branch [
       | then-e-caps w ↦ w.caps-is
       | else-e-caps w ↦ let past = w.if-e-caps.false in w.caps-is ∙ sym (set_past _ _ _ (omega arith))
