@@ -1,9 +1,10 @@
 // The checks of all arguments, and the chains of both models, made in the lists that are lent for them.
-ghost use Rattle.std.specs.Prelude.{◌≡◌, [], ◌∷◌};
+ghost use Rattle.std.specs.Prelude.{◌≡◌};
 ghost use Rattle.numbers.specs.Refuse.{numbered};
 ghost use Rattle.bisim_core.specs.Data.{columns_of};
 ghost use Rattle.bisim_core.specs.Model.{model};
 ghost use Rattle.chain_theory.specs.Lent.{of_store, SameLists};
+ghost use Rattle.bisim_checks.specs.Rest.{of_rest};
 ghost use Rattle.bisim_checks.proofs.Passed.{Side};
 ghost use Rattle.bisim_chains.specs.Made.{rate_of, made, made_of, bisim_made};
 
@@ -61,7 +62,7 @@ pub fn make_chains(
     right_store: &mut ChainStore,
     rest: Rest,
 ) -> Result<(ChainShape, ChainShape), Refusal>
-    ensures outcome { made (numbered result) (of_store left_store.new) (of_store right_store.new) ≡ bisim_made left.now.model.shape (columns_of left.now.model) left.now.state.0 left.now.observations.now (of_store left_store.old) right.now.model.shape (columns_of right.now.model) right.now.state.0 right.now.observations.now (of_store right_store.old) rest.gamma rest.options (rest.lefts ∷ rest.rights ∷ rest.codes ∷ []) rest.records }
+    ensures outcome { made (numbered result) (of_store left_store.new) (of_store right_store.new) ≡ of_rest (bisim_made left.now.model.shape (columns_of left.now.model) left.now.state.0 left.now.observations.now (of_store left_store.old) right.now.model.shape (columns_of right.now.model) right.now.state.0 right.now.observations.now (of_store right_store.old)) rest }
     ensures same_lists { SameLists left_store.old left_store.new × SameLists right_store.old right_store.new }
 {
     bisim_refusal(left, left_store, right, right_store, rest)?;

@@ -1,1 +1,2 @@
+pub mod Rest
 pub mod Sides

@@ -1,9 +1,10 @@
 // The checks of a model with what comes with it, and of all arguments together.
-ghost use Rattle.std.specs.Prelude.{◌≡◌, [], ◌∷◌};
+ghost use Rattle.std.specs.Prelude.{◌≡◌};
 ghost use Rattle.numbers.specs.Refuse.{code};
 ghost use Rattle.bisim_core.specs.Data.{columns_of};
 ghost use Rattle.chain_theory.specs.Lent.{of_store};
 ghost use Rattle.distance_theory.specs.Refusal.{bisim_refusal};
+ghost use Rattle.bisim_checks.specs.Rest.{of_rest};
 ghost use Rattle.bisim_checks.specs.Sides.{beside_refusal, side_refusal};
 
 use crate::rest::{Rest, rest_refusal};
@@ -57,7 +58,7 @@ pub fn bisim_refusal(
     right_store: &ChainStore,
     rest: Rest,
 ) -> Result<(), Refusal>
-    ensures { code result ≡ bisim_refusal left.now.model.shape (columns_of left.now.model) left.now.state.0 left.now.observations.now (of_store left_store.now) right.now.model.shape (columns_of right.now.model) right.now.state.0 right.now.observations.now (of_store right_store.now) rest.gamma rest.options (rest.lefts ∷ rest.rights ∷ rest.codes ∷ []) rest.records }
+    ensures { code result ≡ of_rest (bisim_refusal left.now.model.shape (columns_of left.now.model) left.now.state.0 left.now.observations.now (of_store left_store.now) right.now.model.shape (columns_of right.now.model) right.now.state.0 right.now.observations.now (of_store right_store.now)) rest }
 {
     let of_left = side_refusal(left, left_store);
     let of_right = side_refusal(right, right_store);

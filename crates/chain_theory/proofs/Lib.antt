@@ -1,3 +1,4 @@
 pub mod Figures
 pub mod Chains
 pub mod Shaped
+pub mod ChainRows

@@ -1,5 +1,5 @@
 -- A chain in memory: its columns, read as a chain and laid out from one.
-use Rattle.std.specs.Prelude.{ℕ, ◌+◌, List, [], ◌∷◌, ◌++◌, map, length, get_or, take, Float}
+use Rattle.std.specs.Prelude.{ℕ, ◌+◌, Bool, ◌&&◌, List, [], ◌∷◌, ◌++◌, map, length, get_or, take, leb, ltb, Float}
 use Rattle.std.proofs.Math.Seq.{slice}
 use Rattle.numbers.specs.Lists.{span}
 use Rattle.epsdelta_theory.specs.Jumps.{Jump, jumps_of, targets, rates}
@@ -20,9 +20,19 @@ chain_columns o t p r = record { offsets = o; targets = t; probabilities = p; ob
 abbrev pub begins : ChainColumns → ℕ → ℕ
 begins C s = get_or C.offsets s 0
 
--- the entries of state s
+-- the targets and the probabilities of the entries of state s, and the entries
+abbrev pub row_targets : ChainColumns → ℕ → List ℕ
+row_targets C s = slice (begins C s) (begins C (s + 1)) C.targets
+
+abbrev pub row_rates : ChainColumns → ℕ → List Float
+row_rates C s = slice (begins C s) (begins C (s + 1)) C.probabilities
+
 abbrev pub entries : ChainColumns → ℕ → List Jump
-entries C s = jumps_of (slice (begins C s) (begins C (s + 1)) C.targets) (slice (begins C s) (begins C (s + 1)) C.probabilities)
+entries C s = jumps_of (row_targets C s) (row_rates C s)
+
+-- they can be read
+abbrev pub reads_row : ChainColumns → ℕ → Bool
+reads_row C s = ltb (s + 1) (length C.offsets) && (leb (begins C s) (begins C (s + 1)) && (leb (begins C (s + 1)) (length C.targets) && leb (begins C (s + 1)) (length C.probabilities)))
 
 -- the chain that the columns hold
 unfoldable pub chain_of : ChainShape → ChainColumns → Chain

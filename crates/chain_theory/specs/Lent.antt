@@ -1,9 +1,10 @@
 -- A chain that is lent, and what is lent for one.
-use Rattle.std.specs.Prelude.{◌≡◌, length}
-use Rattle.chain_theory.specs.Columns.{ChainColumns, chain_columns}
+use Rattle.std.specs.Prelude.{◌≡◌, ℕ, true, false, length, Option, Some, None}
+use Rattle.chain_theory.specs.Columns.{ChainColumns, chain_columns, reads_row, row_targets, row_rates}
 use Rattle.chain_theory.specs.declared.Chain.{Chain}
 use Rattle.chain_theory.specs.declared.ChainMut.{ChainMut}
 use Rattle.chain_theory.specs.declared.ChainStore.{ChainStore}
+use Rattle.chain_theory.specs.declared.Row.{Row}
 
 -- its columns
 abbrev pub of_chain : Chain → ChainColumns
@@ -26,3 +27,8 @@ SameLists C D =
     × (length D.targets.now ≡ length C.targets.now)
     × (length D.probs.now ≡ length C.probs.now)
     × (length D.observations.now ≡ length C.observations.now)
+
+-- the entries of a state, or none where they can't be read
+abbrev pub RowRead : Option Row → ChainColumns → ℕ → Type 0
+RowRead (Some R) C s = (reads_row C s ≡ true) × (R.targets.now ≡ row_targets C s) × (R.probs.now ≡ row_rates C s)
+RowRead None C s = reads_row C s ≡ false

@@ -2,7 +2,7 @@
 #![tactic(auto)]
 
 ghost use Rattle.std.specs.Prelude.{◌≡◌};
-ghost use Rattle.chain_theory.specs.Lent.{of_chain, of_chain_mut};
+ghost use Rattle.chain_theory.specs.Lent.{RowRead, of_chain, of_chain_mut};
 
 use bisim_core::ids::StateId;
 use numbers::bounds::Bounds;
@@ -24,6 +24,26 @@ pub struct Chain<'a> {
     pub targets: &'a [u32],
     pub probs: &'a [f64],
     pub observations: &'a [f64],
+}
+
+// The entries of a state of a chain: their targets, and the probability of each.
+#[derive(Clone, Copy, Debug)]
+pub struct Row<'a> {
+    pub targets: &'a [u32],
+    pub probs: &'a [f64],
+}
+
+impl<'a> Chain<'a> {
+    // The entries of state s, where they can be read.
+    pub fn row(&self, s: usize) -> Option<Row<'a>>
+        ensures { RowRead result (of_chain self.now) s }
+    {
+        let from = *self.offsets.get(s)? as usize;
+        let to = *self.offsets.get(s + 1)? as usize;
+        let targets = self.targets.get(from..to)?;
+        let probs = self.probs.get(from..to)?;
+        Some(Row { targets, probs })
+    }
 }
 
 // A chain whose observations are lent to be changed.

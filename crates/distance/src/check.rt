@@ -1,7 +1,8 @@
 // The checks of the arguments of `distance`: 4 to 14.
-ghost use Rattle.std.specs.Prelude.{◌≡◌, [], ◌∷◌};
+ghost use Rattle.std.specs.Prelude.{◌≡◌};
 ghost use Rattle.numbers.specs.Refuse.{code};
 ghost use Rattle.chain_theory.specs.Lent.{of_chain};
+ghost use Rattle.bisim_checks.specs.Rest.{of_rest};
 ghost use Rattle.distance_theory.specs.Refusal.{distance_refusal as refusal_of};
 
 use bisim_checks::rest::{Rest, rest_refusal};
@@ -20,7 +21,7 @@ const OBSERVATIONS: Bounds = Bounds {
 
 // The first check that fails: of either chain by itself, or of the rest.
 pub(crate) fn distance_refusal(left: &Chain, right: &Chain, rest: Rest) -> Result<(), Refusal>
-    ensures { code result ≡ refusal_of left.now.shape (of_chain left.now) right.now.shape (of_chain right.now) rest.gamma rest.options (rest.lefts ∷ rest.rights ∷ rest.codes ∷ []) rest.records }
+    ensures { code result ≡ of_rest (refusal_of left.now.shape (of_chain left.now) right.now.shape (of_chain right.now)) rest }
 {
     let of_left = chain_refusal(left, OBSERVATIONS);
     let of_right = chain_refusal(right, OBSERVATIONS);

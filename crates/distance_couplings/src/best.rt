@@ -14,8 +14,9 @@ ghost use Rattle.distance_theory.proofs.Bests.{Beside, costs_by, places_by, Mova
 
 use crate::shares::{cells_fit, expected_part, lay_shares, place, rows_fit, value_at};
 use bisim_core::ids::StateId;
+use chain_theory::Row;
 use distance_pairs::index::place_of;
-use distance_theory::lent::{Best, Row, SharesMut};
+use distance_theory::lent::{Best, SharesMut};
 use numbers::Real;
 use transport::entry::transport_sized;
 use transport::plan::PlanRows;

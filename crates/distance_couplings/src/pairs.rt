@@ -1,13 +1,13 @@
 // The independent coupling of two states: their rows are read from two chains.
 ghost use Rattle.std.specs.Prelude.{◌≡◌, length};
-ghost use Rattle.chain_theory.specs.Lent.{of_chain};
+ghost use Rattle.chain_theory.specs.Lent.{of_chain, RowRead};
 ghost use Rattle.distance_theory.proofs.Index.{look_up};
 ghost use Rattle.distance_theory.proofs.Bests.{laid_as};
-ghost use Rattle.distance_theory.proofs.PairRows.{RowRead, lay_pair};
+ghost use Rattle.distance_theory.proofs.PairRows.{lay_pair};
 
 use crate::shares::lay_independent;
-use chain_theory::Chain;
-use distance_theory::lent::{Row, SharesMut};
+use chain_theory::{Chain, Row};
+use distance_theory::lent::SharesMut;
 
 // The entries of state x, where they can be read.
 pub fn row<'a>(chain: &Chain<'a>, x: usize) -> Option<Row<'a>>

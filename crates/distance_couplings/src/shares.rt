@@ -11,8 +11,9 @@ ghost use Rattle.distance_theory.proofs.PairRows.{row_jumps};
 ghost use Rattle.distance_theory.proofs.Bests.{ats, parts, independent_by, Beside, rows_fit, cells_fit, laid_as, lay_on};
 
 use bisim_core::ids::StateId;
+use chain_theory::Row;
 use distance_pairs::index::place_of;
-use distance_theory::lent::{Row, SharesMut};
+use distance_theory::lent::SharesMut;
 
 // The value at a place; NaN past the last.
 pub fn value_at(values: &[f64], i: usize) -> f64

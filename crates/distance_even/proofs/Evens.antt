@@ -1,6 +1,6 @@
 -- The parts of the check of refusal 16, and that of a run it is the definition's.
 use Rattle.std.specs.Prelude.{Some}
-use Rattle.distance_theory.specs.declared.lent.Row.{Row}
+use Rattle.chain_theory.specs.declared.Row.{Row}
 use mathlib.Core.Path.{◌≡◌, refl, sym, ap, ap₂, ◌∙◌}
 use Prim.Native.Nat.{ℕ, zero, suc, ◌+◌, ◌≤◌, ◌<◌}
 use mathlib.Core.Bool.{Bool, true, false, not, ◌&&◌, ◌||◌, true≢false}
@@ -18,12 +18,12 @@ use Rattle.numbers.proofs.Bools.{and_first, and_second}
 use Rattle.numbers.proofs.Alls.{all_at, all_of, every_at, every_of, every_not, every_next}
 use Rattle.epsdelta_theory.specs.Jumps.{Jump, rates}
 use Rattle.epsdelta_theory.proofs.RowReads.{jumps_rates}
-use Rattle.chain_theory.specs.Columns.{ChainColumns}
+use Rattle.chain_theory.specs.Columns.{ChainColumns, row_targets, row_rates, reads_row}
+use Rattle.chain_theory.specs.Lent.{RowRead}
 use Rattle.transport_theory.specs.Refusal.{unequal}
 use Rattle.distance_theory.specs.Pairs.{pair, pair_at}
 use Rattle.distance_theory.specs.Couplings.{Metric, row_l, row_r, fitted, even}
 use Rattle.distance_theory.proofs.Crossings.{map_at}
-use Rattle.distance_theory.proofs.PairRows.{RowRead, row_targets, row_rates, reads_row}
 use Rattle.distance_store.proofs.Kept.{Ready, beside_rows}
 use Rattle.distance_words.proofs.Even.{fitted_by, even_rows, even_when, even_pair, even_pairs, all_even}
 

@@ -15,7 +15,7 @@ use Rattle.numbers.specs.Choice.{larger, apart}
 use Rattle.numbers.specs.Lists.{over}
 use Rattle.numbers.proofs.Bools.{and_second, eq_or_ne, lt_or_ge}
 use Rattle.epsdelta_theory.specs.Jumps.{Jump, jumps_of}
-use Rattle.chain_theory.specs.Columns.{ChainColumns}
+use Rattle.chain_theory.specs.Columns.{ChainColumns, row_targets, row_rates}
 use Rattle.distance_theory.specs.Pairs.{Pair, pair_at}
 use Rattle.distance_theory.specs.Couplings.{Share, expected, Metric, row_l, row_r, Best, point_mass, best_of, best_coupling, room, shares_of}
 use Rattle.distance_theory.specs.Rounds.{backup, Improvement, better, improve, improve_all, improved_from}
@@ -26,7 +26,6 @@ use Rattle.distance_theory.proofs.Held.{shares_in}
 use Rattle.distance_theory.proofs.Store.{space, best_length}
 use Rattle.distance_theory.proofs.Stored.{shares_of_lem}
 use Rattle.distance_theory.proofs.Bests.{Look, ats, parts, best_by, best_by_lem}
-use Rattle.distance_theory.proofs.PairRows.{row_targets, row_rates}
 use Rattle.distance_store.proofs.Kept.{Ready, look_is, rows_fit_lem, slice_before, slice_put, Keeps, ends_before, ends_within}
 use Rattle.distance_words.proofs.Improving.{best_when, best_at, Adopted, gains, room_for, adopt_if, adopt, Bettered, bettered, better_from, best_of_pair}
 

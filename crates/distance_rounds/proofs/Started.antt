@@ -12,7 +12,7 @@ use Rattle.numbers.specs.Real.{nought}
 use Rattle.numbers.specs.Lists.{over}
 use Rattle.numbers.proofs.Members.{in_at}
 use Rattle.epsdelta_theory.proofs.RowReads.{starts_up}
-use Rattle.chain_theory.specs.Columns.{ChainColumns, chain_columns, begins, chain_of}
+use Rattle.chain_theory.specs.Columns.{ChainColumns, chain_columns, begins, chain_of, reads_row}
 use Rattle.chain_theory.specs.declared.ChainShape.{ChainShape}
 use Rattle.chain_theory.proofs.Shaped.{Shaped}
 use Rattle.distance_theory.specs.Pairs.{Pair, pair, pair_at, most, row_of, pairs}
@@ -26,7 +26,6 @@ use Rattle.distance_theory.proofs.Index.{look_up, index, index_length, look_up_i
 use Rattle.distance_theory.proofs.Discovery.{lefts, rights}
 use Rattle.distance_theory.proofs.Lengths.{solve_is}
 use Rattle.distance_theory.proofs.Store.{Whole, first_stored}
-use Rattle.distance_theory.proofs.PairRows.{reads_row}
 use Rattle.distance_words.proofs.Store.{Filled}
 use Rattle.distance_store.proofs.Kept.{Ready, Held}
 use Rattle.distance_words.proofs.Iterating.{Task, iterated, iterate_from}

@@ -20,7 +20,7 @@ use Rattle.numbers.proofs.Bools.{and_t, and_first, and_second}
 use Rattle.epsdelta_theory.specs.Jumps.{Jump, jumps_of, rates}
 use Rattle.epsdelta_theory.proofs.RowReads.{jumps_length}
 use Rattle.parts.proofs.Lent.{part, back, part_all, back_is}
-use Rattle.chain_theory.specs.Columns.{ChainColumns}
+use Rattle.chain_theory.specs.Columns.{ChainColumns, row_targets, row_rates, reads_row}
 use Rattle.transport_theory.specs.Transport.{transport}
 use Rattle.distance_theory.specs.Pairs.{target_pair}
 use Rattle.distance_theory.specs.Couplings.{Share, share, expected, Best, fitted, point_mass, shares_of}
@@ -29,7 +29,7 @@ use Rattle.distance_theory.proofs.Crossings.{cross_length}
 use Rattle.distance_theory.proofs.Held.{shares_in}
 use Rattle.distance_theory.proofs.Store.{rates_length, fitted_length, transport_length}
 use Rattle.distance_theory.proofs.Bests.{Look, ats, parts, independent_by, values_by, planned_by, best_by, rows_fit, cells_fit, fitting, Bested, bested, bested_as, best_if, beside, cells_few}
-use Rattle.distance_theory.proofs.PairRows.{row_targets, row_rates, reads_row, bested_when, best_pair}
+use Rattle.distance_theory.proofs.PairRows.{bested_when, best_pair}
 use Rattle.distance_words.proofs.Improving.{best_when, best_at, Adopted, adopted, gains, room_for, adopt_if, adopt, Bettered, bettered, better_from, best_of_pair, counted, better_if}
 
 -- ---- a coupling for a pair

@@ -14,7 +14,7 @@ use Rattle.numbers.specs.Lists.{over}
 use Rattle.numbers.proofs.Bools.{and_t, and_first, and_second, eq_or_ne, lt_or_ge}
 use Rattle.epsdelta_theory.specs.Jumps.{jumps_of}
 use Rattle.epsdelta_theory.proofs.RowReads.{jumps_length}
-use Rattle.chain_theory.specs.Columns.{ChainColumns, begins}
+use Rattle.chain_theory.specs.Columns.{ChainColumns, begins, reads_row, row_targets, row_rates}
 use Rattle.distance_theory.specs.Pairs.{Pair, pair, pair_at, place}
 use Rattle.distance_theory.specs.Couplings.{Share, independent, Metric, row_l, row_r, room, shares_of}
 use Rattle.distance_theory.specs.Rounds.{first_coupling}
@@ -25,7 +25,7 @@ use Rattle.distance_theory.proofs.Held.{shares_in}
 use Rattle.distance_theory.proofs.Store.{space, independent_length, room_take, room_within}
 use Rattle.distance_theory.proofs.Stored.{shares_of_lem}
 use Rattle.distance_theory.proofs.Bests.{Look, ats, parts, independent_by, independent_by_lem, rows_fit, fitting, Laid, lay_if}
-use Rattle.distance_theory.proofs.PairRows.{row_targets, row_rates, reads_row, laid_when, lay_read, lay_pair}
+use Rattle.distance_theory.proofs.PairRows.{laid_when, lay_read, lay_pair}
 use Rattle.distance_words.proofs.Store.{Filled, fill_from, laying_of}
 use Rattle.distance_store.proofs.Filling.{fill_more, fill_none, fill_zero}
 

@@ -1,38 +1,24 @@
 -- The couplings of two states as the code makes them: their rows are read from the columns of two chains, if these can be read.
-use Rattle.std.specs.Prelude.{Option, Some, None, slice_range}
-use Rattle.distance_theory.specs.declared.lent.Row.{Row}
+use Rattle.std.specs.Prelude.{Some}
+use Rattle.chain_theory.specs.declared.Row.{Row}
 use mathlib.Core.Path.{◌≡◌, refl, sym, ap, ap₂, ◌∙◌}
-use Prim.Native.Nat.{ℕ, ◌≤◌, ◌<◌, ◌+◌}
+use Prim.Native.Nat.{ℕ, ◌≤◌}
 use mathlib.Core.Bool.{Bool, true, false, ◌&&◌, true≢false}
 use mathlib.Core.List.{List}
 use native.Mathlib.Omega.{arith}
-use lib.Dec.{ltb, leb}
 use lib.ListN.{length}
-use lib.Seq.{slice}
 use lib.Ieee.{Float}
-use borrow.Author.Tests.{lt-ltb, le-leb}
 use Rattle.numbers.specs.Real.{nought}
 use Rattle.numbers.proofs.Bools.{and_t}
-use Rattle.chain_theory.specs.Columns.{ChainColumns, begins}
+use Rattle.chain_theory.specs.Columns.{ChainColumns, reads_row, row_targets, row_rates}
+use Rattle.chain_theory.specs.Lent.{RowRead}
 use Rattle.epsdelta_theory.specs.Jumps.{Jump, jumps_of}
 use Rattle.distance_theory.specs.Couplings.{Share}
-use Rattle.distance_theory.proofs.Held.{part_is}
 use Rattle.distance_theory.proofs.Bests.{Look, independent_by, rows_fit, fitting, Laid, laid, lay_if, lay_on, Bested, bested, best_on, cells_room, beside, cells_few, freely_length}
-
--- the targets and the probabilities of state x
-abbrev pub row_targets : ChainColumns → ℕ → List ℕ
-row_targets C x = slice (begins C x) (begins C (x + 1)) C.targets
-
-abbrev pub row_rates : ChainColumns → ℕ → List Float
-row_rates C x = slice (begins C x) (begins C (x + 1)) C.probabilities
 
 -- the entries of a row that is lent
 abbrev pub row_jumps : Row → List Jump
 row_jumps R = jumps_of R.targets.now R.probs.now
-
--- they can be read
-abbrev pub reads_row : ChainColumns → ℕ → Bool
-reads_row C x = ltb (x + 1) (length C.offsets) && (leb (begins C x) (begins C (x + 1)) && (leb (begins C (x + 1)) (length C.targets) && leb (begins C (x + 1)) (length C.probabilities)))
 
 -- where not both rows can be, nothing is done
 abbrev pub laid_when : Bool → Laid → List ℕ → List Float → Laid
@@ -57,23 +43,7 @@ module _ (look : Look) (C D : ChainColumns) (codes x y : ℕ) where
   abbrev pub best_pair : List Float → List ℕ → List Float → Bested
   best_pair v p m = bested_when (reads_row C x && reads_row D y) (best_read v p m) p m
 
--- ---- what reading a row answers
-
-abbrev pub RowRead : Option Row → ChainColumns → ℕ → Type 0
-RowRead (Some R) C x = (reads_row C x ≡ true) × (R.targets.now ≡ row_targets C x) × (R.probs.now ≡ row_rates C x)
-RowRead None C x = reads_row C x ≡ false
-
--- its parts from f to t
-pub row_is : (C : ChainColumns) (x f t : ℕ) (ts : List ℕ) (ps : List Float) → x + 1 < length C.offsets → f ≡ begins C x → t ≡ begins C (x + 1) → f ≤ t → t ≤ length C.targets → t ≤ length C.probabilities
-    → ts ≡ slice_range C.targets f t → ps ≡ slice_range C.probabilities f t → (reads_row C x ≡ true) × (ts ≡ row_targets C x) × (ps ≡ row_rates C x)
-row_is C x f t ts ps h ef et k l m es ep =
-    let a : begins C x ≤ begins C (x + 1) = rw (sym ef, sym et) k in
-    let b : begins C (x + 1) ≤ length C.targets = rw (sym et) l in
-    let d : begins C (x + 1) ≤ length C.probabilities = rw (sym et) m in (
-      rw (lt-ltb (x + 1) (length C.offsets) h, le-leb (begins C x) (begins C (x + 1)) a, le-leb (begins C (x + 1)) (length C.targets) b, le-leb (begins C (x + 1)) (length C.probabilities) d),
-      es ∙ ap₂ (slice_range C.targets) ef et ∙ part_is (begins C x) (begins C (x + 1)) C.targets a,
-      ep ∙ ap₂ (slice_range C.probabilities) ef et ∙ part_is (begins C x) (begins C (x + 1)) C.probabilities a,
-    )
+-- ---- what is laid where a row is read, or is not
 
 module _ (look : Look) (C D : ChainColumns) (codes x y : ℕ) where
   pub left_unlaid : reads_row C x ≡ false → (p : List ℕ) (m : List Float) → laid false 0 p m ≡ lay_pair look C D codes x y p m

@@ -8,13 +8,6 @@ ghost use Rattle.distance_theory.specs.Lent.{Reads, Couples};
 use crate::value_at;
 use chain_theory::Chain;
 
-// The entries of a state of a chain: their targets, and the probability of each.
-#[derive(Clone, Copy, Debug)]
-pub struct Row<'a> {
-    pub targets: &'a [u32],
-    pub probs: &'a [f64],
-}
-
 // What a coupling comes to, Σ mass × value, and its number of shares.
 #[derive(Clone, Copy, Debug, PartialEq)]
 pub struct Best {

@@ -7,9 +7,8 @@ use lib.ListN.{length, get_or}
 use lib.Ieee.{Float, binary64, mul, div}
 use Rattle.numbers.specs.Real.{sum}
 use Rattle.numbers.specs.Lists.{every}
-use Rattle.chain_theory.specs.Columns.{ChainColumns}
+use Rattle.chain_theory.specs.Columns.{ChainColumns, row_rates, reads_row}
 use Rattle.transport_theory.specs.Refusal.{unequal}
-use Rattle.distance_theory.proofs.PairRows.{row_rates, reads_row}
 
 -- × ta, then / tb
 abbrev pub fitted_by : Float → Float → Float → Float

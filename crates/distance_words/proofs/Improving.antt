@@ -9,7 +9,7 @@ use Rattle.numbers.specs.Real.{nought, eps}
 use Rattle.numbers.specs.Choice.{larger, apart}
 use Rattle.numbers.specs.Lists.{over}
 use Rattle.epsdelta_theory.specs.Jumps.{jumps_of}
-use Rattle.chain_theory.specs.Columns.{ChainColumns}
+use Rattle.chain_theory.specs.Columns.{ChainColumns, row_targets, row_rates, reads_row}
 use Rattle.chain_theory.specs.Lent.{of_chain}
 use Rattle.distance_theory.specs.declared.lent.StoreMut.{StoreMut}
 use Rattle.distance_theory.specs.declared.lent.Task.{Task as Given}
@@ -18,7 +18,6 @@ use Rattle.distance_theory.specs.Couplings.{expected, Best, point_mass}
 use Rattle.distance_theory.proofs.Index.{look_up}
 use Rattle.distance_theory.proofs.Held.{shares_in}
 use Rattle.distance_theory.proofs.Bests.{Look, ats, parts, best_by, rows_fit}
-use Rattle.distance_theory.proofs.PairRows.{row_targets, row_rates, reads_row}
 
 -- ---- the cheapest coupling of states x and y, none where a row can't be read or has over 32 entries
 

@@ -1,23 +1,24 @@
 -- All three lists are long, or not; then the records.
-use Rattle.std.proofs.Common.{ℕ, arith, refl, sym, ap, ◌∙◌}
-use borrow.Author.Tests.{tests}
-use mathlib.Core.Bool.{not}
+use Rattle.std.proofs.Common.{ℕ, ◌≡◌, refl, sym, ap, ◌∙◌}
+use mathlib.Core.Bool.{Bool, true, false, not, ◌&&◌}
 use mathlib.Core.List.{[], ◌∷◌}
 use lib.Dec.{leb}
-use Rattle.std.proofs.lemmas.Iterator.{YieldsList-from_slice}
-use Rattle.std.proofs.lemmas.Iterator.Search.{all_from_yields_List}
-use Rattle.numbers.proofs.Loops.{list_all_is}
+use Rattle.numbers.specs.Lists.{all}
 use Rattle.numbers.proofs.Refuses.{hit, skip}
+use Rattle.distance_theory.specs.Pairs.{most}
+use Rattle.distance_theory.specs.Refusal.{roomy}
 use Rattle.bisim_checks.proofs.rest.short.Goals as goal
 
-pub returns-then-not-all : goal.returns-then-not-all
-returns-then-not-all c =
-    let r = c.args.rest in
-    let long = all_from_yields_List (λ (n : ℕ). leb 4096 n) _ _ _ c.all.ensures.ran (YieldsList-from_slice (r.lefts ∷ r.rights ∷ r.codes ∷ []) cc) (λ x b q k. grind (arith, tests)) ∙ list_all_is _ _ in
-    ap not c.if-not-all.true ∙ hit _ _ (sym (ap not (sym long ∙ c.if-not-all.true)))
+and_end : (b : Bool) → b ≡ (b && true)
+and_end true = refl
+and_end false = refl
 
-pub returns-else-not-all : goal.returns-else-not-all
-returns-else-not-all c =
-    let r = c.args.rest in
-    let long = all_from_yields_List (λ (n : ℕ). leb 4096 n) _ _ _ c.all.ensures.ran (YieldsList-from_slice (r.lefts ∷ r.rights ∷ r.codes ∷ []) cc) (λ x b q k. grind (arith, tests)) ∙ list_all_is _ _ in
-    skip _ _ _ (ap not (sym long ∙ c.if-not-all.false)) refl
+listed : (l r c : ℕ) → roomy l r c ≡ all (λ n. leb most n) (l ∷ r ∷ c ∷ [])
+unfolding all
+listed l r c = ap (λ (b : Bool). leb most l && (leb most r && b)) (and_end (leb most c))
+
+pub returns-then-not-roomy : goal.returns-then-not-roomy
+returns-then-not-roomy c = let r = c.args.rest in ap not c.if-not-roomy.true ∙ hit _ _ (sym (ap not (sym (c.roomy.ensures ∙ listed r.lefts r.rights r.codes) ∙ c.if-not-roomy.true)))
+
+pub returns-else-not-roomy : goal.returns-else-not-roomy
+returns-else-not-roomy c = let r = c.args.rest in skip _ _ _ (ap not (sym (c.roomy.ensures ∙ listed r.lefts r.rights r.codes) ∙ c.if-not-roomy.false)) refl

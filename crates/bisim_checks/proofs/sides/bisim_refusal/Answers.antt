@@ -11,5 +11,5 @@ returns c =
     let k = c.args.right.now in
     let r = c.args.rest in
     total l.model.shape (columns_of l.model) l.state.0 l.observations.now (of_store c.args.left_store.now) k.model.shape (columns_of k.model) k.state.0 k.observations.now (of_store c.args.right_store.now)
-    r.gamma r.options (r.lefts ∷ r.rights ∷ r.codes ∷ []) r.records _ _ _ _ _
+    r.goal.gamma r.goal.options (r.lefts ∷ r.rights ∷ r.codes ∷ []) r.records _ _ _ _ _
     c.side_refusal-of_left.ensures c.side_refusal-of_right.ensures c.rest_refusal-of_rest.ensures c.earlier.ensures c.earlier-2.ensures

@@ -1,6 +1,6 @@
 -- The parts of the columns that the offsets bound.
 use Rattle.chain_theory.specs.Lent.{of_chain}
-use Rattle.distance_theory.proofs.PairRows.{row_is}
+use Rattle.chain_theory.proofs.ChainRows.{row_is}
 use Rattle.distance_couplings.proofs.pairs.row.Goals as goal
 
 pub returns : goal.returns
