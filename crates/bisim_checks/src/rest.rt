@@ -7,7 +7,7 @@ ghost use Rattle.bisim_checks.specs.Rest.{rest_of, of_rest};
 ghost use Rattle.bisim_checks.specs.Sides.{rest_refusal};
 
 use distance_theory::lent::Scratch;
-use distance_theory::{Goal, excessive, roomy};
+use distance_theory::{Goal, excessive, long};
 use numbers::ONE;
 use numbers::refusal::Refusal;
 
@@ -40,7 +40,7 @@ impl Rest {
 fn short(rest: Rest) -> bool
     ensures { result ≡ short (rest.lefts ∷ rest.rights ∷ rest.codes ∷ []) rest.records }
 {
-    !roomy(rest.lefts, rest.rights, rest.codes) || rest.records < 64
+    !long(4096, &[rest.lefts, rest.rights, rest.codes]) || rest.records < 64
 }
 
 // Whether the discount is not above 0 and below 1.

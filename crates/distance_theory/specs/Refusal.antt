@@ -19,10 +19,6 @@ use Rattle.distance_theory.specs.Pairs.{most}
 use Rattle.distance_theory.specs.Couplings.{Metric, room, fitted, even}
 use Rattle.distance_theory.specs.declared.MetricOptions.{MetricOptions}
 
--- lists of so many left states, right states and codes hold all pairs
-abbrev pub roomy : ℕ → ℕ → ℕ → Bool
-roomy l r c = leb most l && (leb most r && leb most c)
-
 -- 7: a list of pairs of under 4,096 entries, or under 64 contribution records
 abbrev pub short : List ℕ → ℕ → Bool
 short lists records = not (all (λ n. leb most n) lists) || ltb records 64

@@ -56,13 +56,6 @@ pub fn tolerance(options: MetricOptions) -> f64
     larger(EPS, options.tolerance)
 }
 
-// Whether lists of so many left states, right states and codes hold 4,096 pairs.
-pub fn roomy(lefts: usize, rights: usize, codes: usize) -> bool
-    ensures { result ≡ Refusal.roomy lefts rights codes }
-{
-    lefts >= 4096 && rights >= 4096 && codes >= 4096
-}
-
 // Whether more than 64 contributions or 10,000 rounds are asked for.
 pub fn excessive(options: MetricOptions) -> bool
     ensures { result ≡ Refusal.excessive options }
