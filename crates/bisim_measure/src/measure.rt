@@ -82,7 +82,13 @@ pub fn measure(
     ensures lists { SameScratch scratch.old scratch.new }
     ensures measured { measuring (ran_as (numbered result) scratch.new.lefts.now scratch.new.rights.now scratch.new.codes.now scratch.new.places.now scratch.new.masses.now) (of_store left_chain.new) (of_store right_chain.new) ≡ bisim_measure left.now.model.shape (columns_of left.now.model) left.now.state.0 left.now.observations.now (of_store left_chain.old) right.now.model.shape (columns_of right.now.model) right.now.state.0 right.now.observations.now (of_store right_chain.old) goal.gamma goal.options scratch.old.lefts.now scratch.old.rights.now scratch.old.codes.now scratch.old.places.now scratch.old.masses.now records }
 {
-    let rest = Rest::new(goal, scratch, records);
+    let rest = Rest {
+        goal,
+        lefts: scratch.lefts.len(),
+        rights: scratch.rights.len(),
+        codes: scratch.codes.len(),
+        records,
+    };
     let (first, second) = make_chains(left, left_chain, right, right_chain, rest)?;
     run_chains(first, left_chain, second, right_chain, goal, scratch)
 }

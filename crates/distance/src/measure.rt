@@ -26,7 +26,13 @@ pub fn measure(
     ensures lists { SameScratch scratch.old scratch.new }
     ensures measured { ran_as (numbered result) scratch.new.lefts.now scratch.new.rights.now scratch.new.codes.now scratch.new.places.now scratch.new.masses.now ≡ measured_of left.now.shape (of_chain left.now) right.now.shape (of_chain right.now) goal.gamma goal.options scratch.old.lefts.now scratch.old.rights.now scratch.old.codes.now scratch.old.places.now scratch.old.masses.now records }
 {
-    let rest = Rest::new(goal, scratch, records);
+    let rest = Rest {
+        goal,
+        lefts: scratch.lefts.len(),
+        rights: scratch.rights.len(),
+        codes: scratch.codes.len(),
+        records,
+    };
     distance_refusal(left, right, rest)?;
     run(left, right, goal, scratch)
 }
