@@ -1,2 +1,3 @@
 pub mod Beginning
 pub mod Finding
+pub mod Pushing

@@ -4,11 +4,12 @@ ghost use Rattle.std.specs.Float.{binary64, nan};
 ghost use Rattle.std.specs.Float.Ieee.{add, sub, le};
 ghost use Rattle.numbers.specs.Real.{nought};
 ghost use Rattle.numbers.specs.Choice;
-ghost use Rattle.flow_routes.proofs.Coding.{Room, Giving, Shut};
+ghost use Rattle.flow_routes.proofs.Coding.{Shut};
+ghost use Rattle.flow_direct.specs.Lent.{Room, Giving};
 
 use flow_links::rows::Test;
 use flow_routes::remains;
-use numbers::{bit, smaller};
+use numbers::smaller;
 
 // What each target of s and of t has left of its rate, and what was given so far: entry i * n + k says how much target i of s gave to target k of the n of t.
 #[derive(Drop)]
@@ -41,18 +42,17 @@ fn first_open(rest: &Rest, from: usize) -> usize
 
 // Target i of s gives to each target of t from `from` on, those before having nothing left; gives the flow then.
 fn give_row(test: &Test, rest: &mut Rest, i: usize, from: usize, before: f64) -> f64
-    requires { Room test.now.left.targets.now test.now.right.targets.now test.now.states rest.old.lefts.now rest.old.rights.now rest.old.flows.now × (i < length test.now.left.targets.now) × Shut from rest.old.rights.now }
-    ensures { Shut from rest.new.rights.now × Giving test.now.left.targets.now test.now.right.targets.now test.now.states test.now.relation.now rest.old.lefts.now rest.old.rights.now rest.old.flows.now before i rest.new.lefts.now rest.new.rights.now rest.new.flows.now result (i + 1) 0 }
+    requires { Room test.now rest.old × (i < length test.now.left.targets.now) × Shut from rest.old.rights.now }
+    ensures { Shut from rest.new.rights.now × Giving test.now rest.old before i rest.new result (i + 1) 0 }
 {
     let targets = test.right.targets;
-    let relation = test.relation;
-    let base = test.left.targets[i] as usize * test.states;
+    let u = test.left.targets[i];
     let mut total = before;
     for k in from..targets.len() {
         if !remains(rest.lefts[i]) {
             return total;
         }
-        if remains(rest.rights[k]) && bit(relation, base + targets[k] as usize) {
+        if remains(rest.rights[k]) && test.related(u, targets[k]) {
             total += give(rest, i, k, i * targets.len() + k);
         }
     }
@@ -61,8 +61,8 @@ fn give_row(test: &Test, rest: &mut Rest, i: usize, from: usize, before: f64) ->
 
 // Each target of s in turn, until the flow is enough; gives the flow then.
 pub(crate) fn give_rows(test: &Test, rest: &mut Rest, need: f64) -> f64
-    requires { Room test.now.left.targets.now test.now.right.targets.now test.now.states rest.old.lefts.now rest.old.rights.now rest.old.flows.now }
-    ensures { (i : ℕ) × (le need result ≡ false → length test.now.left.targets.now ≤ i) × Giving test.now.left.targets.now test.now.right.targets.now test.now.states test.now.relation.now rest.old.lefts.now rest.old.rights.now rest.old.flows.now nought 0 rest.new.lefts.now rest.new.rights.now rest.new.flows.now result i 0 }
+    requires { Room test.now rest.old }
+    ensures { (i : ℕ) × (le need result ≡ false → length test.now.left.targets.now ≤ i) × Giving test.now rest.old nought 0 rest.new result i 0 }
 {
     let mut total = 0.0;
     let mut from: usize = 0;

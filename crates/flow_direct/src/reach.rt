@@ -5,7 +5,7 @@ ghost use Rattle.numbers.specs.Real.{nought};
 ghost use Rattle.numbers.specs.Refuse.{numbered};
 ghost use Rattle.flow_links.specs.Lent.{test_fits};
 ghost use Rattle.flow_links.proofs.Fitting.{TestFit};
-ghost use Rattle.flow_routes.proofs.Reaching.{Told};
+ghost use Rattle.flow_direct.specs.Lent.{Told};
 ghost use Rattle.flow_direct.specs.Reaches.{at_least, test_reaches, Known};
 
 use crate::give::{Rest, give_rows};
@@ -24,7 +24,7 @@ pub fn enough(answer: Result<Flow, Refusal>, need: f64) -> bool
 // The first pushes, and the search where they are not enough, with room lent for each pair of targets.
 fn reach_in(test: &Test, need: f64, flows: &mut [f64]) -> Option<bool>
     requires { TestFit test.now × (length test.now.left.targets.now * length test.now.right.targets.now ≤ length flows.old) × ((j : ℕ) → j < length flows.old → get_or flows.old j nan ≡ nought) }
-    ensures { Told test.now.left.targets.now test.now.left.rates.now test.now.right.targets.now test.now.right.rates.now test.now.states test.now.relation.now need result }
+    ensures { Told test.now need result }
 {
     let test = *test; // a copy: what is lent is read again after each push
     let mut lefts = [0.0f64; 31];
@@ -46,7 +46,7 @@ fn reach_in(test: &Test, need: f64, flows: &mut [f64]) -> Option<bool>
 // The same, with room for N pairs of targets.
 fn reach_in_room<const N: usize>(test: &Test, need: f64) -> Option<bool>
     requires { TestFit test.now × (length test.now.left.targets.now * length test.now.right.targets.now ≤ N) × (N ≤ 961) }
-    ensures { Told test.now.left.targets.now test.now.left.rates.now test.now.right.targets.now test.now.right.rates.now test.now.states test.now.relation.now need result }
+    ensures { Told test.now need result }
 {
     let mut flows = [0.0f64; N];
     reach_in(test, need, &mut flows)
@@ -55,7 +55,7 @@ fn reach_in_room<const N: usize>(test: &Test, need: f64) -> Option<bool>
 // What is known of a flow test whose rows fit, without a network.
 fn reach(test: &Test, need: f64) -> Option<bool>
     requires { TestFit test.now }
-    ensures { Told test.now.left.targets.now test.now.left.rates.now test.now.right.targets.now test.now.right.rates.now test.now.states test.now.relation.now need result }
+    ensures { Told test.now need result }
 {
     let most = test.left.targets.len().max(test.right.targets.len());
     if most <= 8 {

@@ -1,9 +1,8 @@
 // The search for a flow that is enough: steps until it is, until no path is left, or until too many were made.
 ghost use Rattle.std.specs.Prelude.{◌≡◌, ℕ, ◌≤◌, ◌<◌, length, get_or};
 ghost use Rattle.std.specs.Float.{nan};
-ghost use Rattle.flow_routes.proofs.Coding.{Room};
-ghost use Rattle.flow_routes.proofs.Pathing.{Settled};
-ghost use Rattle.flow_routes.proofs.Reaching.{label_of, Tried, Judged, Searched};
+ghost use Rattle.flow_routes.proofs.Reaching.{label_of, Judged};
+ghost use Rattle.flow_direct.specs.Lent.{Room, AsLong, Tried, Settled, Searched};
 
 use crate::give::Rest;
 use crate::path::Labels;
@@ -47,8 +46,8 @@ fn try_once(
     total: f64,
     need: f64,
 ) -> Attempt
-    requires { Room test.now.left.targets.now test.now.right.targets.now test.now.states rest.old.lefts.now rest.old.rights.now rest.old.flows.now × (length labels.old.lefts.now ≡ length test.now.left.targets.now) × (length labels.old.rights.now ≡ length test.now.right.targets.now) × (1 ≤ s) × (s ≤ 8) }
-    ensures { Tried test.now.left.targets.now test.now.right.targets.now test.now.states test.now.relation.now need rest.old.lefts.now rest.old.rights.now rest.old.flows.now labels.old.lefts.now labels.old.rights.now s total rest.new.lefts.now rest.new.rights.now rest.new.flows.now labels.new.lefts.now labels.new.rights.now result }
+    requires { Room test.now rest.old × AsLong test.now labels.old × (1 ≤ s) × (s ≤ 8) }
+    ensures { Tried test.now need rest.old labels.old s total rest.new labels.new result }
 {
     match first_left(rest, labels, s) {
         Some(start) => {
@@ -77,8 +76,8 @@ fn tries_of(m: usize, n: usize) -> usize
 
 // Tries until one ends the search.
 fn settle(test: &Test, rest: &mut Rest, labels: &mut Labels, before: f64, need: f64) -> Option<bool>
-    requires { Room test.now.left.targets.now test.now.right.targets.now test.now.states rest.old.lefts.now rest.old.rights.now rest.old.flows.now × (length labels.old.lefts.now ≡ length test.now.left.targets.now) × (length labels.old.rights.now ≡ length test.now.right.targets.now) }
-    ensures { Settled test.now.left.targets.now test.now.right.targets.now test.now.states test.now.relation.now need rest.old.lefts.now rest.old.rights.now rest.old.flows.now labels.old.lefts.now labels.old.rights.now before result }
+    requires { Room test.now rest.old × AsLong test.now labels.old }
+    ensures { Settled test.now need rest.old labels.old before result }
 {
     let mut s: usize = 2;
     let mut total = before;
@@ -124,8 +123,8 @@ fn first_labels(rest: &Rest, labels: &mut Labels)
 
 // The search from the first labels.
 pub(crate) fn search_on(test: &Test, rest: &mut Rest, before: f64, need: f64) -> Option<bool>
-    requires { Room test.now.left.targets.now test.now.right.targets.now test.now.states rest.old.lefts.now rest.old.rights.now rest.old.flows.now }
-    ensures { Searched test.now.left.targets.now test.now.right.targets.now test.now.states test.now.relation.now need rest.old.lefts.now rest.old.rights.now rest.old.flows.now before result }
+    requires { Room test.now rest.old }
+    ensures { Searched test.now need rest.old before result }
 {
     let mut lefts = [1usize; 31];
     let mut rights = [1usize; 31];

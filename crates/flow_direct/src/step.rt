@@ -1,7 +1,6 @@
 // One step of the search: a walk by labels, and then a push along the whole path, or the rise of a label.
 ghost use Rattle.std.specs.Prelude.{◌≡◌, ◌≢◌, true, ℕ, ◌≤◌, ◌<◌, ◌+◌, length, get_or, set};
-ghost use Rattle.flow_routes.proofs.Coding.{Placed, Sized, Room};
-ghost use Rattle.flow_routes.proofs.Pathing.{LeastIs, SendsAll, Stepped};
+ghost use Rattle.flow_direct.specs.Lent.{Room, AsLong, Placed, LeastIs, Sends, Stepped};
 
 use crate::give::Rest;
 use crate::path::{Labels, Path, least, push, walk};
@@ -18,12 +17,12 @@ fn rise(labels: &mut [usize], i: usize, g: usize) -> bool
 }
 
 // Pushes the least that is left on a whole path along it; gives how much.
-fn send(test: &Test, rest: &mut Rest, s: usize, path: &Path) -> f64
-    requires { Room test.now.left.targets.now test.now.right.targets.now test.now.states rest.old.lefts.now rest.old.rights.now rest.old.flows.now × (s ≤ 8) × Placed (length test.now.left.targets.now) (length test.now.right.targets.now) s path.now.lefts path.now.rights 1 0 }
-    ensures { LeastIs (length test.now.right.targets.now) rest.old.lefts.now rest.old.rights.now rest.old.flows.now s path.now.lefts path.now.rights result × Sized rest.old.lefts.now rest.old.rights.now rest.old.flows.now rest.new.lefts.now rest.new.rights.now rest.new.flows.now × SendsAll (length test.now.right.targets.now) rest.old.lefts.now rest.old.rights.now rest.old.flows.now s path.now.lefts path.now.rights result rest.new.lefts.now rest.new.rights.now rest.new.flows.now }
+fn send(test: &Test, rest: &mut Rest, path: &Path) -> f64
+    requires { Room test.now rest.old × (path.now.s ≤ 8) × Placed test.now path.now }
+    ensures { LeastIs test.now rest.old path.now result × Sends test.now rest.old path.now result rest.new }
 {
-    let x = least(test, rest, s, path);
-    push(test, rest, s, path, x);
+    let x = least(test, rest, path);
+    push(test, rest, path, x);
     x
 }
 
@@ -35,14 +34,15 @@ pub(crate) fn one_step(
     s: usize,
     start: usize,
 ) -> Step
-    requires { Room test.now.left.targets.now test.now.right.targets.now test.now.states rest.old.lefts.now rest.old.rights.now rest.old.flows.now × (length labels.old.lefts.now ≡ length test.now.left.targets.now) × (length labels.old.rights.now ≡ length test.now.right.targets.now) × (1 ≤ s) × (s ≤ 8) × (start < length test.now.left.targets.now) }
-    ensures { Stepped test.now.left.targets.now test.now.right.targets.now test.now.states test.now.relation.now rest.old.lefts.now rest.old.rights.now rest.old.flows.now labels.old.lefts.now labels.old.rights.now s start rest.new.lefts.now rest.new.rights.now rest.new.flows.now labels.new.lefts.now labels.new.rights.now result }
+    requires { Room test.now rest.old × AsLong test.now labels.old × (1 ≤ s) × (s ≤ 8) × (start < length test.now.left.targets.now) }
+    ensures { Stepped test.now rest.old labels.old s start rest.new labels.new result }
 {
     let mut path = Path {
+        s,
         lefts: [0; 10],
         rights: [0; 10],
     };
-    match walk(test, rest, labels, s, start, &mut path) {
+    match walk(test, rest, labels, start, &mut path) {
         Stop::Left(g) => {
             if rise(labels.lefts, path.lefts[g], g) {
                 Step::Cut
@@ -57,7 +57,7 @@ pub(crate) fn one_step(
         Stop::Sink => {
             let k = path.rights[1];
             if remains(rest.rights[k]) {
-                Step::Pushed(send(test, rest, s, &path))
+                Step::Pushed(send(test, rest, &path))
             } else {
                 labels.rights[k] = 2;
                 Step::Risen

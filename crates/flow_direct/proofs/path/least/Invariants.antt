@@ -5,4 +5,4 @@ use Rattle.flow_routes.proofs.Pathing.{LeastOn}
 use Rattle.flow_direct.proofs.path.least.Given as goal
 
 abbrev pub invariant-loop-g : goal.invariant-loop-g
-invariant-loop-g l = (1 ≤ l.g) × (l.g ≤ l.s) × LeastOn (length l.test.right.targets.now) l.rest.lefts.now l.rest.rights.now l.rest.flows.now l.s l.path.lefts l.path.rights l.g l.x
+invariant-loop-g l = (1 ≤ l.g) × (l.g ≤ l.path.s) × LeastOn (length l.test.right.targets.now) l.rest.lefts.now l.rest.rights.now l.rest.flows.now l.path.s l.path.lefts l.path.rights l.g l.x

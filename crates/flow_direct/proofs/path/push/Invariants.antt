@@ -8,5 +8,5 @@ use Rattle.flow_direct.proofs.path.push.Given as goal
 
 abbrev pub invariant-loop-g : goal.invariant-loop-g
 invariant-loop-g l =
-    (1 ≤ l.g) × (l.g ≤ l.s) × (l.rest.lefts.now ≡ l.initial.rest.lefts.now) × (l.rest.rights.now ≡ l.initial.rest.rights.now) × (length l.rest.flows.now ≡ length l.initial.rest.flows.now)
-    × SendsOn (length l.test.right.targets.now) l.initial.rest.lefts.now l.initial.rest.rights.now l.initial.rest.flows.now l.s l.path.lefts l.path.rights l.x l.g (minus l.x l.initial.rest.lefts.now (get_or l.path.lefts l.s 0)) l.initial.rest.rights.now l.rest.flows.now
+    (1 ≤ l.g) × (l.g ≤ l.path.s) × (l.rest.lefts.now ≡ l.initial.rest.lefts.now) × (l.rest.rights.now ≡ l.initial.rest.rights.now) × (length l.rest.flows.now ≡ length l.initial.rest.flows.now)
+    × SendsOn (length l.test.right.targets.now) l.initial.rest.lefts.now l.initial.rest.rights.now l.initial.rest.flows.now l.path.s l.path.lefts l.path.rights l.x l.g (minus l.x l.initial.rest.lefts.now (get_or l.path.lefts l.path.s 0)) l.initial.rest.rights.now l.rest.flows.now

@@ -10,17 +10,17 @@ use Rattle.flow_direct.proofs.path.walk.Goals as goal
 pub returns-then-g-eq1 : goal.returns-then-g-eq1
 returns-then-g-eq1 c =
     let h : c.loop-k.g < length c.loop-k.path.rights = search rules in
-    stops_sink (walking_forth c.loop-k.invariant h c.in-Some.ensures.0 c.in-Some.ensures.1) c.if-g-eq1.true
+    (c.loop-k.invariant.0, stops_sink (walking_forth c.loop-k.invariant.1 h c.in-Some.ensures.0 c.in-Some.ensures.1) c.if-g-eq1.true)
 
 pub returns-in_default-first_back : goal.returns-in_default-first_back
 returns-in_default-first_back c =
     let h : c.loop-k.g < length c.loop-k.path.rights = search rules in
-    stops_right (walking_forth c.loop-k.invariant h c.in-Some.ensures.0 c.in-Some.ensures.1) c.if-g-eq1.false (λ j m p. (first_here c.args.rest.now.flows.now (length c.args.test.now.right.targets.now) c.loop-k.path.rights c.loop-k.g c.in-Some.k h c.in_default-first_back.ensures).none j (rw c.requires.3 m) p)
+    (c.loop-k.invariant.0, stops_right (walking_forth c.loop-k.invariant.1 h c.in-Some.ensures.0 c.in-Some.ensures.1) c.if-g-eq1.false (λ j m p. (first_here c.args.rest.now.flows.now (length c.args.test.now.right.targets.now) c.loop-k.path.rights c.loop-k.g c.in-Some.k h c.in_default-first_back.ensures).none j (rw c.requires.1.0 m) p))
 
 pub loop-k-preserved : goal.loop-k-preserved
 loop-k-preserved c =
     let h : c.loop-k.g < length c.loop-k.path.rights = search rules in
     let l : c.loop-k.g ≤ length c.loop-k.path.lefts = search rules in
-    let (o, u, v) = walking_low c.loop-k.invariant c.requires.7 in
+    let (o, u, v) = walking_low c.loop-k.invariant.1 c.requires.3 in
     let d = c.if-g-eq1.false in
-    walking_back (walking_forth c.loop-k.invariant h c.in-Some.ensures.0 c.in-Some.ensures.1) (omega arith) l (let q = c.in-Some-first_back.ensures.0 in omega arith) (rw (← c.requires.3) (first_here c.args.rest.now.flows.now (length c.args.test.now.right.targets.now) c.loop-k.path.rights c.loop-k.g c.in-Some.k h c.in-Some-first_back.ensures.1))
+    (c.loop-k.invariant.0, walking_back (walking_forth c.loop-k.invariant.1 h c.in-Some.ensures.0 c.in-Some.ensures.1) (omega arith) l (let q = c.in-Some-first_back.ensures.0 in omega arith) (rw (← c.requires.1.0) (first_here c.args.rest.now.flows.now (length c.args.test.now.right.targets.now) c.loop-k.path.rights c.loop-k.g c.in-Some.k h c.in-Some-first_back.ensures.1)))
