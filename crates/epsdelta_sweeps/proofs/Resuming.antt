@@ -9,7 +9,7 @@ use native.Mathlib.Numerals.{add-one}
 use native.Mathlib.Nat.{mul-le-mul_right, suc-mul}
 use lib.Ieee.{Float, nan}
 use lib.ListN.{length, get_or}
-use Rattle.std.specs.Prelude.{⊤, Result, Ok, Err}
+use Rattle.std.specs.Prelude.{⊤, Option, IfSome, Result, Ok, Err}
 use Rattle.std.specs.Result.{IsErrAnd}
 use Rattle.numbers.specs.Real.{is_zero}
 use Rattle.numbers.specs.Bits.{packed, unpack, bit_at, cleared}
@@ -271,7 +271,7 @@ module _ (n : ℕ) (store : List ℕ) where
 unasked : {A : Type 0} → false ≡ true → A
 unasked e = absurd (false≢true e)
 
-module _ {n : ℕ} {E : List Float} {S T : List ℕ} {P : List Float} {need plenty : Float} where
+module _ {n : ℕ} {E : List Float} {S T : List ℕ} {P : List Float} {need : Float} {plenty : Option Float} where
   pub moves_start : {store C : List ℕ} {s t : ℕ} {back struck asks : Bool} → Held n E S T P need plenty store C s t back asks
       → Moves n E S T P need plenty store s t back struck asks (weight n store s t back struck + 1) store C s t back struck asks
   moves_start H = record { leads = λ Q K z a. a; held = H; falls = omega arith }
@@ -287,7 +287,7 @@ handed X (Ok x) h p = absurd h
 handed X (Err b) h p = subst⁻¹ (λ c. X (Err c)) h p
 
 -- both orders are cleared, and the strike is noted
-struck_held : {n : ℕ} {E : List Float} {S T : List ℕ} {P : List Float} {need plenty : Float} → RowsFit n S T P → {store C : List ℕ} {s t : ℕ} {back : Bool} {store' C' : List ℕ} → Held n E S T P need plenty store C s t back true → store' ≡ cleared (cleared store (s * n + t)) (t * n + s) → C' ≡ noted C s t
+struck_held : {n : ℕ} {E : List Float} {S T : List ℕ} {P : List Float} {need : Float} {plenty : Option Float} → RowsFit n S T P → {store C : List ℕ} {s t : ℕ} {back : Bool} {store' C' : List ℕ} → Held n E S T P need plenty store C s t back true → store' ≡ cleared (cleared store (s * n + t)) (t * n + s) → C' ≡ noted C s t
     → Held n E S T P need plenty store' C' s (t + 1) false false × (standing n store' < standing n store)
 struck_held {n} F {store} {C} {s} {t} {back} {store'} H e f =
     let A = H.asked refl in
@@ -311,7 +311,7 @@ told : {Q : Task} {n : ℕ} {E : List Float} {S T : List ℕ} {P : List Float} {
     → Ends n S T P need store b u v → u < n → v < n → (y : Run) → Stored y store struck → Q.test y.relation u v ≡ b
 told K u v f hu hv y Y = sym (K.test y.relation u v hu hv) ∙ f y.relation Y.0
 
-module _ {n : ℕ} {E : List Float} {S T : List ℕ} {P : List Float} {need plenty : Float} (F : RowsFit n S T P) {store C : List ℕ} {s t : ℕ} (struck : Bool) where
+module _ {n : ℕ} {E : List Float} {S T : List ℕ} {P : List Float} {need : Float} {plenty : Option Float} (F : RowsFit n S T P) {store C : List ℕ} {s t : ℕ} (struck : Bool) where
   -- a turn without a test
   module _ (hs : s < n) (ht : t < n) (H : Held n E S T P need plenty store C s t false false) where
     passed_over : ((Q : Task) → SweepsIn Q n E S T P need → (y : Run) → Stored y store struck → turn Q s t y ≡ y) → Noted n E S T P need store C s (t + 1)
@@ -390,6 +390,12 @@ module _ {n : ℕ} {E : List Float} {S T : List ℕ} {P : List Float} {need plen
         falls = strike_falls n store store' s t true struck (omega arith) k h.1;
       }
 
+  -- the test that is asked for, whichever
+  pub asked_fails : {store' C' : List ℕ} (back : Bool) → Held n E S T P need plenty store C s t back true → (back ≡ false → Ends n S T P need store false s t) → (back ≡ true → Ends n S T P need store false t s)
+      → store' ≡ cleared (cleared store (s * n + t)) (t * n + s) → C' ≡ noted C s t → Moves n E S T P need plenty store s t back struck true (weight n store s t back struck) store' C' s (t + 1) false true false
+  asked_fails false H f g e c = forth_fails H (f refl) e c
+  asked_fails true H f g e c = back_fails H (g refl) e c
+
   -- a pair that reads nothing noted passes both tests
   pub turn_quiet : s < t → t < n → Held n E S T P need plenty store C s t false false → is_zero (get_or E s nan) ≡ false → bit_at store (s * n + t) ≡ true
       → ((R : List Bool) → store ≡ packed R → (test_in n S T P need R s t ≡ true) × (test_in n S T P need R t s ≡ true))
@@ -466,7 +472,7 @@ sweep_falls n store store' s t struck h = pick (lt_or_ge (standing n store) (sta
         absurd (omega arith)
 
 -- a sweep that struck, and the next
-pub sweep_again : {n : ℕ} {E : List Float} {S T : List ℕ} {P : List Float} {need plenty : Float} → RowsFit n S T P
+pub sweep_again : {n : ℕ} {E : List Float} {S T : List ℕ} {P : List Float} {need : Float} {plenty : Option Float} → RowsFit n S T P
     → {store : List ℕ} {s t : ℕ} {back struck asks : Bool} {w : ℕ} {store₁ C₁ : List ℕ} {s₁ t₁ : ℕ} {struck₁ : Bool} (C' : List ℕ) {store₂ C₂ : List ℕ} {s₂ t₂ : ℕ} {back₂ struck₂ asks₂ : Bool}
     → Moves n E S T P need plenty store s t back struck asks w store₁ C₁ s₁ t₁ false struck₁ false → n ≤ s₁ → n ≤ t₁ → struck₁ ≡ true
     → length C' ≡ length C₁ → ((u : ℕ) → u < n → get_or C' (2 * u + 1) 0 ≡ get_or C₁ (2 * u) 0)
@@ -484,8 +490,8 @@ ended_then terms old mid new p q b asks w (Err a) M N = moves_then M (omega arit
 
 -- ---- the run
 
-module _ {n : ℕ} {E : List Float} {S T : List ℕ} {P : List Float} {need plenty : Float} where
-  pub held_start : {store C : List ℕ} → Bytes n store → Plenty n S T P need plenty → Even n store → 2 * n < length C → get_or C (2 * n) 0 ≡ 0 → Held n E S T P need plenty store C 0 1 false false
+module _ {n : ℕ} {E : List Float} {S T : List ℕ} {P : List Float} {need : Float} {plenty : Option Float} where
+  pub held_start : {store C : List ℕ} → Bytes n store → IfSome plenty (Plenty n S T P need) → Even n store → 2 * n < length C → get_or C (2 * n) 0 ≡ 0 → Held n E S T P need plenty store C 0 1 false false
   held_start B p e l f = record { bytes = B; noted = noted_start B.0 B.1 l f; even = e; enough = p; asked = unasked }
 
   -- past the last pair, after a sweep without a strike, is the end

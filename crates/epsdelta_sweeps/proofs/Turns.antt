@@ -5,13 +5,12 @@ use mathlib.Core.Bool.{Bool, true, false, ◌&&◌, false≢true}
 use mathlib.Core.List.{List, [], ◌∷◌}
 use native.Mathlib.Omega.{arith}
 use lib.Dec.{leb, eqb}
-use lib.Ieee.{Float, nan, binary64, of_bits, of_fields, div}
+use lib.Ieee.{Float, nan}
 use lib.ListN.{length, get_or, take, drop}
 use lib.Seq.{get_or-take, get_or-drop, take-nil, slice, length-slice}
 use borrow.Author.Tests.{le-leb, eq-eqb}
-use Rattle.std.specs.Prelude.{Option, Some, None, IfSome, unwrap_or, Result, Ok, Err}
+use Rattle.std.specs.Prelude.{Option, Some, None, IfSome, IsSomeAnd, MatchOption, unwrap_or, Result, Ok, Err}
 use Rattle.numbers.specs.Bits.{packed}
-use Rattle.numbers.specs.Real.{nought}
 use Rattle.numbers.proofs.Bools.{and_second}
 use Rattle.epsdelta_theory.specs.Jumps.{jumps_of}
 use Rattle.epsdelta_theory.specs.FlowTest.{run_between, links_of, heads}
@@ -125,22 +124,25 @@ module _ {n : ℕ} {S T : List ℕ} {P : List Float} (F : RowsFit n S T P) where
       → both_reach (entries S T s) (entries S P s) (entries S T t) (entries S P t) n (relation_of store) need ≡ (test_in n S T P need R s t && test_in n S T P need R t s)
   reached_both need store R z s t h k = rw (reached_in need store R z s t h k, reached_in need store R z t s k h)
 
-  -- where the flow is plenty, both tests pass
-  pub plenty_in : (need plenty : Float) → Plenty n S T P need plenty → (here : Float) (store : List ℕ) (R : List Bool) → store ≡ packed R → Even n store → (s t : ℕ) → Between (get_or S s 0) (get_or S (s + 1) 0) (get_or S t 0) (get_or S (t + 1) 0) plenty here → s < n → t < n
-      → reaches (entries S T s) (entries S P s) (entries S T t) (entries S P t) n (relation_of store) here ≡ true → (test_in n S T P need R s t ≡ true) × (test_in n S T P need R t s ≡ true)
-  plenty_in need plenty K here store R z E s t B h k p =
-      let (x, y, q) = B (run_between n R (row_in S T P s) (row_in S T P t)).total (sym (reached_in here store R z s t h k) ∙ p) in
-      K R (even_symmetric n store R z E) s t h k x y q
+  -- a row of few targets takes few places
+  few : (s : ℕ) → s < n → length (entries S T s) ≤ row_most → get_or S (s + 1) 0 ≤ get_or S s 0 + row_most
+  few s h a = let e = length-slice (get_or S s 0) (get_or S (s + 1) 0) T (F.targets_long s h) in omega arith
 
-  -- so they do where an answer is plenty
-  pub ample_in : (need plenty : Float) → Plenty n S T P need plenty → (store : List ℕ) (R : List Bool) → store ≡ packed R → Even n store → (s t : ℕ) (r : Result Flow ℕ) → s < n → t < n
-      → (get_or S (s + 1) 0 ≤ get_or S s 0 + row_most) × (get_or S (t + 1) 0 ≤ get_or S t 0 + row_most) × (at_least plenty r ≡ true) → test_in n S T P plenty R s t ≡ at_least plenty r → (test_in n S T P need R s t ≡ true) × (test_in n S T P need R t s ≡ true)
-  ample_in need plenty K store R z E s t r h k (x, y, q) e = K R (even_symmetric n store R z E) s t h k x y (e ∙ q)
+  -- where an answer is plenty, both tests pass
+  pub ample_in : (need : Float) (plenty : Option Float) → IfSome plenty (Plenty n S T P need) → (store : List ℕ) (R : List Bool) → store ≡ packed R → Even n store → (s t : ℕ) → s < n → t < n
+      → (x : Float) → plenty ≡ Some x → length (entries S T s) ≤ row_most → length (entries S T t) ≤ row_most → test_in n S T P x R s t ≡ true → (test_in n S T P need R s t ≡ true) × (test_in n S T P need R t s ≡ true)
+  ample_in need plenty K store R z E s t h k x e a b p = subst (λ (o : Option Float). IfSome o (Plenty n S T P need)) e K R (even_symmetric n store R z E) s t h k (few s h a) (few t k b) p
 
--- an answer that is plenty between two rows is plenty, and they are short
-pub ample_is : (a b c d : ℕ) (plenty here : Float) (r : Result Flow ℕ) → Between a b c d plenty here → at_least here r ≡ true → (b ≤ a + row_most) × (d ≤ c + row_most) × (at_least plenty r ≡ true)
-ample_is a b c d plenty here (Ok f) B h = B f.flow h
-ample_is a b c d plenty here (Err k) B h = absurd (false≢true h)
+  -- so they do where the flow is
+  pub plenty_in : (need : Float) (plenty : Option Float) → IfSome plenty (Plenty n S T P need) → (here : Option Float) (store : List ℕ) (R : List Bool) → store ≡ packed R → Even n store → (s t : ℕ) → Between (length (entries S T s)) (length (entries S T t)) plenty here → s < n → t < n
+      → IsSomeAnd here (λ x. reaches (entries S T s) (entries S P s) (entries S T t) (entries S P t) n (relation_of store) x ≡ true) → (test_in n S T P need R s t ≡ true) × (test_in n S T P need R t s ≡ true)
+  plenty_in need plenty K (Some x) store R z E s t (e, a, b) h k p = ample_in need plenty K store R z E s t h k x e a b (sym (reached_in x store R z s t h k) ∙ p)
+  plenty_in need plenty K None store R z E s t B h k p = absurd p
+
+-- what `is_some_and` was told, where it answers true
+pub some_true : {F : Float → Type 0} (o : Option Float) {b : Bool} → MatchOption o (b ≡ false) F → b ≡ true → (x : Float) × (o ≡ Some x) × F x
+some_true (Some x) k e = (x, refl, k)
+some_true None k e = absurd (false≢true (sym k ∙ e))
 
 -- what is known of a flow test, of the definition's
 pub known_test : {X : List Bool → Type 0} (t : Test) (need : Float) (f : List Bool → Bool) (known : Option Bool) → IfSome known (λ passes. passes ≡ test_reaches t need) → ((R : List Bool) → X R → test_reaches t need ≡ f R) → IfSome known (λ passes. (R : List Bool) → X R → f R ≡ passes)
@@ -148,7 +150,7 @@ known_test t need f (Some passes) v h = λ R e. sym (v ∙ h R e)
 known_test t need f None v h = v
 
 -- and of the one back
-pub known_judged : (t : Test) (need here : Float) {f b : Bool} (w : Ways) → Known t need here w → test_both t need ≡ (f && b) → test_reaches t need ≡ f → (test_reaches t here ≡ true → (f ≡ true) × (b ≡ true)) → Judged f b w
+pub known_judged : (t : Test) (need : Float) (here : Option Float) {f b : Bool} (w : Ways) → Known t need here w → test_both t need ≡ (f && b) → test_reaches t need ≡ f → (IsSomeAnd here (λ x. test_reaches t x ≡ true) → (f ≡ true) × (b ≡ true)) → Judged f b w
 known_judged t need here (ways.Both passes) k e g h = sym (k ∙ e)
 known_judged t need here ways.Plenty k e g h = h k
 known_judged t need here ways.Forth k e g h = sym g ∙ k
@@ -192,9 +194,3 @@ module _ {n : ℕ} {S T : List ℕ} {P : List Float} (F : RowsFit n S T P) where
       ∙ ap (λ (z : ℕ). at_least need (flow_rows N h' c' p v (length us + length ts + 2) (length us + length ts) z).answer) ez
       ∙ ap (at_least need) (rows_between store L N whole places p (omega arith) ∙ passed_in F store R e s t i j)
       )
-
--- ---- no flow is plenty
-
-pub no_number : div binary64 nought nought ≡ nan
-unfolding div of_bits of_fields
-no_number = refl

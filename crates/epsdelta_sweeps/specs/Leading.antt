@@ -5,12 +5,13 @@ use mathlib.Core.Bool.{Bool, true, false}
 use mathlib.Core.List.{List}
 use lib.Ieee.{Float}
 use lib.ListN.{length}
-use Rattle.std.specs.Prelude.{⊤, Result, Ok, Err}
+use Rattle.std.specs.Prelude.{⊤, Option, Some, IfSome, Result, Ok, Err}
 use Rattle.numbers.specs.Bits.{packed}
 use Rattle.epsdelta_theory.proofs.TasksIn.{test_in, RunsTo}
+use Rattle.flow_duality.specs.Spare.{row_most}
 use Rattle.flow_duality.proofs.Plenty.{Plenty, Even, LightRow}
 use Rattle.flow_duality.proofs.Places.{Held, Moves, weight}
-use Rattle.flow_links.proofs.RowsRead.{Fitting}
+use Rattle.flow_links.proofs.RowsRead.{Fitting, entries}
 use Rattle.flow_links.specs.declared.rows.Rows.{Rows}
 use Rattle.flow_core.specs.declared.Flow.{Flow}
 use Rattle.flow_direct.specs.Reaches.{at_least}
@@ -37,9 +38,13 @@ passes_in rows need R s t = test_in rows.states rows.starts.now rows.targets.now
 abbrev pub LightIn : Rows → ℕ → Type 0
 LightIn rows s = LightRow rows.states rows.starts.now rows.targets.now rows.probs.now s
 
--- so much flow is plenty
-abbrev pub Enough : Rows → Float → Float → Type 0
-Enough rows need plenty = Plenty rows.states rows.starts.now rows.targets.now rows.probs.now need plenty
+-- s has at most `row_most` jumps
+abbrev pub Short : Rows → ℕ → Type 0
+Short rows s = length (entries rows.starts.now rows.targets.now s) ≤ row_most
+
+-- so much flow is plenty, if any is
+abbrev pub Enough : Rows → Float → Option Float → Type 0
+Enough rows need plenty = IfSome plenty (Plenty rows.states rows.starts.now rows.targets.now rows.probs.now need)
 
 -- ---- the memory
 
@@ -59,6 +64,10 @@ place_of a = record { s = a.s; t = a.t; struck = a.struck }
 abbrev pub Answers : Rows → Memory → Asked → Result Flow ℕ → Type 0
 Answers rows memory a answer = (need : Float) (R : List Bool) → memory.relation.now ≡ packed R
     → (a.back ≡ false → passes_in rows need R a.s a.t ≡ at_least need answer) × (a.back ≡ true → passes_in rows need R a.t a.s ≡ at_least need answer)
+
+-- an answer is plenty, between rows of at most `row_most` jumps
+abbrev pub Ample : Terms → Asked → Result Flow ℕ → Type 0
+Ample terms a answer = (x : Float) × (terms.plenty ≡ Some x) × (at_least x answer ≡ true) × Short terms.rows a.s × Short terms.rows a.t
 
 -- what holds at a place, where it is the turn of its pair, or a flow test of it is asked for
 abbrev pub Holding : Terms → Memory → Place → Bool → Bool → Type 0

@@ -3,12 +3,12 @@ ghost use Rattle.std.specs.Prelude.{◌≡◌};
 
 use flow_links::rows::Rows;
 
-// The rows of a run, how much flow a test needs, and how much is plenty.
+// The rows of a run, how much flow a test needs, and how much is plenty, if any is.
 #[derive(Clone, Copy)]
 pub(crate) struct Terms<'a> {
     pub(crate) rows: Rows<'a>,
     pub(crate) need: f64,
-    pub(crate) plenty: f64,
+    pub(crate) plenty: Option<f64>,
 }
 
 // Where sweeps stand: the pair (s, t) whose turn it is, and whether the sweep has struck.

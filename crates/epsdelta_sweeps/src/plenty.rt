@@ -1,5 +1,5 @@
-// How much flow is plenty: so much that the flow test back passes too.
-ghost use Rattle.std.specs.Prelude.{◌≡◌, true, ℕ, ◌≤◌, ◌<◌, ◌+◌, length, get_or};
+// How much flow is plenty, if any is: so much that the flow test back passes too.
+ghost use Rattle.std.specs.Prelude.{◌≡◌, true, ℕ, ◌<◌, length};
 ghost use Rattle.flow_duality.proofs.Plenty.{Formed, Light, Between};
 ghost use Rattle.flow_links.proofs.RowsRead.{Fitting};
 ghost use Rattle.epsdelta_sweeps.specs.Leading.{LightIn, Enough};
@@ -7,7 +7,7 @@ ghost use Rattle.epsdelta_sweeps.specs.Leading.{LightIn, Enough};
 use crate::place::Terms;
 use crate::rows::row;
 use flow_duality::{ROW_MOST, SPARE, is_share};
-use flow_links::rows::Rows;
+use flow_links::rows::{Rows, Test};
 
 // True only if these jumps are to states, with rates above 0 and at most 1.
 fn light(targets: &[u32], rates: &[f64], states: usize) -> bool
@@ -41,28 +41,23 @@ fn all_light(rows: &Rows) -> bool
     )
 }
 
-// SPARE more than what is needed, where all rows are such; else NaN, so that no flow is plenty.
-pub(crate) fn plenty_of(rows: &Rows, need: f64) -> f64
+// SPARE more than what is needed, where all rows are such; else no flow is plenty.
+pub(crate) fn plenty_of(rows: &Rows, need: f64) -> Option<f64>
     requires { Fitting rows.now × Formed need }
     ensures { Enough rows.now need result }
 {
     if !all_light(rows) {
-        return 0.0 / 0.0;
+        return None;
     }
-    need + SPARE
+    Some(need + SPARE)
 }
 
-// Plenty, where the rows of s and t have at most ROW_MOST jumps each; else NaN, so that no flow is.
-pub(crate) fn plenty_between(terms: &Terms, s: usize, t: usize) -> f64
-    requires { (s + 1 < length terms.now.rows.starts.now) × (t + 1 < length terms.now.rows.starts.now) × (get_or terms.now.rows.starts.now s 0 ≤ get_or terms.now.rows.starts.now (s + 1) 0) × (get_or terms.now.rows.starts.now t 0 ≤ get_or terms.now.rows.starts.now (t + 1) 0) }
-    ensures { Between (get_or terms.now.rows.starts.now s 0) (get_or terms.now.rows.starts.now (s + 1) 0) (get_or terms.now.rows.starts.now t 0) (get_or terms.now.rows.starts.now (t + 1) 0) terms.now.plenty result }
+// Plenty, where both rows of a test have at most ROW_MOST jumps; else no flow is.
+pub(crate) fn plenty_between(terms: &Terms, test: &Test) -> Option<f64>
+    ensures { Between (length test.now.left.targets.now) (length test.now.right.targets.now) terms.now.plenty result }
 {
-    let a = terms.rows.starts[s] as usize;
-    let b = terms.rows.starts[s + 1] as usize;
-    let c = terms.rows.starts[t] as usize;
-    let d = terms.rows.starts[t + 1] as usize;
-    if b - a <= ROW_MOST && d - c <= ROW_MOST {
+    if test.left.targets.len() <= ROW_MOST && test.right.targets.len() <= ROW_MOST {
         return terms.plenty;
     }
-    0.0 / 0.0
+    None
 }

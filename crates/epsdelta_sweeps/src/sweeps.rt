@@ -1,12 +1,10 @@
 // Sweeps over the pairs of a relation, until one without a strike. They are left where a flow test is not known without a network, and resumed with its answer.
-ghost use Rattle.std.specs.Prelude.{◌≡◌, ℕ, ◌≤◌, ◌<◌, ◌+◌, Bool, true, false, List, length, get_or, IfSome};
+ghost use Rattle.std.specs.Prelude.{◌≡◌, ℕ, ◌≤◌, ◌<◌, ◌+◌, true, false, List, Bool, IfSome};
 ghost use Rattle.numbers.specs.Bits.{packed};
 ghost use Rattle.numbers.specs.Refuse.{numbered};
-ghost use Rattle.flow_duality.specs.Spare.{row_most};
 ghost use Rattle.flow_duality.proofs.Plenty.{Even};
-ghost use Rattle.flow_direct.specs.Reaches.{at_least};
 ghost use Rattle.epsdelta_sweeps.specs.Place.{Same, Judged};
-ghost use Rattle.epsdelta_sweeps.specs.Leading.{place_of, Whole, Paired, Worded, Enough, passes_in, Tested, Answers, Holding, AtTurn, AtTest, Sweepable, FromTurn, FromTest, ToTurn, ToSweepEnd, ToEnd};
+ghost use Rattle.epsdelta_sweeps.specs.Leading.{place_of, Whole, Paired, Worded, Enough, passes_in, Tested, Answers, Ample, Holding, AtTurn, AtTest, Sweepable, FromTurn, FromTest, ToTurn, ToSweepEnd, ToEnd};
 
 use crate::changes::{Memory, fade, unchanged};
 use crate::place::{Asked, Place, Terms};
@@ -29,33 +27,22 @@ fn judge_both(terms: &Terms, memory: &Memory, s: usize, t: usize) -> Ways
     requires { Paired terms.now.rows s t × Enough terms.now.rows terms.now.need terms.now.plenty × Even terms.now.rows.states memory.now.relation.now }
     ensures { (R : List Bool) → memory.now.relation.now ≡ packed R → Judged (passes_in terms.now.rows terms.now.need R s t) (passes_in terms.now.rows terms.now.need R t s) result }
 {
-    let here = plenty_between(terms, s, t);
-    both_ways(&test(&terms.rows, memory, s, t), terms.need, here)
+    let test = test(&terms.rows, memory, s, t);
+    let here = plenty_between(terms, &test);
+    both_ways(&test, terms.need, here)
 }
 
-// Whether the sweep has struck once the flow test from t to s ended, the last of the pair's turn: where it failed, the pair is struck.
-fn tested_back(terms: &Terms, memory: &mut Memory, at: Place, passes: bool) -> bool
+// Whether the sweep has struck once the flow test from s to t passed: the test back is judged.
+fn passed_forth(terms: &Terms, memory: &mut Memory, at: Place) -> Result<bool, Asked>
     requires { Paired terms.now.rows at.s at.t × Worded terms.now.rows.states memory.old }
-    ensures { (Holding terms.now memory.old at true true → Tested terms.now memory.old at.t at.s passes → FromTest terms.now memory.old at true memory.new at.s (at.t + 1) false result false) × Same memory.old memory.new }
+    ensures { (Holding terms.now memory.old at false true → Tested terms.now memory.old at.s at.t true → ToTurn (FromTest terms.now memory.old at false memory.new) at.s (at.t + 1) result) × Same memory.old memory.new }
 {
-    if passes {
-        return at.struck;
-    }
-    memory.strike(terms.rows.states, at.s, at.t);
-    true
-}
-
-// The same once the flow test from s to t ended: a pair that fails is struck, else the test back is judged.
-fn tested_forth(terms: &Terms, memory: &mut Memory, at: Place, passes: bool) -> Result<bool, Asked>
-    requires { Paired terms.now.rows at.s at.t × Worded terms.now.rows.states memory.old }
-    ensures { (Holding terms.now memory.old at false true → Tested terms.now memory.old at.s at.t passes → ToTurn (FromTest terms.now memory.old at false memory.new) at.s (at.t + 1) result) × Same memory.old memory.new }
-{
-    if !passes {
-        memory.strike(terms.rows.states, at.s, at.t);
-        return Ok(true);
-    }
     match judge(terms, memory, at.t, at.s) {
-        Some(passes) => Ok(tested_back(terms, memory, at, passes)),
+        Some(true) => Ok(at.struck),
+        Some(false) => {
+            memory.strike(terms.rows.states, at.s, at.t);
+            Ok(true)
+        }
         None => Err(Asked {
             s: at.s,
             t: at.t,
@@ -142,15 +129,16 @@ pub(crate) fn advance(terms: &Terms, memory: &mut Memory, at: Place) -> Result<(
     Ok(())
 }
 
-// True only if a flow from s to t is plenty: then the test back passes too.
-fn ample(terms: &Terms, at: Place, answer: Result<Flow, Refusal>) -> bool
-    requires { Paired terms.now.rows at.s at.t }
-    ensures { result ≡ true → (get_or terms.now.rows.starts.now (at.s + 1) 0 ≤ get_or terms.now.rows.starts.now at.s 0 + row_most) × (get_or terms.now.rows.starts.now (at.t + 1) 0 ≤ get_or terms.now.rows.starts.now at.t 0 + row_most) × (at_least terms.now.plenty (numbered answer) ≡ true) }
+// True only if a flow of the test that is asked for is plenty: then the test back passes too.
+fn ample(terms: &Terms, memory: &Memory, asked: Asked, answer: Result<Flow, Refusal>) -> bool
+    requires { Paired terms.now.rows asked.s asked.t }
+    ensures { result ≡ true → Ample terms.now asked (numbered answer) }
 {
-    enough(answer, plenty_between(terms, at.s, at.t))
+    let test = test(&terms.rows, memory, asked.s, asked.t);
+    plenty_between(terms, &test).is_some_and(|x| enough(answer, x))
 }
 
-// Whether the sweep has struck once the test that is asked for ended.
+// Whether the sweep has struck once the test that is asked for ended: where it failed, the pair is struck.
 fn tested(
     terms: &Terms,
     memory: &mut Memory,
@@ -160,19 +148,22 @@ fn tested(
     requires { Paired terms.now.rows asked.s asked.t × Worded terms.now.rows.states memory.old × AtTest terms.now memory.old asked × Answers terms.now.rows memory.old asked (numbered answer) }
     ensures { ToTurn (FromTest terms.now memory.old (place_of asked) asked.back memory.new) asked.s (asked.t + 1) result × Same memory.old memory.new }
 {
+    if !enough(answer, terms.need) {
+        memory.strike(terms.rows.states, asked.s, asked.t);
+        return Ok(true);
+    }
+    if asked.back {
+        return Ok(asked.struck);
+    }
+    if ample(terms, memory, asked, answer) {
+        return Ok(asked.struck);
+    }
     let at = Place {
         s: asked.s,
         t: asked.t,
         struck: asked.struck,
     };
-    let passes = enough(answer, terms.need);
-    if asked.back {
-        return Ok(tested_back(terms, memory, at, passes));
-    }
-    if ample(terms, at, answer) {
-        return Ok(asked.struck);
-    }
-    tested_forth(terms, memory, at, passes)
+    passed_forth(terms, memory, at)
 }
 
 // The answer to the test that is asked for, and the sweeps from there on.

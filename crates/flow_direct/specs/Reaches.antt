@@ -1,5 +1,5 @@
 -- Whether the flow of a flow test is enough.
-use Rattle.std.specs.Prelude.{ℕ, Bool, true, false, ◌&&◌, ◌≡◌, ⊤, List, Result, Ok, Err, Float}
+use Rattle.std.specs.Prelude.{ℕ, Bool, true, false, ◌&&◌, ◌≡◌, ⊤, List, Option, IsSomeAnd, Result, Ok, Err, Float}
 use Rattle.std.specs.Float.Ieee.{le}
 use Rattle.epsdelta_theory.specs.Jumps.{jumps_of}
 use Rattle.epsdelta_theory.specs.FlowTest.{run_between}
@@ -26,9 +26,9 @@ abbrev pub test_both : Test → Float → Bool
 test_both T need = both_reach T.left.targets.now T.left.rates.now T.right.targets.now T.right.rates.now T.states (relation_of T.relation.now) need
 
 -- what is known of it and of the test back is so: whether both pass, that the flow is plenty, or that the first passes
-abbrev pub Known : Test → Float → Float → Ways → Type 0
+abbrev pub Known : Test → Float → Option Float → Ways → Type 0
 Known T need plenty (ways.Both passes) = passes ≡ test_both T need
-Known T need plenty ways.Plenty = test_reaches T plenty ≡ true
+Known T need plenty ways.Plenty = IsSomeAnd plenty (λ x. test_reaches T x ≡ true)
 Known T need plenty ways.Forth = test_reaches T need ≡ true
 Known T need plenty ways.Unknown = ⊤
 

@@ -6,6 +6,7 @@ use mathlib.Core.Bool.{Bool, true, false, not}
 use mathlib.Core.List.{List}
 use lib.Ieee.{Float}
 use lib.ListN.{length}
+use Rattle.std.specs.Prelude.{Option, IfSome}
 use Rattle.numbers.specs.Bits.{packed, unpack, bit_at}
 use Rattle.numbers.proofs.Bools.{one_if}
 use Rattle.epsdelta_theory.specs.Sweeps.{Task, Run, after_back, after_forth, sweep_row, sweep_rows, sweeps}
@@ -63,12 +64,12 @@ pub record Asked (n : ℕ) (S T : List ℕ) (P : List Float) (need : Float) (sto
   pub stands : bit_at store (s * n + t) ≡ true
   pub forth : back ≡ true → (R : List Bool) → store ≡ packed R → test_in n S T P need R s t ≡ true
 
--- the bytes are those of a symmetric relation, the words note the strikes before the turn of (s, t), and so much flow is plenty
-pub record Held (n : ℕ) (E : List Float) (S T : List ℕ) (P : List Float) (need plenty : Float) (store C : List ℕ) (s t : ℕ) (back asks : Bool) : Type 0 where
+-- the bytes are those of a symmetric relation, the words note the strikes before the turn of (s, t), and so much flow is plenty, if any is
+pub record Held (n : ℕ) (E : List Float) (S T : List ℕ) (P : List Float) (need : Float) (plenty : Option Float) (store C : List ℕ) (s t : ℕ) (back asks : Bool) : Type 0 where
   pub bytes : Bytes n store
   pub noted : Noted n E S T P need store C s t
   pub even : Even n store
-  pub enough : Plenty n S T P need plenty
+  pub enough : IfSome plenty (Plenty n S T P need)
   pub asked : asks ≡ true → Asked n S T P need store s t back
 
 -- more than the entry of any place
@@ -82,7 +83,7 @@ weight n store s t back struck = (standing n store + one_if struck) * (2 * room 
 -- ---- from place to place
 
 -- of whatever task the lists hold, the definition comes from the second place to where it comes from the first, and less than w is left
-pub record Moves (n : ℕ) (E : List Float) (S T : List ℕ) (P : List Float) (need plenty : Float) (store : List ℕ) (s t : ℕ) (back struck asks : Bool) (w : ℕ) (store' C' : List ℕ) (s' t' : ℕ) (back' struck' asks' : Bool) : Type 0 where
+pub record Moves (n : ℕ) (E : List Float) (S T : List ℕ) (P : List Float) (need : Float) (plenty : Option Float) (store : List ℕ) (s t : ℕ) (back struck asks : Bool) (w : ℕ) (store' C' : List ℕ) (s' t' : ℕ) (back' struck' asks' : Bool) : Type 0 where
   pub leads : (Q : Task) → SweepsIn Q n E S T P need → (z : Run) → At n Q z store s t back struck asks → At n Q z store' s' t' back' struck' asks'
   pub held : Held n E S T P need plenty store' C' s' t' back' asks'
   pub falls : weight n store' s' t' back' struck' < w

@@ -1,14 +1,15 @@
 -- Words of private contracts: how much is plenty, so that the flow test back passes too, and a relation that stays symmetric from the marks on.
 use mathlib.Core.Path.{◌≡◌, sym, ap, subst⁻¹, ◌∙◌}
 use Prim.Native.Nat.{ℕ, suc, ◌≤◌, ◌<◌, ◌+◌, ◌*◌}
-use mathlib.Core.Bool.{Bool, true, false≢true}
+use mathlib.Core.Bool.{Bool, true}
 use mathlib.Core.Logic.{◌⊎◌, inl, inr}
 use mathlib.Core.List.{List, [], ◌∷◌}
 use native.Mathlib.Omega.{arith}
 use lib.Dec.{T}
-use lib.Ieee.{Float, nan, binary64, lt, le, eq, add, fits}
+use lib.Ieee.{Float, nan, binary64, add, fits}
 use lib.ListN.{length, get_or, take}
 use lib.Seq.{slice, length-slice, get_or-take, get_or-drop}
+use Rattle.std.specs.Prelude.{Option, Some, IfSome}
 use Rattle.numbers.specs.Lists.{In}
 use Rattle.numbers.specs.Bits.{packed, bit_at, cleared}
 use Rattle.epsdelta_theory.specs.Jumps.{Jump, jumps_of}
@@ -96,19 +97,9 @@ module _ {n : ℕ} {S T : List ℕ} {P : List Float} (F : RowsFit n S T P) where
       let m : Mutual n R (row_in S T P s) (row_in S T P t) = λ j k x y. sym-R j.target k.target (row_targets_lem s hs (L s hs) j x) (row_targets_lem t ht (L t ht) k y) in
       passes_both n R (row_in S T P s) (row_in S T P t) (row_shares s hs (L s hs)) (row_shares t ht (L t ht)) (row_few s hs (L s hs) fs) (row_few t ht (L t ht) ft) m need f p
 
--- no flow is a number that is none
-pub none_above : (x : Float) → le nan x ≡ true → ⊥
-unfolding le lt eq
-none_above x h = false≢true h
-
--- no flow is plenty
-pub plenty_none : (n : ℕ) (S T : List ℕ) (P : List Float) (need : Float) → Plenty n S T P need nan
-unfolding le lt eq
-plenty_none n S T P need R m s t hs ht fs ft p = absurd (false≢true p)
-
--- what is plenty between rows a..b and c..d: where both have at most `row_most` jumps
-abbrev pub Between : ℕ → ℕ → ℕ → ℕ → Float → Float → Type 0
-Between a b c d plenty here = (x : Float) → le here x ≡ true → (b ≤ a + row_most) × (d ≤ c + row_most) × (le plenty x ≡ true)
+-- what is plenty between rows of so many jumps: where both have at most `row_most`
+abbrev pub Between : ℕ → ℕ → Option Float → Option Float → Type 0
+Between a b plenty here = IfSome here (λ x. (plenty ≡ Some x) × (a ≤ row_most) × (b ≤ row_most))
 
 -- ---- a relation that stays symmetric
 

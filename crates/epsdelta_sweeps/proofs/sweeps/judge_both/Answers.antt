@@ -6,7 +6,8 @@ pub returns : goal.returns
 returns c =
     let p = c.requires in
     let a = c.args in
-    λ R e. known_judged c.test.result c.args.terms.now.need c.plenty_between-here.result c.both_ways.result c.both_ways.ensures
-    (rw (c.test.ensures.0, c.test.ensures.1, c.test.ensures.2, c.test.ensures.3, c.test.ensures.4, c.test.ensures.5) (reached_both p.0.0 c.args.terms.now.need c.args.memory.now.relation.now R e a.s a.t p.0.1 p.0.2))
-    (rw (c.test.ensures.0, c.test.ensures.1, c.test.ensures.2, c.test.ensures.3, c.test.ensures.4, c.test.ensures.5) (reached_in p.0.0 c.args.terms.now.need c.args.memory.now.relation.now R e a.s a.t p.0.1 p.0.2))
-    (λ h. plenty_in p.0.0 c.args.terms.now.need c.args.terms.now.plenty p.1 _ c.args.memory.now.relation.now R e p.2 a.s a.t c.plenty_between-here.ensures p.0.1 p.0.2 (rw (c.test.ensures.0, c.test.ensures.1, c.test.ensures.2, c.test.ensures.3, c.test.ensures.4, c.test.ensures.5) at h))
+    let B = rw (c.test-test.ensures.0, c.test-test.ensures.2) at c.plenty_between-here.ensures in
+    λ R e. known_judged c.test-test.result c.args.terms.now.need c.plenty_between-here.result c.both_ways.result c.both_ways.ensures
+    (rw (c.test-test.ensures.0, c.test-test.ensures.1, c.test-test.ensures.2, c.test-test.ensures.3, c.test-test.ensures.4, c.test-test.ensures.5) (reached_both p.0.0 c.args.terms.now.need c.args.memory.now.relation.now R e a.s a.t p.0.1 p.0.2))
+    (rw (c.test-test.ensures.0, c.test-test.ensures.1, c.test-test.ensures.2, c.test-test.ensures.3, c.test-test.ensures.4, c.test-test.ensures.5) (reached_in p.0.0 c.args.terms.now.need c.args.memory.now.relation.now R e a.s a.t p.0.1 p.0.2))
+    (λ h. plenty_in p.0.0 c.args.terms.now.need c.args.terms.now.plenty p.1 _ c.args.memory.now.relation.now R e p.2 a.s a.t B p.0.1 p.0.2 (rw (c.test-test.ensures.0, c.test-test.ensures.1, c.test-test.ensures.2, c.test-test.ensures.3, c.test-test.ensures.4, c.test-test.ensures.5) at h))
