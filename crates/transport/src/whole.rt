@@ -21,7 +21,7 @@ fn plan_links(
     ensures transported { Moved of.now plan.old result plan.new }
     ensures same { same_columns plan.old plan.new }
 {
-    ship_rows(of.left, of.right, links, caps, list);
+    ship_rows(of, links, caps, list);
     write_plan(of, caps, plan)
 }
 
@@ -31,16 +31,14 @@ fn transport_in(of: &Masses, rows: LinkRows, list: &mut [u32], plan: &mut PlanRo
     ensures transported { Moved of.now plan.old result plan.new }
     ensures same { same_columns plan.old plan.new }
 {
-    let m = of.left.len();
-    let n = of.right.len();
-    let places = 2 * (m + n + m * n);
-    let mut written = rows;
-    write_links(of, &mut written);
+    let mut rows = rows;
+    write_links(of, &mut rows);
+    let places = of.places().unwrap_or(0);
     let LinkRows {
         heads,
         caps,
         prices,
-    } = written;
+    } = rows;
     let links = Links {
         heads: &heads[..places],
         prices: &prices[..places],

@@ -1,25 +1,35 @@
 // The path to the sink, walked back along the links of the search.
 ghost use Rattle.flow_check.specs.Lent.{net_of};
 ghost use Rattle.transport_theory.proofs.WalkRows.{Walkable, Walked};
-ghost use Rattle.std.specs.Prelude.{◌≡◌};
+ghost use Rattle.std.specs.Prelude.{◌≡◌, ◌+◌, length};
 
 use flow_check::{Ends, Network};
 
-// Walks back from the sink to the source: how many links that takes, at most one more than there are nodes; none if it does not come to the source.
-pub(crate) fn walk(net: &Network, ends: Ends, via: &[usize], path: &mut [usize]) -> Option<usize>
-    requires { Walkable (net_of net.now ends) via.now path.old }
-    ensures { Walked (net_of net.now ends) via.now path.new result }
+// What stays in all rounds: the network, source and sink.
+#[derive(Clone, Copy)]
+pub(crate) struct Course<'a> {
+    pub(crate) net: Network<'a>,
+    pub(crate) ends: Ends,
+}
+
+// Walks back from the sink to the source, along a path with room for one link more than there are nodes: how many links that takes; none if it does not come to the source.
+pub(crate) fn walk(course: &Course, via: &[usize], path: &mut [usize]) -> Option<usize>
+    requires walkable { Walkable (net_of course.now.net course.now.ends) via.now path.old }
+    requires room { length path.old ≡ course.now.net.nodes + 1 }
+    ensures { Walked (net_of course.now.net course.now.ends) via.now path.new result }
 {
-    let mut v = ends.sink;
-    let mut length: usize = 0;
-    while v != ends.source {
-        if net.nodes < length {
-            return None;
+    let mut v = course.ends.sink;
+    for (length, link) in path.iter_mut().enumerate() {
+        if v == course.ends.source {
+            return Some(length);
         }
         let e = via[v];
-        path[length] = e;
-        length += 1;
-        v = net.heads[e ^ 1] as usize;
+        *link = e;
+        v = course.net.heads[e ^ 1] as usize;
     }
-    Some(length)
+    if v == course.ends.source {
+        Some(path.len())
+    } else {
+        None
+    }
 }

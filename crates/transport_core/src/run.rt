@@ -3,29 +3,19 @@ ghost use Rattle.flow_check.specs.Lent.{net_of};
 ghost use Rattle.transport_theory.proofs.RoundRows.{roads_of, shipment, Sailable, RoundReady, Movable, Moved, Turned, Shipped};
 ghost use Rattle.transport_theory.specs.Transport.{rounds};
 
-use crate::path;
+use crate::path::{Course, walk};
 use crate::search::{Tree, search};
-use flow_check::{Ends, Network};
 use flow_theory::path::{least, push_path};
 use numbers::{EPS, infinity};
-use transport_theory::is_infinite;
-
-// A link that leads nowhere.
-const UNSET: usize = 18446744073709551615;
 
 // Walks back to the source, and pushes the least of what remains and the capacities on the path: gives what remains then. None where the path does not come from the source, or there is too little.
-fn push_back(
-    net: &Network,
-    ends: Ends,
-    caps: &mut [f64],
-    via: &[usize],
-    remaining: f64,
-) -> Option<f64>
-    requires { Movable (net_of net.now ends) via.now caps.old }
-    ensures { Moved (net_of net.now ends) via.now caps.old remaining result caps.new }
+fn push_back(course: &Course, caps: &mut [f64], via: &[usize], remaining: f64) -> Option<f64>
+    requires { Movable (net_of course.now.net course.now.ends) via.now caps.old }
+    ensures { Moved (net_of course.now.net course.now.ends) via.now caps.old remaining result caps.new }
 {
-    let mut path = [0usize; 67];
-    let length = path::walk(net, ends, via, &mut path)?;
+    let mut links = [0usize; 67];
+    let path = &mut links[..course.net.nodes + 1];
+    let length = walk(course, via, path)?;
     let x = least(caps, &path[..length], remaining);
     if x <= EPS {
         return None;
@@ -35,57 +25,45 @@ fn push_back(
 }
 
 // The search, and the push where the sink is reached: gives what remains then.
-fn round_in(
-    net: &Network,
-    ends: Ends,
-    caps: &mut [f64],
-    tree: &mut Tree,
-    remaining: f64,
-) -> Option<f64>
-    requires { RoundReady (roads_of net.now ends) net.now.starts.now net.now.list.now caps.old tree.old.dist.now tree.old.via.now }
-    ensures { Turned (roads_of net.now ends) caps.old remaining result caps.new }
+fn round_in(course: &Course, caps: &mut [f64], tree: &mut Tree, remaining: f64) -> Option<f64>
+    requires { RoundReady (roads_of course.now.net course.now.ends) course.now.net.starts.now course.now.net.list.now caps.old tree.old.dist.now tree.old.via.now }
+    ensures { Turned (roads_of course.now.net course.now.ends) caps.old remaining result caps.new }
 {
-    tree.dist[ends.source] = 0.0;
-    search(net, caps, tree);
-    if is_infinite(tree.dist[ends.sink]) {
+    tree.dist[course.ends.source] = 0.0;
+    search(&course.net, caps, tree);
+    if tree.dist[course.ends.sink].is_infinite() {
         return None;
     }
-    push_back(net, ends, caps, tree.via, remaining)
+    push_back(course, caps, tree.via, remaining)
 }
 
-// A round, in which distances and links are made afresh: gives what remains then, none where nothing was pushed.
-fn one_round(net: &Network, ends: Ends, caps: &mut [f64], remaining: f64) -> Option<f64>
-    requires { Sailable (roads_of net.now ends) net.now.starts.now net.now.list.now caps.old }
-    ensures { Turned (roads_of net.now ends) caps.old remaining result caps.new }
+// A round, in which distances and links are made afresh, the links leading nowhere: gives what remains then, none where nothing was pushed.
+fn one_round(course: &Course, caps: &mut [f64], remaining: f64) -> Option<f64>
+    requires { Sailable (roads_of course.now.net course.now.ends) course.now.net.starts.now course.now.net.list.now caps.old }
+    ensures { Turned (roads_of course.now.net course.now.ends) caps.old remaining result caps.new }
 {
     let far = infinity();
+    let nodes = course.net.nodes;
     let mut dist = [far; 66];
-    let mut via = [UNSET; 66];
+    let mut via = [usize::MAX; 66];
     let mut tree = Tree {
-        dist: &mut dist[..net.nodes],
-        via: &mut via[..net.nodes],
+        dist: &mut dist[..nodes],
+        via: &mut via[..nodes],
     };
-    round_in(net, ends, caps, &mut tree, remaining)
+    round_in(course, caps, &mut tree, remaining)
 }
 
 // At most so many rounds, while more than `much` remains; gives what remains then.
-pub(crate) fn ship(
-    net: &Network,
-    ends: Ends,
-    caps: &mut [f64],
-    start: f64,
-    much: f64,
-    most: usize,
-) -> f64
-    requires { Sailable (roads_of net.now ends) net.now.starts.now net.now.list.now caps.old }
-    ensures { Shipped (rounds (roads_of net.now ends) much most (shipment caps.old start 0)) result caps.new }
+pub(crate) fn ship(course: &Course, caps: &mut [f64], start: f64, much: f64, most: usize) -> f64
+    requires { Sailable (roads_of course.now.net course.now.ends) course.now.net.starts.now course.now.net.list.now caps.old }
+    ensures { Shipped (rounds (roads_of course.now.net course.now.ends) much most (shipment caps.old start 0)) result caps.new }
 {
     let mut remaining = start;
     for _ in 0..most {
         if !(remaining > much) {
             return remaining;
         }
-        let Some(left) = one_round(net, ends, caps, remaining) else {
+        let Some(left) = one_round(course, caps, remaining) else {
             return remaining;
         };
         remaining = left;

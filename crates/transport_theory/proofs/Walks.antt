@@ -1,5 +1,5 @@
 -- The loops along the path of a round: the walk back, and the least of what remains and the capacities.
-use mathlib.Core.Path.{◌≡◌, refl, sym, ap, ◌∙◌}
+use mathlib.Core.Path.{◌≡◌, refl, sym, ap, subst⁻¹, ◌∙◌}
 use mathlib.Core.Logic.{◌≢◌}
 use Prim.Native.Nat.{ℕ, suc, ◌+◌, ◌-◌, ◌≤◌, ◌<◌}
 use mathlib.Core.List.{List, [], ◌∷◌, ◌++◌, append-nil}
@@ -100,3 +100,9 @@ module _ (H : List ℕ) (k s t : ℕ) {w p₀ : List ℕ} (W : Walkable (network
       path_is = sym (append-nil (take n p)) ∙ ap (λ (l : List ℕ). take n p ++ l) (sym (route_home N w (suc (nodes N) - n) v x)) ∙ I.route_is;
       home_is = eq-eqb (ends N w (suc (nodes N)) t) s (sym I.ends_is ∙ ends_home N w (suc (nodes N) - n) v x ∙ x);
     }
+
+    -- all of a path that is as long as it need be
+    pub walk_full : length p ≤ n → v ≡ s → length p₀ ≡ k + 1 → Walked N w p (Some (length p))
+    walk_full h x r =
+        let q : length p ≡ n = let z = network_nodes H k in let a = I.upto in let b = I.size in omega arith in
+        subst⁻¹ (λ (j : ℕ). Walked N w p (Some j)) q (walk_home x)

@@ -2,3 +2,4 @@ pub mod Links
 pub mod Shortest
 pub mod Transport
 pub mod Refusal
+pub mod Lent

@@ -1,8 +1,8 @@
 // `transport` as a definition (specs/) and its laws (proofs/).
 #![tactic(auto)]
 
-ghost use Rattle.std.specs.Prelude.{◌≡◌};
-ghost use Rattle.transport_theory.specs.Shortest.{infinite};
+ghost use Rattle.std.specs.Prelude.{◌≡◌, length};
+ghost use Rattle.transport_theory.specs.Lent.{places_of};
 
 // The masses of both sides, and what it costs to move one unit of mass from each on the left to each on the right, in row order.
 #[derive(Clone, Copy, Debug)]
@@ -12,9 +12,16 @@ pub struct Masses<'a> {
     pub costs: &'a [f64],
 }
 
-// Whether a number is one of the two infinities.
-pub fn is_infinite(x: f64) -> bool
-    ensures { result ≡ infinite x }
-{
-    x.is_infinite()
+impl Masses<'_> {
+    // How many places the links of at most 32 masses on a side take: one for each mass and each cell, and one for its reverse. None where there are more.
+    pub fn places(&self) -> Option<usize>
+        ensures { result ≡ places_of (length self.now.left.now) (length self.now.right.now) }
+    {
+        let m = self.left.len();
+        let n = self.right.len();
+        if m > 32 || n > 32 {
+            return None;
+        }
+        Some(2 * (m + n + m * n))
+    }
 }

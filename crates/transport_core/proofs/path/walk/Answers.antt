@@ -1,17 +1,35 @@
-use Rattle.transport_theory.proofs.Walks.{path_room, back_in, walk_on, walk_lost, walk_home}
+use mathlib.Core.Path.{sym, ap, subst, ◌∙◌}
+use mathlib.Core.List.{List}
+use Prim.Native.Nat.{ℕ}
+use native.Mathlib.Omega.{arith}
+use Rattle.std.specs.Prelude.{Some}
+use Rattle.std.proofs.lemmas.List.{set-get_or}
+use Rattle.flow_check.specs.Lent.{net_of}
+use Rattle.transport_theory.proofs.WalkRows.{Walked}
+use Rattle.transport_theory.proofs.Walks.{back_in, walk_on, walk_lost, walk_home, walk_full}
 use Rattle.transport_core.proofs.path.walk.Goals as goal
 
-pub returns-then-net-length : goal.returns-then-net-length
-returns-then-net-length c = walk_lost c.args.net.now.heads.now c.args.net.now.nodes c.args.ends.source c.args.ends.sink c.requires c.loop-v.invariant c.loop-v-test.true c.if-net-length.true
+pub returns-then-v-course : goal.returns-then-v-course
+returns-then-v-course c =
+    let N = c.args.course.now.net in
+    let E = c.args.course.now.ends in
+    subst (λ (p : List ℕ). Walked (net_of N E) c.args.via.now p (Some c.loop-length.length)) (sym (set-get_or c.loop-length.path c.loop-length.length 0))
+    (walk_home N.heads.now N.nodes E.source E.sink c.requires.walkable c.loop-length.invariant c.if-v-course.true)
 
-pub bounds-path-length : goal.bounds-path-length
-bounds-path-length c = path_room c.args.net.now.heads.now c.args.net.now.nodes c.args.ends.source c.args.ends.sink c.requires c.loop-v.invariant c.loop-v-test.true c.if-net-length.false
+pub bounds-course-e : goal.bounds-course-e
+bounds-course-e c = back_in c.args.course.now.net.heads.now c.args.course.now.net.nodes c.args.course.now.ends.source c.args.course.now.ends.sink c.requires.walkable c.loop-length.invariant c.if-v-course.false
 
-pub bounds-net-e : goal.bounds-net-e
-bounds-net-e c = back_in c.args.net.now.heads.now c.args.net.now.nodes c.args.ends.source c.args.ends.sink c.requires c.loop-v.invariant c.loop-v-test.true
+pub loop-length-preserved : goal.loop-length-preserved
+loop-length-preserved c =
+    walk_on c.args.course.now.net.heads.now c.args.course.now.net.nodes c.args.course.now.ends.source c.args.course.now.ends.sink c.requires.walkable c.loop-length.invariant c.if-v-course.false
+    (let t = c.loop-length-test.true in let r = c.requires.room in let s = c.loop-length.invariant.size in omega arith)
 
-pub loop-v-preserved : goal.loop-v-preserved
-loop-v-preserved c = walk_on c.args.net.now.heads.now c.args.net.now.nodes c.args.ends.source c.args.ends.sink c.requires c.loop-v.invariant c.loop-v-test.true c.if-net-length.false
+pub returns-then-v-course-2 : goal.returns-then-v-course-2
+returns-then-v-course-2 c =
+    walk_full c.args.course.now.net.heads.now c.args.course.now.net.nodes c.args.course.now.ends.source c.args.course.now.ends.sink c.requires.walkable c.loop-length.invariant
+    (let t = c.loop-length-test.false in let s = c.loop-length.invariant.size in omega arith) c.if-v-course-2.true c.requires.room
 
-pub returns : goal.returns
-returns c = walk_home c.args.net.now.heads.now c.args.net.now.nodes c.args.ends.source c.args.ends.sink c.requires c.loop-v.invariant c.loop-v-test.false
+pub returns-else-v-course-2 : goal.returns-else-v-course-2
+returns-else-v-course-2 c =
+    walk_lost c.args.course.now.net.heads.now c.args.course.now.net.nodes c.args.course.now.ends.source c.args.course.now.ends.sink c.requires.walkable c.loop-length.invariant c.if-v-course-2.false
+    (let t = c.loop-length-test.false in let r = c.requires.room in let s = c.loop-length.invariant.size in omega arith)

@@ -1,0 +1,6 @@
+-- Masses that are lent.
+use Rattle.std.specs.Prelude.{ℕ, ◌+◌, ◌*◌, Option, Some, None, cond, ◌&&◌, leb}
+
+-- the places of the links of m and n masses and of their reverses, where there are at most 32 on a side
+abbrev pub places_of : ℕ → ℕ → Option ℕ
+places_of m n = cond (leb m 32 && leb n 32) (Some (2 * (m + n + m * n))) None
