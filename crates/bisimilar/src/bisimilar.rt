@@ -1,24 +1,24 @@
 // Whether two models are bisimilar: the relation made, read at the initial states, and cleared.
 ghost use Rattle.std.specs.Prelude.{◌≡◌, ◌||◌, length, replicate};
 ghost use Rattle.numbers.specs.Refuse.{numbered};
-ghost use Rattle.bisim_core.specs.Data.{columns_of};
 ghost use Rattle.epsdelta_theory.specs.Refusal.{absent};
 ghost use Rattle.bisimilar.specs.Related.{related_outcome};
 ghost use Rattle.epsdelta.specs.Outcome.{ends};
+ghost use Rattle.epsdelta.specs.Sides.{of_sides};
 ghost use Rattle.bisimilar.specs.Outcome.{bisimilar_outcome};
 
 use crate::related::related;
 use bisim_core::ids::StateId;
-use epsdelta::asked::{Settings, Side, Sides, Tolerances};
+use epsdelta::asked::{Settings, Sides, Tolerances};
 use epsdelta::relation::epsdelta_unless;
 use numbers::refusal::Refusal;
-use parts::starts::{absent, start};
+use parts::starts::start;
 
 // Whether one of two models has no initial state.
 fn one_absent(left: Option<StateId>, right: Option<StateId>) -> bool
     ensures { result ≡ (absent left || absent right) }
 {
-    absent(left) || absent(right)
+    left.is_none() || right.is_none()
 }
 
 // What the relation says of s and t, and its bytes cleared.
@@ -38,23 +38,18 @@ fn conclude(sides: &Sides, s: StateId, t: StateId, relation: &mut [u8]) -> Resul
 
 // Whether the initial states are related. The relation is work space: a refusal leaves its bytes as they were, and otherwise every byte is zero at the end.
 pub fn epsdelta_bisimilar(
-    left: &Side,
-    right: &Side,
+    sides: &Sides,
     tolerances: Tolerances,
     relation: &mut [u8],
 ) -> Result<bool, Refusal>
-    ensures { ends (numbered result) relation.new ≡ bisimilar_outcome left.now.model.shape (columns_of left.now.model) right.now.model.shape (columns_of right.now.model) left.now.classes.now right.now.classes.now tolerances.epsilon tolerances.rho relation.old }
+    ensures { ends (numbered result) relation.new ≡ of_sides bisimilar_outcome sides.now tolerances.epsilon tolerances.rho relation.old }
 {
-    let first = left.model.shape.initial;
-    let second = right.model.shape.initial;
+    let first = sides.left.model.shape.initial;
+    let second = sides.right.model.shape.initial;
     let settings = Settings {
         absent: one_absent(first, second),
         tolerances,
     };
-    let sides = Sides {
-        left: *left,
-        right: *right,
-    };
-    epsdelta_unless(settings, &sides, relation)?;
-    conclude(&sides, start(first), start(second), relation)
+    epsdelta_unless(settings, sides, relation)?;
+    conclude(sides, start(first), start(second), relation)
 }

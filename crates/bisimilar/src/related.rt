@@ -4,6 +4,7 @@ ghost use Rattle.numbers.specs.Refuse.{code, numbered};
 ghost use Rattle.bisimilar.specs.Related.{related_refusal, related_outcome};
 
 use bisim_core::ids::StateId;
+use epsdelta_theory::relation_bytes;
 use numbers::bit;
 use numbers::refusal::Refusal;
 
@@ -24,7 +25,7 @@ fn refusal(
         return Err(Refusal::OutOfRange);
     }
     let states = left_states + right_states;
-    if bytes < (states * states).div_ceil(8) {
+    if bytes < relation_bytes(states) {
         return Err(Refusal::Store);
     }
     if 2000 < states {

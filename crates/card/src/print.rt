@@ -11,8 +11,9 @@ use bisim_core::wlts::{Shape, Wlts};
 use build_theory::lent::Store;
 use card_models::{CardTransitions, both_models, build_side};
 use card_reader::{CardLists, Heads, read_card};
-use card_relation::relation_text;
+use card_relation::{in_parts, relation_text};
 use card_report::{MOST_REPORT, refusal_text};
+use epsdelta::asked::{Side, Sides};
 use numbers::refusal::Refusal;
 
 // The report of both models, or the refusal of one.
@@ -48,15 +49,17 @@ fn print_both(
                 edge_targets: right.edge_targets,
                 edge_weights: right.edge_weights,
             };
-            relation_text(
-                &left_model,
-                &right_model,
-                &classes[0..middle],
-                &classes[middle..end],
-                heads.epsilon,
-                heads.rho,
-                out,
-            )
+            let sides = Sides {
+                left: Side {
+                    model: left_model,
+                    classes: &classes[0..middle],
+                },
+                right: Side {
+                    model: right_model,
+                    classes: &classes[middle..end],
+                },
+            };
+            relation_text(&sides, in_parts(heads.epsilon, heads.rho), out)
         }
     }
 }

@@ -23,11 +23,12 @@ use Rattle.epsdelta_theory.specs.Epsdelta.{given, task, epsdelta}
 use Rattle.epsdelta_theory.specs.Claim.{final}
 use Rattle.epsdelta_theory.proofs.Runs.{run_length}
 use Rattle.epsdelta_theory.proofs.Rows.{model_length, union_length}
+use Rattle.epsdelta.specs.declared.asked.Tolerances.{Tolerances}
 use Rattle.epsdelta.specs.Outcome.{Outcome, ends, settled}
 use Rattle.card_layout.proofs.Lines.{length_line}
 use Rattle.card_report.specs.Report.{report, refusal_line, most_report, store_fault, report_fault, relation_in, Printed}
 use Rattle.card_report.proofs.Texts.{square_low, report_room}
-use Rattle.card_relation.specs.Relating.{parts, text_of, relation_text, relation_fault}
+use Rattle.card_relation.specs.Relating.{in_parts, text_of, relation_at, relation_text, relation_fault}
 
 -- ---- a store with room
 
@@ -109,11 +110,15 @@ module _ (SL : Shape) (ML : Columns) (SR : Shape) (MR : Columns) (cl cr : List �
       ap (λ (b : Bool). models_refusal SL ML SR MR (check 7 (ltb (length cl) SL.states || (ltb (length cr) SR.states || b)) (check 8 false (check 9 (tolerances_outside ε ρ) (check 10 (ltb 2000 (SL.states + SR.states)) 0)))))
       (le-ltb n m h ∙ sym (le-ltb m m (omega arith)))
 
-  pub same_relation : {x y : Float} (ε ρ : ℕ) → x ≡ parts ε → y ≡ parts ρ → SL.states ≤ 32 → SR.states ≤ 32
-      → text_of (epsdelta_refusal SL ML SR MR cl cr x y 512) (report (final (given SL ML SR MR cl cr x y)) SL.states SR.states) ≡ relation_text SL ML SR MR cl cr ε ρ
-  same_relation ε ρ e f h g =
+  pub same_relation : (ε ρ : Float) → SL.states ≤ 32 → SR.states ≤ 32
+      → text_of (epsdelta_refusal SL ML SR MR cl cr ε ρ 512) (report (final (given SL ML SR MR cl cr ε ρ)) SL.states SR.states) ≡ relation_at SL ML SR MR cl cr ε ρ
+  same_relation ε ρ h g =
       let q = square_low (SL.states + SR.states) (omega arith) in
-      rw (e, f, roomy (parts ε) (parts ρ) 512 (omega arith))
+      ap (λ (n : ℕ). text_of n (report (final (given SL ML SR MR cl cr ε ρ)) SL.states SR.states)) (roomy ε ρ 512 (omega arith))
+
+  -- ε and ρ in 1,024ths
+  pub at_parts : (ε ρ : ℕ) {t : Tolerances} → t ≡ in_parts ε ρ → relation_at SL ML SR MR cl cr t.epsilon t.rho ≡ relation_text SL ML SR MR cl cr ε ρ
+  at_parts ε ρ e = ap (λ (t : Tolerances). relation_at SL ML SR MR cl cr t.epsilon t.rho) e
 
 -- ---- how long a text is
 

@@ -3,4 +3,4 @@
 
 mod relating; // relating.rt: the relation, and its text
 
-pub use relating::relation_text;
+pub use relating::{in_parts, relation_text};

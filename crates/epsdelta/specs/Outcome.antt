@@ -2,12 +2,13 @@
 use Rattle.std.specs.Prelude.{ℕ, zero, suc, ◌+◌, ◌<◌, ◌≤◌, Bool, Result, Ok, Err, List, length, Float}
 use Rattle.numbers.specs.Bits.{packed}
 use Rattle.numbers.specs.Lists.{over}
-use Rattle.bisim_core.specs.Data.{Columns, columns_of}
+use Rattle.bisim_core.specs.Data.{Columns}
 use Rattle.bisim_core.specs.declared.wlts.Shape.{Shape}
-use Rattle.epsdelta_theory.specs.Refusal.{tolerances_outside, relation_refusal, epsdelta_refusal}
+use Rattle.epsdelta_theory.specs.Refusal.{tolerances_outside, later_refusal, relation_refusal, epsdelta_refusal}
 use Rattle.epsdelta_theory.specs.Epsdelta.{given, epsdelta}
 use Rattle.epsdelta.specs.declared.asked.Settings.{Settings}
 use Rattle.epsdelta.specs.declared.asked.Sides.{Sides}
+use Rattle.epsdelta.specs.Sides.{of_sides}
 
 -- the answer of an entry, and the bytes
 pub record Outcome (A : Type 0) : Type 0 where
@@ -34,7 +35,11 @@ outcome_unless fails8 SL ML SR MR cl cr ε ρ store = settled (relation_refusal 
 
 -- the same of two models side by side
 abbrev pub outcome_of : Settings → Sides → List ℕ → Outcome (Result (Unit {0}) ℕ)
-outcome_of S B store = outcome_unless S.absent B.left.model.shape (columns_of B.left.model) B.right.model.shape (columns_of B.right.model) B.left.classes.now B.right.classes.now S.tolerances.epsilon S.tolerances.rho store
+outcome_of S B store = of_sides (outcome_unless S.absent) B S.tolerances.epsilon S.tolerances.rho store
+
+-- checks 7 to 10
+abbrev pub later_of : Settings → Sides → ℕ → ℕ
+later_of S B bytes = later_refusal S.absent (tolerances_outside S.tolerances.epsilon S.tolerances.rho) B.left.model.shape.states B.right.model.shape.states (length B.left.classes.now) (length B.right.classes.now) bytes
 
 -- `epsdelta` asks for no initial state
 abbrev pub outcome : Shape → Columns → Shape → Columns → List ℕ → List ℕ → Float → Float → List ℕ → Outcome (Result (Unit {0}) ℕ)

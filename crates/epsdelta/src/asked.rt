@@ -20,7 +20,7 @@ pub struct Sides<'a> {
 
 impl Sides<'_> {
     // How many states both have.
-    pub fn states(&self) -> usize
+    pub(crate) fn states(&self) -> usize
         requires { EachFew self.now }
         ensures { result ≡ together self.now }
     {

@@ -1,18 +1,17 @@
 // The relation of two models: their checks, their rows side by side, and the relation over these.
-ghost use Rattle.std.specs.Prelude.{◌≡◌, ℕ, Bool, ◌≤◌, ◌<◌, ◌+◌, true, ◌||◌, ◌++◌, ltb, length, take};
+ghost use Rattle.std.specs.Prelude.{◌≡◌, ℕ, Bool, ◌≤◌, ◌<◌, ◌+◌, true, ◌||◌, ltb, length, take};
 ghost use Rattle.numbers.specs.Lists.{every};
 ghost use Rattle.numbers.specs.Refuse.{code, numbered};
-ghost use Rattle.bisim_core.specs.Data.{columns_of};
 ghost use Rattle.epsdelta_theory.specs.Jumps.{Jumps};
-ghost use Rattle.epsdelta_theory.specs.Refusal.{tolerances_outside, later_refusal, epsdelta_refusal};
+ghost use Rattle.epsdelta_theory.specs.Refusal.{epsdelta_refusal};
 ghost use Rattle.epsdelta_theory.specs.Claim.{Sound};
 ghost use Rattle.epsdelta_theory.specs.Epsdelta.{given, given_rows, epsdelta};
 ghost use Rattle.epsdelta_jumps.specs.Union;
 ghost use Rattle.flow_links.proofs.RowsRead.{rows_in, row_stands};
-ghost use Rattle.epsdelta.specs.Outcome.{Roomy, ends, settled, outcome_of, outcome};
-ghost use Rattle.epsdelta.specs.Sides.{EachFew, together};
+ghost use Rattle.epsdelta.specs.Outcome.{Roomy, ends, settled, later_of, outcome_of, outcome};
+ghost use Rattle.epsdelta.specs.Sides.{EachFew, together, classes_of, of_sides};
 
-use crate::asked::{Settings, Side, Sides, Tolerances};
+use crate::asked::{Settings, Sides, Tolerances};
 use crate::checks::later;
 use epsdelta_jumps::jumps::{Fault, union};
 use epsdelta_jumps::store::RowStore;
@@ -24,7 +23,7 @@ use numbers::refusal::Refusal;
 fn join_classes(sides: &Sides, classes: &mut [u32])
     requires few { together sides.now ≤ 2000 }
     requires room { (sides.now.left.model.shape.states ≤ length sides.now.left.classes.now) × (sides.now.right.model.shape.states ≤ length sides.now.right.classes.now) × (together sides.now ≤ length classes.old) }
-    ensures { take (together sides.now) classes.new ≡ take sides.now.left.model.shape.states sides.now.left.classes.now ++ take sides.now.right.model.shape.states sides.now.right.classes.now }
+    ensures { take (together sides.now) classes.new ≡ classes_of sides.now }
 {
     let n = sides.left.model.shape.states;
     let m = sides.right.model.shape.states;
@@ -42,7 +41,7 @@ fn finish(
 ) -> Result<(), Refusal>
     requires models { EachFew sides.now }
     requires rows { (together sides.now ≤ 2000) → (every (row_stands rows.now.starts.now rows.now.targets.now rows.now.probs.now) (together sides.now) ≡ true) × (together sides.now ≤ length rows.now.exits.now) × (together sides.now < length rows.now.starts.now) × (together sides.now ≤ length classes.old) }
-    ensures { (J : Jumps) → (together sides.now ≤ 2000 → rows_in (together sides.now) rows.now.exits.now rows.now.starts.now rows.now.targets.now rows.now.probs.now ≡ J) → ends (numbered result) relation.new ≡ settled (later_refusal settings.absent (tolerances_outside settings.tolerances.epsilon settings.tolerances.rho) sides.now.left.model.shape.states sides.now.right.model.shape.states (length sides.now.left.classes.now) (length sides.now.right.classes.now) (length relation.old)) relation.old (epsdelta (given_rows J (take sides.now.left.model.shape.states sides.now.left.classes.now ++ take sides.now.right.model.shape.states sides.now.right.classes.now) settings.tolerances.epsilon settings.tolerances.rho)).relation }
+    ensures { (J : Jumps) → (together sides.now ≤ 2000 → rows_in (together sides.now) rows.now.exits.now rows.now.starts.now rows.now.targets.now rows.now.probs.now ≡ J) → ends (numbered result) relation.new ≡ settled (later_of settings sides.now (length relation.old)) relation.old (epsdelta (given_rows J (classes_of sides.now) settings.tolerances.epsilon settings.tolerances.rho)).relation }
 {
     later(settings, sides, relation.len())?;
     join_classes(sides, classes);
@@ -137,22 +136,13 @@ pub fn epsdelta_unless(
 }
 
 // The relation of two models, of every pair of states of both, the right one's numbered after the left's. A refusal leaves the bytes as they were, and bytes past the relation's are kept.
-pub fn epsdelta(
-    left: &Side,
-    right: &Side,
-    tolerances: Tolerances,
-    relation: &mut [u8],
-) -> Result<(), Refusal>
-    ensures relation_after { ends (numbered result) relation.new ≡ outcome left.now.model.shape (columns_of left.now.model) right.now.model.shape (columns_of right.now.model) left.now.classes.now right.now.classes.now tolerances.epsilon tolerances.rho relation.old }
-    ensures sound { epsdelta_refusal left.now.model.shape (columns_of left.now.model) right.now.model.shape (columns_of right.now.model) left.now.classes.now right.now.classes.now tolerances.epsilon tolerances.rho (length relation.old) ≡ 0 → Sound (given left.now.model.shape (columns_of left.now.model) right.now.model.shape (columns_of right.now.model) left.now.classes.now right.now.classes.now tolerances.epsilon tolerances.rho) }
+pub fn epsdelta(sides: &Sides, tolerances: Tolerances, relation: &mut [u8]) -> Result<(), Refusal>
+    ensures relation_after { ends (numbered result) relation.new ≡ of_sides outcome sides.now tolerances.epsilon tolerances.rho relation.old }
+    ensures sound { of_sides epsdelta_refusal sides.now tolerances.epsilon tolerances.rho (length relation.old) ≡ 0 → Sound (of_sides given sides.now tolerances.epsilon tolerances.rho) }
 {
     let settings = Settings {
         absent: false,
         tolerances,
     };
-    let sides = Sides {
-        left: *left,
-        right: *right,
-    };
-    epsdelta_unless(settings, &sides, relation)
+    epsdelta_unless(settings, sides, relation)
 }

@@ -8,7 +8,7 @@ ghost use Rattle.parts.specs.Jumping.{HasRows};
 ghost use Rattle.epsdelta_jumps.specs.declared.store.RowStore.{RowStore};
 ghost use Rattle.epsdelta_jumps.specs.Store.{SameStore, LaidInTo};
 
-use crate::rates::fill;
+use crate::rates::State;
 use crate::store::RowStore;
 use bisim_core::wlts::Wlts;
 
@@ -24,7 +24,12 @@ pub(crate) fn model_rows(model: &Wlts, off: usize, at: usize, rows: &mut RowStor
 {
     let mut end = at;
     for s in 0..model.shape.states {
-        end = fill(model, s, off, end, rows);
+        let state = State {
+            model: &*model,
+            s,
+            off,
+        };
+        end = state.fill(end, rows);
         rows.starts[off + s + 1] = end as u32;
     }
     end

@@ -1,5 +1,6 @@
 -- What the entries that make a relation turn back: checks 3 to 10 of document 01, each over both models.
-use Rattle.std.specs.Prelude.{Some, None, Option}
+use Rattle.std.specs.Option.{is_none}
+use Rattle.std.specs.Prelude.{Option}
 use Rattle.bisim_core.specs.declared.ids.StateId.{StateId}
 use Rattle.std.specs.Prelude.{ℕ, ◌+◌, Bool, true, false, ◌&&◌, ◌||◌, not, List, length, ltb, Float}
 use Rattle.std.specs.Float.Ieee.{lt, le}
@@ -20,8 +21,7 @@ short left right leftClasses rightClasses bytes = ltb leftClasses left || (ltb r
 
 -- 8: there is no initial state
 abbrev pub absent : Option StateId → Bool
-absent (Some s) = false
-absent None = true
+absent i = is_none i
 
 -- 9, of ρ: it is NaN, below 1 or above 2^20
 abbrev pub factor_outside : Float → Bool

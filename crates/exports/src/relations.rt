@@ -12,7 +12,7 @@ use bisim_core::ids::StateId;
 use bisim_core::wlts::Wlts;
 use bisimilar::bisimilar::epsdelta_bisimilar;
 use bisimilar::related;
-use epsdelta::asked::{Side, Tolerances};
+use epsdelta::asked::{Side, Sides, Tolerances};
 use epsdelta::relation;
 use min_epsilon::least;
 use replies::answers;
@@ -89,7 +89,8 @@ pub extern "C" fn tanqesha_epsdelta(
         classes: right_classes,
     };
     let tolerances = Tolerances { epsilon, rho };
-    answers::number_of(relation::epsdelta(&left, &right, tolerances, relation))
+    let sides = Sides { left, right };
+    answers::number_of(relation::epsdelta(&sides, tolerances, relation))
 }
 
 // Whether a relation holds a state of the left model with one of the right.
@@ -180,7 +181,8 @@ pub extern "C" fn tanqesha_epsdelta_bisimilar(
         classes: right_classes,
     };
     let tolerances = Tolerances { epsilon, rho };
-    let answer = epsdelta_bisimilar(&left, &right, tolerances, relation);
+    let sides = Sides { left, right };
+    let answer = epsdelta_bisimilar(&sides, tolerances, relation);
     answers::put_verdict(answer, related)
 }
 
@@ -256,6 +258,7 @@ pub extern "C" fn tanqesha_min_epsilon(
         },
         classes: right_classes,
     };
-    let answer = least::min_epsilon(&left, &right, rho, relation);
+    let sides = Sides { left, right };
+    let answer = least::min_epsilon(&sides, rho, relation);
     answers::put_least(answer, present, epsilon)
 }

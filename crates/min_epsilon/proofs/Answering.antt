@@ -13,6 +13,7 @@ use Rattle.epsdelta_theory.specs.MinEpsilon.{Search, min_epsilon}
 use Rattle.epsdelta_theory.proofs.MinEpsilon.{one_valid, refused_alike, search_none, below_one, below_one_lem}
 use Rattle.epsdelta.specs.declared.asked.Sides.{Sides}
 use Rattle.epsdelta.specs.Outcome.{Outcome, ends}
+use Rattle.epsdelta.specs.Sides.{of_sides}
 use Rattle.bisimilar.specs.Outcome.{judged_by, bisimilar_outcome}
 use Rattle.min_epsilon.specs.Outcome.{found, settled, outcome, alike, refusal}
 use Rattle.min_epsilon.proofs.Runs.{zero_length, zero_again}
@@ -57,16 +58,16 @@ module _ (B : Sides) (ρ : Float) (store out : List ℕ) where
   n = refusal B ρ (length store)
 
   -- the refusal at ε = 1 is that of `min_epsilon`
-  at_one : (v : Result Bool ℕ) → ends v out ≡ bisimilar_outcome B.left.model.shape (columns_of B.left.model) B.right.model.shape (columns_of B.right.model) B.left.classes.now B.right.classes.now one ρ store → ends v out ≡ judged_by n (alike B ρ one) store
+  at_one : (v : Result Bool ℕ) → ends v out ≡ of_sides bisimilar_outcome B one ρ store → ends v out ≡ judged_by n (alike B ρ one) store
   unfolding n
   at_one v e = e ∙ ap (λ (k : ℕ). judged_by k (alike B ρ one) store) (refused_alike B.left.model.shape (columns_of B.left.model) B.right.model.shape (columns_of B.right.model) B.left.classes.now B.right.classes.now one ρ (length store) one_valid)
 
-  pub ends_refused : (k : ℕ) → ends (Err k) out ≡ bisimilar_outcome B.left.model.shape (columns_of B.left.model) B.right.model.shape (columns_of B.right.model) B.left.classes.now B.right.classes.now one ρ store
-      → ends (Err k) out ≡ outcome B.left.model.shape (columns_of B.left.model) B.right.model.shape (columns_of B.right.model) B.left.classes.now B.right.classes.now ρ store
+  pub ends_refused : (k : ℕ) → ends (Err k) out ≡ of_sides bisimilar_outcome B one ρ store
+      → ends (Err k) out ≡ of_sides outcome B ρ store
   unfolding n
-  ends_refused k e = judged_refused store out n k (alike B ρ one) (min_epsilon B.left.model.shape (columns_of B.left.model) B.right.model.shape (columns_of B.right.model) B.left.classes.now B.right.classes.now ρ) (at_one (Err k) e)
+  ends_refused k e = judged_refused store out n k (alike B ρ one) (of_sides min_epsilon B ρ) (at_one (Err k) e)
 
-  module _ (says : Bool) (e : ends (Ok says) out ≡ bisimilar_outcome B.left.model.shape (columns_of B.left.model) B.right.model.shape (columns_of B.right.model) B.left.classes.now B.right.classes.now one ρ store) where
+  module _ (says : Bool) (e : ends (Ok says) out ≡ of_sides bisimilar_outcome B one ρ store) where
     j : Judged n says (alike B ρ one) out store
     j = judged store out n says (alike B ρ one) (at_one (Ok says) e)
 
@@ -77,17 +78,17 @@ module _ (B : Sides) (ρ : Float) (store out : List ℕ) where
 
     -- it holds there
     pub ends_at : (x : Float) (last : List ℕ) → says ≡ true → x ≡ below_one (alike B ρ) → last ≡ replicate (length out) 0
-        → ends (Ok (Some x)) last ≡ outcome B.left.model.shape (columns_of B.left.model) B.right.model.shape (columns_of B.right.model) B.left.classes.now B.right.classes.now ρ store
+        → ends (Ok (Some x)) last ≡ of_sides outcome B ρ store
     unfolding n min_epsilon
     ends_at x last t f z =
         ap (ends (Ok (Some x))) (zero_again last out store j.cleared z)
         ∙ ap (λ (l : Option Float). ends (Ok l) (replicate (length store) 0)) (ap Some f ∙ ap found (below_one_lem (alike B ρ) (sym j.said ∙ t)))
-        ∙ ap (λ (k : ℕ). settled k store (min_epsilon B.left.model.shape (columns_of B.left.model) B.right.model.shape (columns_of B.right.model) B.left.classes.now B.right.classes.now ρ)) (sym j.unrefused)
+        ∙ ap (λ (k : ℕ). settled k store (of_sides min_epsilon B ρ)) (sym j.unrefused)
 
     -- it does not
-    pub ends_absent : says ≡ false → ends (Ok None) out ≡ outcome B.left.model.shape (columns_of B.left.model) B.right.model.shape (columns_of B.right.model) B.left.classes.now B.right.classes.now ρ store
+    pub ends_absent : says ≡ false → ends (Ok None) out ≡ of_sides outcome B ρ store
     unfolding n min_epsilon
     ends_absent t =
         ap (ends (Ok None)) j.cleared
         ∙ ap (λ (x : Search). settled 0 store x) (sym (search_none (alike B ρ) (sym j.said ∙ t)))
-        ∙ ap (λ (k : ℕ). settled k store (min_epsilon B.left.model.shape (columns_of B.left.model) B.right.model.shape (columns_of B.right.model) B.left.classes.now B.right.classes.now ρ)) (sym j.unrefused)
+        ∙ ap (λ (k : ℕ). settled k store (of_sides min_epsilon B ρ)) (sym j.unrefused)

@@ -1,12 +1,13 @@
 -- What `min_epsilon` answers, and what it leaves in the bytes of the relation.
 use Rattle.std.specs.Prelude.{◌≡◌, ℕ, zero, suc, Bool, Option, Some, None, Result, Ok, Err, List, length, replicate, Float}
-use Rattle.bisim_core.specs.Data.{Columns, columns_of}
+use Rattle.bisim_core.specs.Data.{Columns}
 use Rattle.bisim_core.specs.declared.wlts.Shape.{Shape}
 use Rattle.epsdelta_theory.specs.Refusal.{bisimilar_refusal, min_epsilon_refusal}
 use Rattle.epsdelta_theory.specs.MinEpsilon.{Search, alike_at, min_epsilon}
 use Rattle.epsdelta_theory.specs.MinEpsilon as search
 use Rattle.epsdelta.specs.declared.asked.Sides.{Sides}
 use Rattle.epsdelta.specs.Outcome.{Outcome, ends}
+use Rattle.epsdelta.specs.Sides.{of_sides}
 
 -- what the search found
 abbrev pub found : search.Least → Option Float
@@ -28,11 +29,11 @@ Cleared store out = out ≡ replicate (length store) 0
 
 -- of two models with their classes: are the initial states related at this ρ and ε
 abbrev pub alike : Sides → Float → Float → Bool
-alike B ρ = alike_at B.left.model.shape (columns_of B.left.model) B.right.model.shape (columns_of B.right.model) B.left.classes.now B.right.classes.now ρ
+alike B = of_sides alike_at B
 
 -- what is refused at this ε and ρ, with so many bytes, and of the search
 abbrev pub refusal_at : Sides → Float → Float → ℕ → ℕ
-refusal_at B ε ρ bytes = bisimilar_refusal B.left.model.shape (columns_of B.left.model) B.right.model.shape (columns_of B.right.model) B.left.classes.now B.right.classes.now ε ρ bytes
+refusal_at B = of_sides bisimilar_refusal B
 
 abbrev pub refusal : Sides → Float → ℕ → ℕ
-refusal B ρ bytes = min_epsilon_refusal B.left.model.shape (columns_of B.left.model) B.right.model.shape (columns_of B.right.model) B.left.classes.now B.right.classes.now ρ bytes
+refusal B = of_sides min_epsilon_refusal B

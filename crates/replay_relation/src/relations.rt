@@ -5,7 +5,7 @@ use bisim_core::ids::StateId;
 use bisim_core::wlts::Wlts;
 use bisimilar::bisimilar::epsdelta_bisimilar;
 use bisimilar::related::related;
-use epsdelta::asked::{Side, Tolerances};
+use epsdelta::asked::{Side, Sides, Tolerances};
 use epsdelta::relation::epsdelta;
 use min_epsilon::least::min_epsilon;
 use replay_text::columns::Model;
@@ -15,8 +15,7 @@ use replay_text::text::Reader;
 // What is asked: two models with the classes of their states, the tolerances, and the bytes listed.
 #[derive(Clone, Copy)]
 struct Asked<'a> {
-    left: Side<'a>,
-    right: Side<'a>,
+    sides: Sides<'a>,
     tolerances: Tolerances,
     listed: &'a [u8],
 }
@@ -39,15 +38,15 @@ fn check<F: FnOnce(&mut Reader, Asked, &mut [u8])>(
 }
 
 fn run_epsdelta(r: &mut Reader, x: Asked, lent: &mut [u8]) {
-    r.expect_answer(epsdelta(&x.left, &x.right, x.tolerances, lent));
+    r.expect_answer(epsdelta(&x.sides, x.tolerances, lent));
 }
 
 fn run_bisimilar(r: &mut Reader, x: Asked, lent: &mut [u8]) {
-    r.expect_answer(epsdelta_bisimilar(&x.left, &x.right, x.tolerances, lent));
+    r.expect_answer(epsdelta_bisimilar(&x.sides, x.tolerances, lent));
 }
 
 fn run_least(r: &mut Reader, x: Asked, lent: &mut [u8]) {
-    r.expect_answer(min_epsilon(&x.left, &x.right, x.tolerances.rho, lent));
+    r.expect_answer(min_epsilon(&x.sides, x.tolerances.rho, lent));
 }
 
 // The classes, the tolerances and the bytes; each entry gets the bytes as they are at first.
@@ -55,13 +54,15 @@ fn run_lent(r: &mut Reader, counts: &mut [u64; 48], bytes: &mut [u8], left: Wlts
     let mut left_classes = [0u32; 2112];
     let mut right_classes = [0u32; 2112];
     let mut listed = [0u8; 512];
-    let left = Side {
-        model: left,
-        classes: r.list_field(&mut left_classes),
-    };
-    let right = Side {
-        model: right,
-        classes: r.list_field(&mut right_classes),
+    let sides = Sides {
+        left: Side {
+            model: left,
+            classes: r.list_field(&mut left_classes),
+        },
+        right: Side {
+            model: right,
+            classes: r.list_field(&mut right_classes),
+        },
     };
     let tolerances = Tolerances {
         epsilon: r.real_field(),
@@ -69,8 +70,7 @@ fn run_lent(r: &mut Reader, counts: &mut [u64; 48], bytes: &mut [u8], left: Wlts
     };
     let l = store::read(r, &mut listed, bytes.len());
     let x = Asked {
-        left,
-        right,
+        sides,
         tolerances,
         listed: l.listed,
     };

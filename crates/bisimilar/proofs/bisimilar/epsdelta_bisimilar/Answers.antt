@@ -6,16 +6,16 @@ use Rattle.bisimilar.proofs.bisimilar.epsdelta_bisimilar.Goals as goal
 
 pub returns-in_err-epsdelta_unless : goal.returns-in_err-epsdelta_unless
 returns-in_err-epsdelta_unless c =
-    let L = c.args.left.now in
-    let R = c.args.right.now in
+    let L = c.args.sides.now.left in
+    let R = c.args.sides.now.right in
     let t = c.args.tolerances in
     handed_on c.from_residual.result _ c.epsdelta_unless.new.relation c.from_residual.ensures.1
     ∙ ended_by L.model.shape (columns_of L.model) R.model.shape (columns_of R.model) L.classes.now R.classes.now t.epsilon t.rho c.args.relation.now _ _ c.one_absent.ensures refl refl c.in_err-epsdelta_unless.ensures
 
 pub returns : goal.returns
 returns c =
-    let L = c.args.left.now in
-    let R = c.args.right.now in
+    let L = c.args.sides.now.left in
+    let R = c.args.sides.now.right in
     let t = c.args.tolerances in
     c.conclude.ensures
     ∙ ended_by L.model.shape (columns_of L.model) R.model.shape (columns_of R.model) L.classes.now R.classes.now t.epsilon t.rho c.args.relation.now _ _ c.one_absent.ensures c.start.ensures c.start-2.ensures c.in_ok-epsdelta_unless.ensures

@@ -7,7 +7,7 @@ use Rattle.numbers.specs.Refuse.{numbered}
 use Rattle.bisim_core.specs.declared.wlts.Shape.{Shape}
 use Rattle.build_theory.specs.Lent.{columns_in}
 use Rattle.card_models.proofs.Handing.{FewBoth}
-use Rattle.card_relation.proofs.Relates.{retold, with_room, relation_free}
+use Rattle.card_relation.proofs.Relates.{retold, at_parts, with_room, relation_free}
 use Rattle.card_models.proofs.Builds.{lists_refused, lists_related}
 use Rattle.card.proofs.print.print_both.Goals as goal
 
@@ -23,4 +23,4 @@ returns-in-Ok c =
     let p = c.requires in
     let a = c.args in
     let f = subst (λ (x : Result (Shape × Shape) Refusal). FewBoth (numbered x)) c.in-Ok.is p.0 in
-    retold (lists_related (columns_in a.left.now) (columns_in a.right.now) a.heads a.classes.now (numbered a.models) _ _ (ap numbered c.in-Ok.is)) (relation_free c.in-Ok.a c.in-Ok.b _ a.out.now _ _ f.0 f.1 p.2 c.relation_text.ensures)
+    retold (at_parts _ _ _ _ _ _ _ _ c.in_parts.ensures ∙ lists_related (columns_in a.left.now) (columns_in a.right.now) a.heads a.classes.now (numbered a.models) _ _ (ap numbered c.in-Ok.is)) (relation_free c.in-Ok.a c.in-Ok.b _ a.out.now _ _ f.0 f.1 p.2 c.relation_text.ensures)

@@ -11,11 +11,11 @@ pub returns-in-Ok : goal.returns-in-Ok
 returns-in-Ok c =
     let p = c.requires in
     let a = c.args in
-    λ n store R e k. finish_related a.left a.right n a.relation.now store R a.out.now _ _ p.0 p.1 p.2 p.3 (ap (λ (x : Result (Unit {0}) Refusal). ends (numbered x) a.relation.now) (sym c.in-Ok.is) ∙ e) k c.report_text.ensures
+    λ n store R e k. finish_related a.sides.now.left.model.shape.states a.sides.now.right.model.shape.states n a.relation.now store R a.out.now _ _ p.few.0 p.few.1 p.room.0 p.room.1 (ap (λ (x : Result (Unit {0}) Refusal). ends (numbered x) a.relation.now) (sym c.in-Ok.is) ∙ e) k c.report_text.ensures
 
 pub returns-in-Err : goal.returns-in-Err
 returns-in-Err c =
     let p = c.requires in
     let a = c.args in
-    λ n store R e k. finish_refused a.left a.right n a.relation.now store R a.out.now _ _ c.number.result p.3
+    λ n store R e k. finish_refused a.sides.now.left.model.shape.states a.sides.now.right.model.shape.states n a.relation.now store R a.out.now _ _ c.number.result p.room.1
     (ap (λ (m : ℕ). ends (Err m) a.relation.now) c.number.ensures ∙ ap (λ (x : Result (Unit {0}) Refusal). ends (numbered x) a.relation.now) (sym c.in-Err.is) ∙ e) c.refusal_text.ensures

@@ -7,12 +7,12 @@ use Rattle.epsdelta.proofs.relation.epsdelta.Goals as goal
 
 pub returns-clause-relation_after : goal.returns-clause-relation_after
 returns-clause-relation_after c =
-    let L = c.args.left.now in
-    let R = c.args.right.now in
+    let L = c.args.sides.now.left in
+    let R = c.args.sides.now.right in
     plain L.model R.model L.classes.now R.classes.now c.args.tolerances.epsilon c.args.tolerances.rho c.args.relation.now c.epsdelta_unless.ensures
 
 pub returns-clause-sound : goal.returns-clause-sound
 returns-clause-sound c = λ e.
-    let L = c.args.left.now in
-    let R = c.args.right.now in
+    let L = c.args.sides.now.left in
+    let R = c.args.sides.now.right in
     epsdelta_sound L.model.shape (columns_of L.model) R.model.shape (columns_of R.model) L.classes.now R.classes.now c.args.tolerances.epsilon c.args.tolerances.rho (length c.args.relation.now) e

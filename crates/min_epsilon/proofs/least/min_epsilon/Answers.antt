@@ -8,15 +8,15 @@ pub returns-in_err-epsdelta_bisimilar-clause-relation_after : goal.returns-in_er
 returns-in_err-epsdelta_bisimilar-clause-relation_after c =
     let a = c.args in
     let out = c.epsdelta_bisimilar.new.relation in
-    handed_on c.from_residual.result _ out c.from_residual.ensures.1 ∙ ends_refused (record { left = a.left.now; right = a.right.now }) a.rho a.relation.now out _ c.in_err-epsdelta_bisimilar.ensures
+    handed_on c.from_residual.result _ out c.from_residual.ensures.1 ∙ ends_refused a.sides.now a.rho a.relation.now out _ c.in_err-epsdelta_bisimilar.ensures
 
 pub below_one-requires : goal.below_one-requires
-below_one-requires c = next_allowed (record { left = c.args.left.now; right = c.args.right.now }) c.args.rho c.args.relation.now c.epsdelta_bisimilar.new.relation _ c.in_ok-epsdelta_bisimilar.ensures
+below_one-requires c = next_allowed c.args.sides.now c.args.rho c.args.relation.now c.epsdelta_bisimilar.new.relation _ c.in_ok-epsdelta_bisimilar.ensures
 
 pub returns-then-not-branch-clause-relation_after : goal.returns-then-not-branch-clause-relation_after
-returns-then-not-branch-clause-relation_after c = ends_absent (record { left = c.args.left.now; right = c.args.right.now }) c.args.rho c.args.relation.now c.epsdelta_bisimilar.new.relation _ c.in_ok-epsdelta_bisimilar.ensures c.if-not-branch.true
+returns-then-not-branch-clause-relation_after c = ends_absent c.args.sides.now c.args.rho c.args.relation.now c.epsdelta_bisimilar.new.relation _ c.in_ok-epsdelta_bisimilar.ensures c.if-not-branch.true
 
 pub returns-clause-relation_after : goal.returns-clause-relation_after
 returns-clause-relation_after c =
     let b = c.below_one in
-    ends_at (record { left = c.args.left.now; right = c.args.right.now }) c.args.rho c.args.relation.now c.epsdelta_bisimilar.new.relation _ c.in_ok-epsdelta_bisimilar.ensures b.result b.new.relation c.if-not-branch.false b.ensures.0 b.ensures.1
+    ends_at c.args.sides.now c.args.rho c.args.relation.now c.epsdelta_bisimilar.new.relation _ c.in_ok-epsdelta_bisimilar.ensures b.result b.new.relation c.if-not-branch.false b.ensures.0 b.ensures.1
