@@ -7,7 +7,6 @@ use mathlib.Core.List.{List}
 use native.Mathlib.Omega.{arith}
 use lib.Dec.{T, eqb, ltb, leb, leb→le}
 use lib.ListN.{length, get_or}
-use lib.Bits.{bit_xor}
 use lib.Ieee.{Float, fin, inf, nan, le, eq}
 use Rattle.flow_theory.specs.Network.{head, rev, left, node_lists}
 use Rattle.numbers.specs.Real.{nought, greatest_weight}
@@ -19,7 +18,6 @@ use Rattle.flow_theory.specs.Rows.{network, starts_of, list_of}
 use Rattle.flow_theory.proofs.RunRows.{Runnable}
 use Rattle.flow_theory.proofs.ListRows.{Indexable}
 use Rattle.flow_check.specs.Refusal.{cap_fits, edge_fits, pair_fits, sizes_fit, links_fit, lists_fit, same_rows, network_fits, leaves_finite, ends_fit, accepts}
-use Rattle.flow_theory.proofs.Links.{rev_xor}
 use Rattle.flow_theory.proofs.Outs.{network_nodes}
 use Rattle.numbers.proofs.Alls.{every_at}
 use Rattle.flow_check.proofs.Laying.{laid}
@@ -104,13 +102,9 @@ module _ (H : List ℕ) (c p : List Float) (n : ℕ) (even : length H % 2 ≡ 0)
 
 -- ---- source and sink
 
-pub reverse_there : (e m : ℕ) → m % 2 ≡ 0 → e < m → bit_xor e 1 < m
+pub reverse_there : (e m : ℕ) → m % 2 ≡ 0 → e < m → rev e < m
 unfolding rev
-reverse_there e m p h = rw (rev_xor e) (omega arith)
-
--- what a link is said to be by its reverse's head
-pub by_reverse : (H : List ℕ) (c : List Float) (s e : ℕ) {b : Bool} → b ≡ leaves_finite s (get_or H (bit_xor e 1) 0) (get_or c e nan) → leaves_finite s (get_or H (rev e) 0) (get_or c e nan) ≡ b
-by_reverse H c s e q = rw (← rev_xor e) (sym q)
+reverse_there e m p h = omega arith
 
 pub record Ends (H : List ℕ) (c : List Float) (n s t : ℕ) : Type 0 where
   pub source_in : s < n

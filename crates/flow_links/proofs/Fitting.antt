@@ -75,10 +75,9 @@ module _ {us : List ℕ} {vs : List Float} {ts : List ℕ} {ws : List Float} {n 
       let m = mul_comm (length us) (length ts) in
       omega arith
 
-  pub room : (store h : List ℕ) (c : List Float) → (has_room (length us) (length ts) (length h) && has_room (length us) (length ts) (length c)) ≡ true → Free h c 0 (length (row_links store n us vs ts ws))
-  room store h c e =
+  pub room : (store h : List ℕ) (c : List Float) → has_room (length us) (length ts) (length h) ≡ true → has_room (length us) (length ts) (length c) ≡ true → Free h c 0 (length (row_links store n us vs ts ws))
+  room store h c x y =
       let k = 2 * (length us + length ts + length us * length ts) in
-      let (x, y) = and_t (leb k (length h)) (leb k (length c)) e in
       let a = leb→le k (length h) (t_of x) in
       let b = leb→le k (length c) (t_of y) in
       let l = most store in
@@ -101,9 +100,10 @@ laid_over : {A : Type 0} (new old l : List A) (k : ℕ) → k ≡ length new →
 laid_over {A} new old l k z a b = sym (take-append-drop k l) ∙ ap (λ (x : List A). x ++ drop k l) a ∙ ap (λ (x : List A). new ++ x) (b ∙ ap (λ (i : ℕ). drop i old) z)
 
 -- rows that fit have their links written where there is room
-pub done_is : (us : List ℕ) (vs : List Float) (ts : List ℕ) (ws : List Float) (n : ℕ) → fits us vs ts ws n ≡ true → (store h : List ℕ) (c : List Float) → (has_room (length us) (length ts) (length h) && has_room (length us) (length ts) (length c)) ≡ true
+pub done_is : (us : List ℕ) (vs : List Float) (ts : List ℕ) (ws : List Float) (n : ℕ) → fits us vs ts ws n ≡ true → (store h : List ℕ) (c : List Float) → has_room (length us) (length ts) (length h) ≡ true → has_room (length us) (length ts) (length c) ≡ true
     → {k : ℕ} {h' : List ℕ} {c' : List Float} → Added (row_links store n us vs ts ws) h c 0 h' c' k → Written us vs ts ws n (relation_of store) h c (Some k) h' c'
-done_is us vs ts ws n f store h c e {k} {h'} {c'} A =
+done_is us vs ts ws n f store h c x y {k} {h'} {c'} A =
+    let e : rooms us ts h c ≡ true = ap (λ (b : Bool). b && has_room (length us) (length ts) (length c)) x ∙ y in
     let F = fit us vs ts ws n f in
     let ls = links_of n (relation_of store) (jumps_of us vs) (jumps_of ts ws) in
     let z : row_links store n us vs ts ws ≡ ls = links_are n store us vs ts ws F.left.rates F.right.rates in
@@ -131,8 +131,9 @@ module _ (us : List ℕ) (vs : List Float) (ts : List ℕ) (ws : List Float) (n 
   pub laid : {o : Option ℕ} {h' : List ℕ} {c' : List Float} → Written us vs ts ws n (relation_of store) h c o h' c' → fits us vs ts ws n ≡ true → rooms us ts h c ≡ true → (o ≡ Some (length (heads links))) × Laid us vs ts ws n (relation_of store) h (length (heads links)) h' c'
   laid {o} {h'} {c'} w f r =
       let F = fit us vs ts ws n f in
-      let free = (room F store h c r).heads_room in
-      let more = (room F store h c r).caps_room in
+      let (x, y) = and_t (has_room (length us) (length ts) (length h)) (has_room (length us) (length ts) (length c)) r in
+      let free = (room F store h c x y).heads_room in
+      let more = (room F store h c x y).caps_room in
       let m = ap length (links_are n store us vs ts ws F.left.rates F.right.rates) in
       let l = heads_length links in
       let q = caps_length links in

@@ -2,7 +2,7 @@
 ghost use Rattle.std.specs.Prelude.{◌≡◌, ◌+◌, ◌*◌, ◌≤◌, ◌<◌, true, ◌&&◌, [], ◌∷◌, cond, is_some, length, get_or};
 ghost use Rattle.numbers.specs.Lists.{over};
 ghost use Rattle.epsdelta_theory.specs.FlowTest;
-ghost use Rattle.epsdelta_theory.proofs.LinkRows.{Added, Free, has_room, source_row, sink_row, cross_row, cross_rows, row_links};
+ghost use Rattle.epsdelta_theory.proofs.LinkRows.{Added, Free, source_row, sink_row, cross_row, cross_rows, row_links};
 ghost use Rattle.flow_links.specs.Lent.{test_fits, test_links, test_room, places_if};
 ghost use Rattle.flow_links.specs.Rows.{Same};
 
@@ -99,13 +99,14 @@ fn put_links(test: &Test, rows: &mut LinkRows)
     add_crosses(test, rows);
 }
 
-// Room for the links of two rows that fit, if all targets are related.
-fn has_room(left: usize, right: usize, heads: usize, caps: usize) -> bool
-    requires { (left ≤ 31) × (right ≤ 31) }
-    ensures { result ≡ (has_room left right heads && has_room left right caps) }
+// Whether so many places are room for the links of a test whose rows fit, if all targets are related.
+fn has_room(test: &Test, places: usize) -> bool
+    requires { (length test.now.left.targets.now ≤ 31) × (length test.now.right.targets.now ≤ 31) }
+    ensures { result ≡ test_room test.now places }
 {
-    let most = 2 * (left + right + left * right);
-    most <= heads && most <= caps
+    let left = test.left.targets.len();
+    let right = test.right.targets.len();
+    2 * (left + right + left * right) <= places
 }
 
 // Writes the links of a flow test over lent rows, heads and capacities; gives how many places they take. Where the test's rows do not fit, or there is no room for all links between their targets, nothing is written.
@@ -114,9 +115,7 @@ pub fn write_links(test: &Test, heads: &mut [u32], caps: &mut [f64]) -> Option<u
     ensures heads_after { heads.new ≡ cond (is_some result) (over (FlowTest.heads (test_links test.now)) heads.old) heads.old }
     ensures caps_after { caps.new ≡ cond (is_some result) (over (FlowTest.caps (test_links test.now)) caps.old) caps.old }
 {
-    let left = test.left.targets.len();
-    let right = test.right.targets.len();
-    if test.fits() && has_room(left, right, heads.len(), caps.len()) {
+    if test.fits() && has_room(test, heads.len()) && has_room(test, caps.len()) {
         let mut rows = LinkRows {
             heads,
             caps,

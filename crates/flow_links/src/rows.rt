@@ -15,6 +15,7 @@ pub struct Rows<'a> {
 }
 
 // One row: a target and a rate for each jump.
+// Stays: `Row` of distance_theory has a target and a number for each too, but those are probabilities, and these are rates of any size: what either crate tests of its row differs, and the name of the field says which it is.
 #[derive(Clone, Copy, Debug)]
 pub struct Row<'a> {
     pub targets: &'a [u32],
