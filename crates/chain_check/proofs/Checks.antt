@@ -1,22 +1,20 @@
 -- The checks of a row and of all rows, as the code makes them.
 use mathlib.Core.Path.{◌≡◌, refl, sym, ap, ◌∙◌}
-use mathlib.Core.Bool.{Bool, ◌&&◌}
-use mathlib.Core.Logic.{◌⊎◌, inl, inr}
+use mathlib.Core.Bool.{Bool, true, ◌&&◌}
 use Rattle.std.specs.List.{list_all, range_with_len}
-use Prim.Native.Nat.{ℕ, zero, suc, ◌+◌, ◌-◌, ◌≤◌, ◌<◌}
+use Prim.Native.Nat.{ℕ, zero, suc, ◌+◌, ◌≤◌, ◌<◌}
 use mathlib.Core.List.{List, map}
 use native.Mathlib.Omega.{arith}
 use native.Mathlib.Numerals.{add-one}
 use lib.Dec.{ltb, leb}
 use lib.Ieee.{Float}
-use lib.ListN.{length, get_or, take, drop, length-take, drop_of_length-le}
-use lib.Seq.{slice}
+use lib.ListN.{length, get_or}
+use lib.Seq.{length-slice}
+use borrow.Author.Tests.{lt-ltb, le-leb}
 use Rattle.numbers.specs.Lists.{span, all}
-use Rattle.numbers.proofs.Bools.{lt_or_ge}
-use Rattle.numbers.proofs.Parts.{drop_take}
 use Rattle.epsdelta_theory.specs.Jumps.{Jump, jumps_of}
 use Rattle.epsdelta_theory.proofs.RowReads.{jumps_length, jumps_targets, jumps_rates, starts_up}
-use Rattle.chain_theory.specs.Columns.{chain_columns, entries}
+use Rattle.chain_theory.specs.Columns.{chain_columns, reads_row, row_targets, row_rates}
 use Rattle.chain_theory.specs.Check.{ascends, probable, whole, proper}
 use Rattle.chain_theory.proofs.Shaped.{Rows}
 
@@ -27,24 +25,6 @@ pub proper_is : (T : List ℕ) (P : List Float) → length T ≡ length P
 unfolding proper
 proper_is T P e = rw (jumps_length T P e, jumps_targets T P e, jumps_rates T P e)
 
--- the parts of the columns that hold the entries of state s
-pub part_is : {A : Type 0} (a b : ℕ) (l : List A) → a ≤ b → take (b - a) (drop a l) ≡ slice a b l
-part_is a b l h = let e : a + (b - a) ≡ b = omega arith in sym (drop_take a (b - a) l) ∙ ap (λ (n : ℕ). drop a (take n l)) e
-
-part_any : {A : Type 0} (a b : ℕ) (l : List A) → take (b - a) (drop a l) ≡ slice a b l
-part_any {A} a b l = pick (lt_or_ge b a)
-  where
-    pick : (b < a) ⊎ (a ≤ b) → take (b - a) (drop a l) ≡ slice a b l
-    pick (inl h) = let z : b - a ≡ 0 = omega arith in let t = length-take (b) l in rw z (sym (drop_of_length-le (take b l) (omega arith)))
-    pick (inr h) = part_is a b l h
-
-pub entries_are : (O T : List ℕ) (P seen : List Float) (s : ℕ)
-    → jumps_of (take (get_or O (s + 1) 0 - get_or O s 0) (drop (get_or O s 0) T)) (take (get_or O (s + 1) 0 - get_or O s 0) (drop (get_or O s 0) P)) ≡ entries (chain_columns O T P seen) s
-entries_are O T P seen s =
-    let a = get_or O s 0 in
-    let b = get_or O (s + 1) 0 in
-    ap (λ (l : List ℕ). jumps_of l (take (b - a) (drop a P))) (part_any a b T) ∙ ap (jumps_of (slice a b T)) (part_any a b P)
-
 pub inside : {n : ℕ} {O T : List ℕ} {P : List Float} → Rows n O T P → (s : ℕ) → s < n → (get_or O s 0 ≤ get_or O (s + 1) 0) × (get_or O (s + 1) 0 ≤ length T) × (get_or O (s + 1) 0 ≤ length P)
 inside {n} {O} {T} {P} R s h =
     let r = R.rise s h in
@@ -52,6 +32,19 @@ inside {n} {O} {T} {P} R s h =
     let x = R.targets_long in
     let y = R.probabilities_long in
     (omega arith, omega arith, omega arith)
+
+-- the row of a state can be read, and has as many targets as probabilities
+module _ {n : ℕ} {O T : List ℕ} {P : List Float} (R : Rows n O T P) (seen : List Float) (s : ℕ) (h : s < n) where
+  pub reads : reads_row (chain_columns O T P seen) s ≡ true
+  reads =
+      let k = R.offsets_long in
+      let (a, b, d) = inside R s h in
+      rw (lt-ltb (s + 1) (length O) (omega arith), le-leb (get_or O s 0) (get_or O (s + 1) 0) a, le-leb (get_or O (s + 1) 0) (length T) b, le-leb (get_or O (s + 1) 0) (length P) d)
+
+  pub even_lengths : (ts : List ℕ) (ps : List Float) → ts ≡ row_targets (chain_columns O T P seen) s → ps ≡ row_rates (chain_columns O T P seen) s → length ts ≡ length ps
+  even_lengths ts ps e f =
+      let (a, b, d) = inside R s h in
+      ap length e ∙ length-slice (get_or O s 0) (get_or O (s + 1) 0) T b ∙ sym (length-slice (get_or O s 0) (get_or O (s + 1) 0) P d) ∙ sym (ap length f)
 
 -- ---- all rows, one number after the other
 

@@ -1,5 +1,5 @@
 // Check 13: rows of 1 to 32 entries, targets that rise, and probabilities that add up to 1.
-ghost use Rattle.std.specs.Prelude.{◌≡◌, not, map, length};
+ghost use Rattle.std.specs.Prelude.{◌≡◌, ◌<◌, not, map, length};
 ghost use Rattle.numbers.specs.Lists.{span, all};
 ghost use Rattle.epsdelta_theory.specs.Jumps.{jumps_of};
 ghost use Rattle.chain_theory.specs.Columns.{entries};
@@ -7,7 +7,7 @@ ghost use Rattle.chain_theory.specs.Lent.{of_chain};
 ghost use Rattle.chain_theory.specs.Check;
 ghost use Rattle.chain_theory.proofs.Shaped.{Rows};
 
-use chain_theory::Chain;
+use chain_theory::{Chain, Row};
 use numbers::{ONE, Real, SLACK, apart};
 
 // Targets that rise strictly.
@@ -38,10 +38,11 @@ fn whole(probs: &[f64]) -> bool
     !(apart(sum, ONE) > SLACK)
 }
 
-fn proper(targets: &[u32], probs: &[f64]) -> bool
-    requires { length targets.now ≡ length probs.now }
-    ensures { result ≡ Check.proper (jumps_of targets.now probs.now) }
+fn proper(row: &Row) -> bool
+    requires { length row.now.targets.now ≡ length row.now.probs.now }
+    ensures { result ≡ Check.proper (jumps_of row.now.targets.now row.now.probs.now) }
 {
+    let Row { targets, probs } = *row;
     !targets.is_empty()
         && targets.len() <= 32
         && ascends(targets)
@@ -49,13 +50,20 @@ fn proper(targets: &[u32], probs: &[f64]) -> bool
         && whole(probs)
 }
 
+// The row of a state of a chain that check 4 lets pass.
+fn row_proper(chain: &Chain, s: usize) -> bool
+    requires { (s < chain.now.shape.states) × Rows chain.now.shape.states chain.now.offsets.now chain.now.targets.now chain.now.probs.now }
+    ensures { result ≡ Check.proper (entries (of_chain chain.now) s) }
+{
+    let Some(row) = chain.row(s) else {
+        return false;
+    };
+    proper(&row)
+}
+
 pub(crate) fn all_proper(chain: &Chain) -> bool
     requires { Rows chain.now.shape.states chain.now.offsets.now chain.now.targets.now chain.now.probs.now }
     ensures { result ≡ all Check.proper (map (entries (of_chain chain.now)) (span 0 chain.now.shape.states)) }
 {
-    (0..chain.shape.states).all(|s| {
-        let from = chain.offsets[s] as usize;
-        let to = chain.offsets[s + 1] as usize;
-        proper(&chain.targets[from..to], &chain.probs[from..to])
-    })
+    (0..chain.shape.states).all(|s| row_proper(chain, s))
 }
