@@ -1,17 +1,17 @@
 -- The turns of the loop over the pairs, and that the costs of a run are the definition's.
 use mathlib.Core.Path.{◌≡◌, sym, ap, ap₂, ◌∙◌}
 use Prim.Native.Nat.{ℕ, ◌+◌, ◌≤◌, ◌<◌}
-use mathlib.Core.Bool.{Bool, true, false, not}
-use mathlib.Core.List.{List, map}
+use mathlib.Core.Bool.{Bool, true, false, not, ◌&&◌}
+use mathlib.Core.List.{List, [], ◌∷◌, map}
 use native.Mathlib.Omega.{arith}
 use lib.Dec.{leb}
 use lib.ListN.{length, get_or, set, take, length-map}
 use lib.Seq.{ext_get_or, get_or-take}
 use lib.Ieee.{Float, nan, binary64, sub, mul}
-use borrow.Author.Tests.{leb-true, not-true, not-false}
+use borrow.Author.Tests.{leb-true, le-leb, not-true, not-false}
 use Rattle.numbers.specs.Real.{one}
 use Rattle.numbers.specs.Choice.{apart}
-use Rattle.numbers.specs.Lists.{span}
+use Rattle.numbers.specs.Lists.{span, all}
 use Rattle.numbers.specs.Lists
 use Rattle.numbers.proofs.Bools.{and_t}
 use Rattle.numbers.proofs.Spans.{span_length}
@@ -21,6 +21,7 @@ use Rattle.chain_theory.specs.Chain.{Chain}
 use Rattle.distance_theory.specs.Pairs.{Pair, pair, pair_at}
 use Rattle.distance_theory.specs.Couplings.{cost_of}
 use Rattle.distance_theory.proofs.Crossings.{map_at}
+use Rattle.distance_theory.proofs.Longs.{all_one, all_more}
 use Rattle.distance_words.proofs.Costs.{cost_at, costs, priced, counted, priced_if}
 
 module _ (l r : List ℕ) (u w : List Float) (γ : Float) (n : ℕ) where
@@ -43,6 +44,11 @@ module _ (l r : List ℕ) (u w : List Float) (γ : Float) (n : ℕ) where
     cost_done h = over_done (costs l r u w γ n) c₀ c k e (h ∙ sym costs_length)
 
 -- ---- the check of the counts
+
+pub counted_is : (n rights cost : ℕ) → all (leb n) (rights ∷ cost ∷ []) ≡ counted n n rights cost
+counted_is n rights cost =
+    all_more (leb n) rights (cost ∷ []) (leb n cost) (all_one (leb n) cost)
+    ∙ ap (λ (b : Bool). b && (leb n rights && leb n cost)) (sym (le-leb n n (omega arith)))
 
 module _ (n lefts rights cost : ℕ) (b : Bool) (e : b ≡ counted n lefts rights cost) where
   pub counts_known : not b ≡ false → (n ≤ rights) × (n ≤ cost)

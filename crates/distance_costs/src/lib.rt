@@ -4,22 +4,11 @@
 ghost use Rattle.std.specs.Prelude.{◌≡◌, ◌≤◌, length};
 ghost use Rattle.numbers.specs.Lists.{over};
 ghost use Rattle.distance_words.proofs.Costs.{costs, priced, pricing};
-ghost use Rattle.distance_words.proofs.Costs;
 
 use chain_theory::Chain;
-use distance_couplings::shares::value_at;
 use distance_theory::lent::Pairs;
+use distance_theory::{long, value_at};
 use numbers::{ONE, apart};
-
-// An entry for each of n pairs.
-fn counted(n: usize, rights: usize, cost: usize) -> bool
-    ensures { result ≡ Costs.counted n n rights cost }
-{
-    if n <= rights {
-        return n <= cost;
-    }
-    false
-}
 
 // Pair after pair: (1 - γ) × how far apart its observations are.
 fn price_each(pairs: &Pairs, left: &Chain, right: &Chain, gamma: f64, cost: &mut [f64])
@@ -38,7 +27,7 @@ fn price_each(pairs: &Pairs, left: &Chain, right: &Chain, gamma: f64, cost: &mut
 pub fn price(pairs: &Pairs, left: &Chain, right: &Chain, gamma: f64, cost: &mut [f64]) -> bool
     ensures { priced result cost.new ≡ pricing (length pairs.now.lefts.now) pairs.now.lefts.now pairs.now.rights.now left.now.observations.now right.now.observations.now gamma cost.old }
 {
-    if !counted(pairs.lefts.len(), pairs.rights.len(), cost.len()) {
+    if !long(pairs.lefts.len(), &[pairs.rights.len(), cost.len()]) {
         return false;
     }
     price_each(pairs, left, right, gamma, cost);

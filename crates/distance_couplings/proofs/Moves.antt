@@ -1,15 +1,16 @@
 -- What the transport of two rows answers: its sizes fit, so that there is a plan, whose cells are the shares of the coupling.
 use mathlib.Core.Path.{◌≡◌, refl, sym, ap, ap₂, ◌∙◌}
 use Prim.Native.Nat.{ℕ, ◌*◌, ◌≤◌, ◌<◌}
-use mathlib.Core.Bool.{Bool, true, false, not, ◌&&◌, true≢false}
+use mathlib.Core.Bool.{Bool, true, false, not, ◌&&◌, ◌||◌, true≢false}
 use Rattle.std.specs.Result.{is_ok, result_ok}
 use Rattle.std.specs.Option.{is_some}
 use mathlib.Core.List.{List, map}
 use native.Mathlib.Omega.{arith}
+use mathlib.Core.Logic.{◌⊎◌, inl, inr}
 use native.Mathlib.Nat.{mul-le-mul}
 use lib.ListN.{length, get_or, take, drop, length-append, length-drop, length-map}
 use lib.Seq.{slice, take_at}
-use lib.Dec.{leb}
+use lib.Dec.{leb, eqb}
 use lib.Ieee.{Float, binary64, mul, div}
 use borrow.Author.Tests.{le-leb, le-ltb, eq-eqb, ne_eqb}
 use Rattle.numbers.specs.Real.{nought, sum}
@@ -177,27 +178,19 @@ module _ (look : Look) (xs : List ℕ) (ps : List Float) (ys : List ℕ) (qs : L
 
   -- ---- which of the two
 
-  one_left : length xs ≡ 1 → point_mass es fs ≡ true
-  one_left h = rw (eq-eqb (length es) 1 (jumps_length xs ps (sym R.left) ∙ h))
-
-  one_right : (length xs ≡ 1 → ⊥) → length ys ≡ 1 → point_mass es fs ≡ true
-  one_right g h = rw (ne_eqb (length es) 1 (λ q. g (sym (jumps_length xs ps (sym R.left)) ∙ q)), eq-eqb (length fs) 1 (jumps_length ys qs (sym R.right) ∙ h))
-
-  several : (length xs ≡ 1 → ⊥) → (length ys ≡ 1 → ⊥) → point_mass es fs ≡ false
-  several g h = rw (ne_eqb (length es) 1 (λ q. g (sym (jumps_length xs ps (sym R.left)) ∙ q)), ne_eqb (length fs) 1 (λ q. h (sym (jumps_length ys qs (sym R.right)) ∙ q)))
+  point : point_mass es fs ≡ (eqb (length xs) 1 || eqb (length ys) 1)
+  point = ap₂ (λ (m n : ℕ). eqb m 1 || eqb n 1) (jumps_length xs ps (sym R.left)) (jumps_length ys qs (sym R.right))
 
   module _ (v : List Float) (p : List ℕ) (m : List Float) (b : Bested) where
     abbrev chosen : Bool → Bested
     chosen t = best_if true (best_by t look v es fs) p m
 
-    pub with_left_lem : length xs ≡ 1 → b ≡ chosen true → b ≡ chosen (point_mass es fs)
-    with_left_lem h e = e ∙ ap chosen (sym (one_left h))
-
-    pub with_right : (length xs ≡ 1 → ⊥) → length ys ≡ 1 → b ≡ chosen true → b ≡ chosen (point_mass es fs)
-    with_right g h e = e ∙ ap chosen (sym (one_right g h))
+    pub with_one : (length xs ≡ 1) ⊎ ((length xs ≡ 1 → ⊥) × (length ys ≡ 1)) → b ≡ chosen true → b ≡ chosen (point_mass es fs)
+    with_one (inl h) e = e ∙ ap chosen (sym (point ∙ rw (eq-eqb (length xs) 1 h) refl))
+    with_one (inr (g, h)) e = e ∙ ap chosen (sym (point ∙ rw (ne_eqb (length xs) 1 g, eq-eqb (length ys) 1 h) refl))
 
     pub with_several : (length xs ≡ 1 → ⊥) → (length ys ≡ 1 → ⊥) → b ≡ chosen false → b ≡ chosen (point_mass es fs)
-    with_several g h e = e ∙ ap chosen (sym (several g h))
+    with_several g h e = e ∙ ap chosen (sym (point ∙ rw (ne_eqb (length xs) 1 g, ne_eqb (length ys) 1 h) refl))
 
 -- ---- shares that were laid
 

@@ -3,5 +3,5 @@
 
 pub mod shares; // shares.rt: shares in two lists
 pub mod best; // best.rt: `best_coupling`
-pub mod pairs; // pairs.rt: the independent coupling of two states
+pub mod pairs; // pairs.rt: the independent coupling of a pair
 pub mod choose; // choose.rt: the cheapest one

@@ -1,29 +1,19 @@
 // Shares of couplings in two lists, places of pairs and masses.
-ghost use Rattle.std.specs.Prelude.{◌≡◌, ◌*◌, ◌≤◌, length, get_or};
-ghost use Rattle.std.specs.Float.{nan};
+ghost use Rattle.std.specs.Prelude.{◌≡◌, ◌≤◌, length};
 ghost use Rattle.std.proofs.Math.Seq.{slice};
 ghost use Rattle.numbers.specs.Lists.{over};
 ghost use Rattle.distance_theory.specs.Pairs.{pair};
 ghost use Rattle.distance_theory.specs.Couplings.{expected, shares_of};
 ghost use Rattle.distance_theory.specs.Lent.{SameShares};
 ghost use Rattle.distance_theory.proofs.Index.{look_up};
-ghost use Rattle.distance_theory.proofs.PairRows.{row_jumps};
-ghost use Rattle.distance_theory.proofs.Bests.{ats, parts, independent_by, Beside, rows_fit, cells_fit, laid_as, lay_on};
+ghost use Rattle.distance_theory.proofs.Bests.{ats, parts, laid_as, lay_if};
+ghost use Rattle.distance_theory.proofs.RowsLent.{RowsBeside, CellsRoom, rows_fitting, independent_rows};
 
 use bisim_core::ids::StateId;
 use chain_theory::Row;
 use distance_pairs::index::place_of;
-use distance_theory::lent::SharesMut;
-
-// The value at a place; NaN past the last.
-pub fn value_at(values: &[f64], i: usize) -> f64
-    ensures { result ≡ get_or values.now i nan }
-{
-    if i < values.len() {
-        return values[i];
-    }
-    0.0 / 0.0
-}
+use distance_theory::lent::{Rows, SharesMut};
+use distance_theory::value_at;
 
 // Σ mass × value of the shares from..to.
 pub fn expected_part(values: &[f64], places: &[u32], masses: &[f64], from: usize, to: usize) -> f64
@@ -45,13 +35,14 @@ pub(crate) fn place(codes: &[u64], x: u32, y: u32) -> u32
 }
 
 // The independent coupling of two rows over the front of two lists: each entry with each, the probabilities multiplied.
-pub(crate) fn lay_shares(xs: &Row, ys: &Row, codes: &[u64], shares: &mut SharesMut)
-    requires beside { Beside xs.now.targets.now xs.now.probs.now ys.now.targets.now ys.now.probs.now (length codes.now) }
-    requires ys_in_bounds { (length xs.now.targets.now * length ys.now.targets.now ≤ length shares.old.places.now) × (length xs.now.targets.now * length ys.now.targets.now ≤ length shares.old.masses.now) }
+pub(crate) fn lay_shares(rows: &Rows, shares: &mut SharesMut)
+    requires beside { RowsBeside rows.now }
+    requires room { CellsRoom rows.now shares.old }
     ensures lists { SameShares shares.old shares.new }
-    ensures laid { (shares.new.places.now ≡ over (ats (independent_by (look_up codes.now) (row_jumps xs.now) (row_jumps ys.now))) shares.old.places.now)
-        × (shares.new.masses.now ≡ over (parts (independent_by (look_up codes.now) (row_jumps xs.now) (row_jumps ys.now))) shares.old.masses.now) }
+    ensures laid { (shares.new.places.now ≡ over (ats (independent_rows rows.now)) shares.old.places.now)
+        × (shares.new.masses.now ≡ over (parts (independent_rows rows.now)) shares.old.masses.now) }
 {
+    let Rows { xs, ys, codes } = *rows;
     let n = ys.targets.len();
     let cells = xs.targets.len() * n;
     for k in 0..cells {
@@ -62,43 +53,29 @@ pub(crate) fn lay_shares(xs: &Row, ys: &Row, codes: &[u64], shares: &mut SharesM
     }
 }
 
-// Rows of at most 32 entries, a probability for each, and few enough codes.
-pub(crate) fn rows_fit(xs: usize, ps: usize, ys: usize, qs: usize, codes: usize) -> bool
-    ensures { result ≡ rows_fit xs ps ys qs codes }
+// Rows of at most 32 entries, a probability for each, few enough codes, and room for a share of each cell.
+pub(crate) fn fits(rows: &Rows, shares: &SharesMut) -> bool
+    ensures { result ≡ rows_fitting rows.now shares.now }
 {
-    if ps == xs {
-        if qs == ys {
-            if xs <= 32 {
-                if ys <= 32 {
-                    return codes <= 4096;
-                }
-            }
-        }
-    }
-    false
-}
-
-// Room for a share of each cell.
-pub(crate) fn cells_fit(m: usize, n: usize, places: usize, masses: usize) -> bool
-    requires { (m ≤ 32) × (n ≤ 32) }
-    ensures { result ≡ cells_fit m n places masses }
-{
-    m * n <= places && m * n <= masses
+    let m = rows.xs.targets.len();
+    let n = rows.ys.targets.len();
+    rows.xs.probs.len() == m
+        && rows.ys.probs.len() == n
+        && m <= 32
+        && n <= 32
+        && rows.codes.len() <= 4096
+        && m * n <= shares.places.len()
+        && m * n <= shares.masses.len()
 }
 
 // The independent coupling of two rows, over the front of two lists. None where the rows have over 32 entries or are no rows, there are over 4,096 codes, or a list is short: the lists are then as they were.
-pub fn lay_independent(xs: &Row, ys: &Row, codes: &[u64], shares: &mut SharesMut) -> Option<usize>
+pub fn lay_independent(rows: &Rows, shares: &mut SharesMut) -> Option<usize>
     ensures lists { SameShares shares.old shares.new }
-    ensures laid { laid_as result shares.new.places.now shares.new.masses.now ≡ lay_on (look_up codes.now) xs.now.targets.now xs.now.probs.now ys.now.targets.now ys.now.probs.now (length codes.now) shares.old.places.now shares.old.masses.now }
+    ensures laid { laid_as result shares.new.places.now shares.new.masses.now ≡ lay_if (rows_fitting rows.now shares.old) (independent_rows rows.now) shares.old.places.now shares.old.masses.now }
 {
-    let m = xs.targets.len();
-    let n = ys.targets.len();
-    if !rows_fit(m, xs.probs.len(), n, ys.probs.len(), codes.len()) {
+    if !fits(rows, shares) {
         return None;
     }
-    if !cells_fit(m, n, shares.places.len(), shares.masses.len()) {
-        return None;
-    }
-    lay_shares(xs, ys, codes, shares);
-    Some(m * n)
+    lay_shares(rows, shares);
+    Some(rows.xs.targets.len() * rows.ys.targets.len())
 }

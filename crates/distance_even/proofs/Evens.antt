@@ -2,6 +2,7 @@
 use Rattle.std.specs.Prelude.{Some}
 use Rattle.chain_theory.specs.declared.Row.{Row}
 use mathlib.Core.Path.{◌≡◌, refl, sym, ap, ap₂, ◌∙◌}
+use mathlib.Core.Logic.{◌⊎◌, inl, inr}
 use Prim.Native.Nat.{ℕ, zero, suc, ◌+◌, ◌≤◌, ◌<◌}
 use mathlib.Core.Bool.{Bool, true, false, not, ◌&&◌, ◌||◌, true≢false}
 use mathlib.Core.List.{List, map}
@@ -47,13 +48,11 @@ fit_start f qs = sum_from_lem (map f qs)
 -- ---- two rows
 
 module _ (ps qs : List Float) where
-  pub one_left : length ps ≡ 1 → true ≡ even_rows ps qs
-  one_left h = rw (eq-eqb (length ps) 1 h)
+  pub one_entry : (length ps ≡ 1) ⊎ ((length ps ≡ 1 → ⊥) × (length qs ≡ 1)) → true ≡ even_rows ps qs
+  one_entry (inl h) = rw (eq-eqb (length ps) 1 h)
+  one_entry (inr (g, h)) = rw (ne_eqb (length ps) 1 g, eq-eqb (length qs) 1 h)
 
   module _ (g : length ps ≡ 1 → ⊥) where
-    pub one_right : length qs ≡ 1 → true ≡ even_rows ps qs
-    one_right h = rw (ne_eqb (length ps) 1 g, eq-eqb (length qs) 1 h)
-
     pub several : (length qs ≡ 1 → ⊥) → (ta tb t y d : Float) → ta ≡ sum ps → tb ≡ sum qs → t ≡ sum (map (fitted_by ta tb) qs) → y ≡ larger ta one → d ≡ apart ta t → not (lt (mul binary64 slack y) d) ≡ even_rows ps qs
     unfolding unequal
     several h ta tb t y d ea eb et ey ed =
@@ -86,17 +85,8 @@ module _ (n : ℕ) (lefts rights : List ℕ) (C D : ChainColumns) where
     rights_short h = let e = lt-leb n (length rights) h in and_second _ _ _ (le-leb n (length lefts) a) (sym e ∙ and_first _ _ e)
 
     module _ (b : n ≤ length rights) where
-      told : (r : Bool) → r ≡ every (even_pairs lefts rights C D) n → r ≡ all_even n lefts rights C D
+      pub told : (r : Bool) → r ≡ every (even_pairs lefts rights C D) n → r ≡ all_even n lefts rights C D
       told r e = and_second _ _ _ (le-leb n (length lefts) a) (and_second _ _ _ (le-leb n (length rights) b) e)
-
-      pub even_end : (k : ℕ) → k ≤ n → n ≤ k → every (even_pairs lefts rights C D) k ≡ true → true ≡ all_even n lefts rights C D
-      even_end k i j e = told true (sym e ∙ ap (every (even_pairs lefts rights C D)) (let q : k ≡ n = omega arith in q))
-
-      pub even_stop : (k x y : ℕ) → k < n → x ≡ get_or lefts k 0 → y ≡ get_or rights k 0 → (r : Bool) → r ≡ even_pair C D x y → not r ≡ true → false ≡ all_even n lefts rights C D
-      even_stop k x y h ex ey r e t = told false (sym (every_not (even_pairs lefts rights C D) n k h (sym (e ∙ ap₂ (even_pair C D) ex ey) ∙ not-true r t)))
-
-  pub even_next : (k x y : ℕ) → x ≡ get_or lefts k 0 → y ≡ get_or rights k 0 → (r : Bool) → r ≡ even_pair C D x y → not r ≡ false → every (even_pairs lefts rights C D) k ≡ true → every (even_pairs lefts rights C D) (k + 1) ≡ true
-  even_next k x y ex ey r e t i = every_next (even_pairs lefts rights C D) k i (sym (e ∙ ap₂ (even_pair C D) ex ey) ∙ not-false r t)
 
 -- ---- of a run
 

@@ -4,11 +4,10 @@
 ghost use Rattle.std.specs.Prelude.{◌≡◌, map, ◌≤◌, length};
 ghost use Rattle.numbers.specs.Real.{sum};
 ghost use Rattle.chain_theory.specs.Lent.{of_chain};
-ghost use Rattle.distance_words.proofs.Even.{fitted_by, even_rows, even_pair, even_pairs, all_even};
+ghost use Rattle.distance_theory.specs.Lent.{HasPair};
+ghost use Rattle.distance_words.proofs.Even.{fitted_by, even_rows, even_pairs, all_even};
 ghost use Rattle.distance_words.proofs.Even;
 
-use chain_theory::Chain;
-use distance_couplings::pairs::row;
 use distance_theory::lent::Task;
 use numbers::{ONE, Real, SLACK, apart, larger};
 
@@ -27,10 +26,7 @@ fn fitted_total(qs: &[f64], left: f64, right: f64) -> f64
 fn even_rows(ps: &[f64], qs: &[f64]) -> bool
     ensures { result ≡ even_rows ps.now qs.now }
 {
-    if ps.len() == 1 {
-        return true;
-    }
-    if qs.len() == 1 {
+    if ps.len() == 1 || qs.len() == 1 {
         return true;
     }
     let left = Real::sum(ps).value();
@@ -39,32 +35,19 @@ fn even_rows(ps: &[f64], qs: &[f64]) -> bool
     !(SLACK * larger(left, ONE) < apart(left, total))
 }
 
-// The states x and y; rows that can't be read are never asked for.
-fn even_pair(x: usize, y: usize, left: &Chain, right: &Chain) -> bool
-    ensures { result ≡ even_pair (of_chain left.now) (of_chain right.now) x y }
+// Pair k of a task; rows that can't be read are never asked for.
+fn even_pair(task: &Task, k: usize) -> bool
+    requires { HasPair task.now k }
+    ensures { result ≡ even_pairs task.now.pairs.lefts.now task.now.pairs.rights.now (of_chain task.now.left) (of_chain task.now.right) k }
 {
-    match (row(left, x), row(right, y)) {
-        (Some(xs), Some(ys)) => even_rows(xs.probs, ys.probs),
-        _ => true,
-    }
+    task.rows(k)
+        .is_none_or(|rows| even_rows(rows.xs.probs, rows.ys.probs))
 }
 
 // Whether 16 comes up for none of a task's pairs. False where a list is short.
 pub fn all_even(task: &Task) -> bool
     ensures { result ≡ all_even (length task.now.pairs.lefts.now) task.now.pairs.lefts.now task.now.pairs.rights.now (of_chain task.now.left) (of_chain task.now.right) }
 {
-    let pairs = &task.pairs;
-    let n = pairs.lefts.len();
-    if n > pairs.rights.len() {
-        return false;
-    }
-    for k in 0..n {
-        let x = pairs.lefts[k] as usize;
-        let y = pairs.rights[k] as usize;
-        let even = even_pair(x, y, &task.left, &task.right);
-        if !even {
-            return false;
-        }
-    }
-    true
+    let n = task.pairs.lefts.len();
+    n <= task.pairs.rights.len() && (0..n).all(|k| even_pair(task, k))
 }

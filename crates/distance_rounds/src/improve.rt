@@ -41,23 +41,12 @@ fn improve_each(task: &Task, values: &[f64], store: &mut StoreMut) -> Improvemen
     ensures starts { store.new.starts.now ≡ store.old.starts.now }
     ensures bettered { bettered_as result store.new ≡ better_from (best_in task.now values.now) values.now task.now.gamma task.now.cost.now store.old.starts.now (length values.now) 0 nought false store.old.lengths.now store.old.places.now store.old.masses.now }
 {
-    let pairs = &task.pairs;
     let mut js = [0u32; 1024];
     let mut ms = [0.0f64; 1024];
     let mut residual = 0.0;
     let mut improved = false;
     for k in 0..values.len() {
-        let best = best_pair(
-            pairs.lefts[k] as usize,
-            pairs.rights[k] as usize,
-            &task.left,
-            &task.right,
-            pairs.codes,
-            values,
-            &mut js,
-            &mut ms,
-        )
-        .unwrap_or(Best {
+        let best = best_pair(task, k, values, &mut js, &mut ms).unwrap_or(Best {
             value: 0.0,
             cells: 0,
         });

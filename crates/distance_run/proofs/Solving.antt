@@ -4,16 +4,26 @@ use Prim.Native.Nat.{ℕ}
 use mathlib.Core.Bool.{Bool, true, false}
 use mathlib.Core.List.{List}
 use lib.Ieee.{Float, inf, binary64, sub, mul}
+use Rattle.std.specs.Prelude.{Result, Ok, Err}
+use Rattle.std.specs.Result.{IsErrAnd}
+use Rattle.numbers.specs.Refuse.{number, numbered}
+use Rattle.numbers.specs.declared.refusal.Refusal.{Refusal}
 use Rattle.numbers.specs.Real.{nought, one, tenth}
 use Rattle.chain_theory.specs.Columns.{ChainColumns}
 use Rattle.distance_theory.specs.Rounds.{tolerance}
 use Rattle.distance_theory.specs.declared.MetricOptions.{MetricOptions}
 use Rattle.distance_words.proofs.Store.{Filled, filled, fill}
 use Rattle.distance_words.proofs.Iterating.{task, Iterated, iterated, iterate_from}
-use Rattle.distance_words.proofs.Solve.{Solving, solving, uneven, aim_of, rounds_of, solve_if, solve_from, solve_of}
+use Rattle.distance_words.specs.declared.told.Rounds.{Rounds}
+use Rattle.distance_words.proofs.Solve.{Solving, solving, solved, uneven, aim_of, rounds_of, solve_if, solve_from, solve_of}
 
 pub aims : (γ : Float) (o : MetricOptions) {x : Float} → x ≡ tolerance o → mul binary64 x (sub binary64 one γ) ≡ aim_of γ o
 aims γ o e = ap (λ (y : Float). mul binary64 y (sub binary64 one γ)) e
+
+-- 18 is handed on
+pub stopped : (a : Result Rounds Refusal) (r : Refusal) (s l p : List ℕ) (m v : List Float) {W : Solving} → IsErrAnd a (λ e. e ≡ r) → number r ≡ 18 → solving 18 nought 0 s l p m v ≡ W → solved (numbered a) s l p m v ≡ W
+stopped (Ok w) r s l p m v h f e = absurd h
+stopped (Err d) r s l p m v h f e = ap (λ (k : ℕ). solving k nought 0 s l p m v) (ap number h ∙ f) ∙ e
 
 -- what was laid or not is in the store
 module _ (n : ℕ) (lefts rights codes : List ℕ) (C D : ChainColumns) (cost : List Float) (γ : Float) (o : MetricOptions) (s l p : List ℕ) (m v : List Float)

@@ -40,9 +40,7 @@ pub(crate) fn solve(
     ensures lists { SameStore store.old store.new }
     ensures solved { solved (numbered result) store.new.starts.now store.new.lengths.now store.new.places.now store.new.masses.now values.new ≡ solve_of (length task.now.pairs.lefts.now) task.now.pairs.lefts.now task.now.pairs.rights.now task.now.pairs.codes.now (of_chain task.now.left) (of_chain task.now.right) task.now.cost.now task.now.gamma options store.old.starts.now store.old.lengths.now store.old.places.now store.old.masses.now values.old }
 {
-    if !lay_store(task, store) {
-        return Err(Refusal::CouplingStore);
-    }
+    lay_store(task, store)?;
     if uneven(options.max_rounds, task) {
         return Err(Refusal::Totals);
     }

@@ -1,18 +1,20 @@
 -- One turn of the loop that fills the store, and its end.
 use mathlib.Core.Path.{◌≡◌, refl, sym, ap, ap₂, ◌∙◌}
 use Prim.Native.Nat.{ℕ, suc, ◌+◌, ◌*◌, ◌-◌, ◌≤◌, ◌<◌}
-use mathlib.Core.Bool.{Bool, true, false, not}
-use mathlib.Core.List.{List, ◌++◌}
+use mathlib.Core.Bool.{Bool, true, false, not, ◌&&◌}
+use mathlib.Core.List.{List, [], ◌∷◌, ◌++◌}
 use native.Mathlib.Omega.{arith}
 use native.Mathlib.Numerals.{add-one}
 use lib.Dec.{leb}
 use lib.ListN.{length, get_or, set, take, drop, length-set, take-append-drop}
 use lib.Ieee.{Float}
-use borrow.Author.Tests.{leb-true, not-true, not-false}
+use borrow.Author.Tests.{leb-true, le-leb, not-true, not-false}
+use Rattle.numbers.specs.Lists.{all}
 use Rattle.numbers.proofs.Bools.{and_t}
 use Rattle.parts.proofs.Lent.{part, back, part_length, part_all, back_is, back_length}
 use Rattle.chain_theory.specs.Columns.{ChainColumns}
 use Rattle.distance_theory.specs.Pairs.{most}
+use Rattle.distance_theory.proofs.Longs.{all_one, all_more}
 use Rattle.distance_theory.proofs.Index.{look_up}
 use Rattle.distance_theory.proofs.Bests.{Laid, laid}
 use Rattle.distance_theory.proofs.PairRows.{lay_pair, part_fits, part_kept}
@@ -118,6 +120,12 @@ module _ (lefts rights codes : List ℕ) (C D : ChainColumns) {n : ℕ} {s₀ l�
       ∙ fill_none lay (n - (k + 1)) k at s l p m R is_part (not-true d t) ∙ ap (λ (v : ℕ). fill_from lay v k at s l p m) (sym one_more) ∙ F.comes
 
 -- ---- the check of the counts
+
+pub counted_is : (n rights starts lengths : ℕ) → all (leb n) (most ∷ rights ∷ starts ∷ lengths ∷ []) ≡ counted n n rights starts lengths
+counted_is n rights starts lengths =
+    all_more (leb n) most (rights ∷ starts ∷ lengths ∷ []) (leb n rights && (leb n starts && leb n lengths))
+    (all_more (leb n) rights (starts ∷ lengths ∷ []) (leb n starts && leb n lengths) (all_more (leb n) starts (lengths ∷ []) (leb n lengths) (all_one (leb n) lengths)))
+    ∙ ap (λ (b : Bool). leb n most && (b && (leb n rights && (leb n starts && leb n lengths)))) (sym (le-leb n n (omega arith)))
 
 module _ (n lefts rights starts lengths : ℕ) (b : Bool) (e : b ≡ counted n lefts rights starts lengths) where
   pub counts_known : not b ≡ false → (n ≤ 4096) × (n ≤ rights) × (n ≤ starts) × (n ≤ lengths)

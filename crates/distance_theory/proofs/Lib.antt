@@ -3,6 +3,7 @@ pub mod Crossings
 pub mod Explore
 pub mod Turns
 pub mod Lengths
+pub mod Longs
 pub mod Rank
 pub mod Store
 pub mod Inside
@@ -17,4 +18,5 @@ pub mod Index
 pub mod Discovery
 pub mod Bests
 pub mod PairRows
+pub mod RowsLent
 pub mod Stored

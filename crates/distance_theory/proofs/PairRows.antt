@@ -6,14 +6,18 @@ use Prim.Native.Nat.{ℕ, ◌≤◌}
 use mathlib.Core.Bool.{Bool, true, false, ◌&&◌, true≢false}
 use mathlib.Core.List.{List}
 use native.Mathlib.Omega.{arith}
-use lib.ListN.{length}
+use lib.ListN.{length, get_or}
 use lib.Ieee.{Float}
 use Rattle.numbers.specs.Real.{nought}
 use Rattle.numbers.proofs.Bools.{and_t}
 use Rattle.chain_theory.specs.Columns.{ChainColumns, reads_row, row_targets, row_rates}
-use Rattle.chain_theory.specs.Lent.{RowRead}
+use Rattle.chain_theory.specs.Lent.{RowRead, of_chain}
 use Rattle.epsdelta_theory.specs.Jumps.{Jump, jumps_of}
 use Rattle.distance_theory.specs.Couplings.{Share}
+use Rattle.distance_theory.specs.declared.lent.Rows.{Rows}
+use Rattle.distance_theory.specs.declared.lent.Task.{Task}
+use Rattle.distance_theory.specs.Lent.{RowsRead}
+use Rattle.distance_theory.proofs.Index.{look_up}
 use Rattle.distance_theory.proofs.Bests.{Look, independent_by, rows_fit, fitting, Laid, laid, lay_if, lay_on, Bested, bested, best_on, cells_room, beside, cells_few, freely_length}
 
 -- the entries of a row that is lent
@@ -119,3 +123,45 @@ module _ (look : Look) (C D : ChainColumns) (codes x y : ℕ) (p : List ℕ) (m 
       pick : (b : Bool) → pair_reads ≡ b → (r.places ≡ p) × (r.masses ≡ m)
       pick true f = on_kept look (row_targets C x) (row_rates C x) (row_targets D y) (row_rates D y) codes p m r (e ∙ ap (λ (b : Bool). laid_when b (lay_read look C D codes x y p m) p m) f) d
       pick false f = (ap (λ (l : Laid). l.places) e ∙ ap (λ (b : Bool). (laid_when b (lay_read look C D codes x y p m) p m).places) f, ap (λ (l : Laid). l.masses) e ∙ ap (λ (b : Bool). (laid_when b (lay_read look C D codes x y p m) p m).masses) f)
+
+-- ---- the couplings of pair k of a task
+
+abbrev pub lay_pair_of : Task → ℕ → List ℕ → List Float → Laid
+lay_pair_of T k = lay_pair (look_up T.pairs.codes.now) (of_chain T.left) (of_chain T.right) (length T.pairs.codes.now) (get_or T.pairs.lefts.now k 0) (get_or T.pairs.rights.now k 0)
+
+abbrev pub best_pair_of : Task → ℕ → List Float → List ℕ → List Float → Bested
+best_pair_of T k = best_pair (look_up T.pairs.codes.now) (of_chain T.left) (of_chain T.right) (length T.pairs.codes.now) (get_or T.pairs.lefts.now k 0) (get_or T.pairs.rights.now k 0)
+
+module _ (T : Task) (k : ℕ) where
+  abbrev C : ChainColumns
+  C = of_chain T.left
+
+  abbrev D : ChainColumns
+  D = of_chain T.right
+
+  abbrev x : ℕ
+  x = get_or T.pairs.lefts.now k 0
+
+  abbrev y : ℕ
+  y = get_or T.pairs.rights.now k 0
+
+  abbrev codes : List ℕ
+  codes = T.pairs.codes.now
+
+  -- no rows
+  pub rows_unlaid : (reads_row C x && reads_row D y) ≡ false → (p : List ℕ) (m : List Float) → laid false 0 p m ≡ lay_pair_of T k p m
+  rows_unlaid h p m = ap (λ (b : Bool). laid_when b (lay_read (look_up codes) C D (length codes) x y p m) p m) (sym h)
+
+  pub rows_unbested : (reads_row C x && reads_row D y) ≡ false → (v : List Float) (p : List ℕ) (m : List Float) → bested nought 0 p m ≡ best_pair_of T k v p m
+  rows_unbested h v p m = ap (λ (b : Bool). bested_when b (best_read (look_up codes) C D (length codes) x y v p m) p m) (sym h)
+
+  module _ (R : Rows) (H : RowsRead (Some R) T k) where
+    pub rows_laid : (p : List ℕ) (m : List Float) (r : Laid) → r ≡ lay_on (look_up R.codes.now) R.xs.targets.now R.xs.probs.now R.ys.targets.now R.ys.probs.now (length R.codes.now) p m → r ≡ lay_pair_of T k p m
+    rows_laid p m r e =
+        pair_laid (look_up codes) C D (length codes) x y R.xs R.ys H.1 H.2 p m r
+        (e ∙ ap (λ (c : List ℕ). lay_on (look_up c) R.xs.targets.now R.xs.probs.now R.ys.targets.now R.ys.probs.now (length c) p m) H.3)
+
+    pub rows_bested : (v : List Float) (p : List ℕ) (m : List Float) (r : Bested) → r ≡ best_on (look_up R.codes.now) R.xs.targets.now R.xs.probs.now R.ys.targets.now R.ys.probs.now (length R.codes.now) p m v → r ≡ best_pair_of T k v p m
+    rows_bested v p m r e =
+        pair_bested (look_up codes) C D (length codes) x y R.xs R.ys H.1 H.2 v p m r
+        (e ∙ ap (λ (c : List ℕ). best_on (look_up c) R.xs.targets.now R.xs.probs.now R.ys.targets.now R.ys.probs.now (length c) p m v) H.3)

@@ -1,5 +1,9 @@
 -- What is lent to be written.
-use Rattle.std.specs.Prelude.{◌≡◌, ◌+◌, ℕ, length, get_or}
+use Rattle.std.specs.Prelude.{◌≡◌, ◌+◌, ◌<◌, ◌&&◌, false, ℕ, Option, Some, None, length, get_or}
+use Rattle.chain_theory.specs.Columns.{reads_row}
+use Rattle.chain_theory.specs.Lent.{of_chain, RowRead}
+use Rattle.distance_theory.specs.declared.lent.Rows.{Rows}
+use Rattle.distance_theory.specs.declared.lent.Task.{Task}
 use Rattle.std.proofs.Math.Seq.{slice}
 use Rattle.distance_theory.specs.declared.lent.Shares.{Shares}
 use Rattle.distance_theory.specs.declared.lent.SharesMut.{SharesMut}
@@ -32,3 +36,13 @@ Couples S k R =
     let a = get_or S.starts.now k 0 in
     let b = a + get_or S.lengths.now k 0 in
     (R.places.now ≡ slice a b S.places.now) × (R.masses.now ≡ slice a b S.masses.now)
+
+-- there is a pair k
+abbrev pub HasPair : Task → ℕ → Type 0
+HasPair T k = (k < length T.pairs.lefts.now) × (k < length T.pairs.rights.now)
+
+-- the rows of pair k, or none where one can't be read
+abbrev pub RowsRead : Option Rows → Task → ℕ → Type 0
+RowsRead (Some R) T k =
+    HasPair T k × RowRead (Some R.xs) (of_chain T.left) (get_or T.pairs.lefts.now k 0) × RowRead (Some R.ys) (of_chain T.right) (get_or T.pairs.rights.now k 0) × (R.codes.now ≡ T.pairs.codes.now)
+RowsRead None T k = HasPair T k → (reads_row (of_chain T.left) (get_or T.pairs.lefts.now k 0) && reads_row (of_chain T.right) (get_or T.pairs.rights.now k 0)) ≡ false

@@ -3,12 +3,21 @@ ghost use Rattle.std.specs.Prelude.{◌≡◌};
 ghost use Rattle.std.proofs.Math.Seq.{slice};
 ghost use Rattle.distance_theory.specs.Couplings;
 ghost use Rattle.distance_theory.specs.Couplings.{shares_of};
-ghost use Rattle.distance_theory.specs.Lent.{Reads, Couples};
+ghost use Rattle.distance_theory.specs.Lent.{Reads, Couples, RowsRead};
 
 use crate::value_at;
-use chain_theory::Chain;
+use chain_theory::{Chain, Row};
+
+// Two rows whose entries are paired, and the codes that the pairs are looked up by.
+#[derive(Clone, Copy, Debug)]
+pub struct Rows<'a> {
+    pub xs: Row<'a>,
+    pub ys: Row<'a>,
+    pub codes: &'a [u64],
+}
 
 // What a coupling comes to, Σ mass × value, and its number of shares.
+// Stays: `Plan` of transport has these two, and stands in a crate above this one; it speaks of cells and costs, and would tell less here.
 #[derive(Clone, Copy, Debug, PartialEq)]
 pub struct Best {
     pub value: f64,
@@ -42,6 +51,7 @@ pub struct PairsMut<'a> {
 }
 
 // The coupling of each pair: where its shares start and how many they are, in lists of places of pairs and of masses.
+// Stays: places and masses are flat, though `Shares` is those two: `StoreMut::read` makes it of a `StoreMut`, which can't be nested.
 #[derive(Clone, Copy, Debug)]
 pub struct Store<'a> {
     pub starts: &'a [u32],
@@ -93,6 +103,7 @@ impl<'a> Store<'a> {
 }
 
 // The lists that couplings are laid in.
+// Stays: its lists of places and masses are flat, though `SharesMut` is those two; nested, the check refuses it ('a reference at an intersection of lifetimes').
 #[derive(Drop)]
 pub struct StoreMut<'a> {
     pub starts: &'a mut [u32],
@@ -132,7 +143,25 @@ pub struct Task<'a> {
     pub gamma: f64,
 }
 
+impl<'a> Task<'a> {
+    // The rows of pair k; None where there is no such pair, or a row can't be read.
+    pub fn rows(&self, k: usize) -> Option<Rows<'a>>
+        ensures { RowsRead result self.now k }
+    {
+        let x = *self.pairs.lefts.get(k)? as usize;
+        let y = *self.pairs.rights.get(k)? as usize;
+        let xs = self.left.row(x)?;
+        let ys = self.right.row(y)?;
+        Some(Rows {
+            xs,
+            ys,
+            codes: self.pairs.codes,
+        })
+    }
+}
+
 // The lists that a run takes as scratch: those that its pairs are noted in, and the places and masses of couplings.
+// Stays: flat, as `StoreMut`; the lists of pairs too, though `PairsMut` is those three.
 #[derive(Drop)]
 pub struct Scratch<'a> {
     pub lefts: &'a mut [u32],

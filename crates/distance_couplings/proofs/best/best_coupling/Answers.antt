@@ -1,24 +1,23 @@
--- By the cases of the tests.
-use mathlib.Core.Path.{ap, ◌∙◌}
-use mathlib.Core.Bool.{not, Bool}
-use lib.ListN.{length}
-use Rattle.epsdelta_theory.specs.Jumps.{jumps_of}
+-- By the test of the rows.
+use mathlib.Core.Path.{sym, ap, ◌∙◌}
+use mathlib.Core.Bool.{Bool}
 use Rattle.distance_theory.specs.Couplings.{point_mass}
-use Rattle.distance_theory.proofs.Index.{look_up}
-use Rattle.distance_theory.proofs.Bests.{best_by, best_if, beside, no_rows, no_cells, both_fit, cells_room}
+use Rattle.distance_theory.proofs.PairRows.{row_jumps}
+use Rattle.distance_theory.proofs.Bests.{best_if}
+use Rattle.distance_theory.proofs.RowsLent.{best_rows, fitting_beside, fitting_room}
 use Rattle.distance_couplings.proofs.best.best_coupling.Goals as goal
 
-pub returns-then-not-rows_fit-clause-bested : goal.returns-then-not-rows_fit-clause-bested
-returns-then-not-rows_fit-clause-bested c = ap (λ (b : Bool). best_if b (best_by (point_mass (jumps_of c.args.xs.now.targets.now c.args.xs.now.probs.now) (jumps_of c.args.ys.now.targets.now c.args.ys.now.probs.now)) (look_up c.args.codes.now) c.args.values.now (jumps_of c.args.xs.now.targets.now c.args.xs.now.probs.now) (jumps_of c.args.ys.now.targets.now c.args.ys.now.probs.now)) c.args.shares.now.places.now c.args.shares.now.masses.now) (no_rows (length c.args.xs.now.targets.now) (length c.args.xs.now.probs.now) (length c.args.ys.now.targets.now) (length c.args.ys.now.probs.now) (length c.args.codes.now) (length c.args.shares.now.places.now) (length c.args.shares.now.masses.now) c.rows_fit.result c.rows_fit.ensures (ap not c.if-not-rows_fit.true))
-
-pub cells_fit-requires : goal.cells_fit-requires
-cells_fit-requires c = let B = beside c.args.xs.now.targets.now c.args.xs.now.probs.now c.args.ys.now.targets.now c.args.ys.now.probs.now (length c.args.codes.now) c.rows_fit.result c.rows_fit.ensures (ap not c.if-not-rows_fit.false) in (B.few_left, B.few_right)
-
-pub returns-then-not-cells_fit-clause-bested : goal.returns-then-not-cells_fit-clause-bested
-returns-then-not-cells_fit-clause-bested c = ap (λ (b : Bool). best_if b (best_by (point_mass (jumps_of c.args.xs.now.targets.now c.args.xs.now.probs.now) (jumps_of c.args.ys.now.targets.now c.args.ys.now.probs.now)) (look_up c.args.codes.now) c.args.values.now (jumps_of c.args.xs.now.targets.now c.args.xs.now.probs.now) (jumps_of c.args.ys.now.targets.now c.args.ys.now.probs.now)) c.args.shares.now.places.now c.args.shares.now.masses.now) (no_cells (length c.args.xs.now.targets.now) (length c.args.xs.now.probs.now) (length c.args.ys.now.targets.now) (length c.args.ys.now.probs.now) (length c.args.codes.now) (length c.args.shares.now.places.now) (length c.args.shares.now.masses.now) c.rows_fit.result c.rows_fit.ensures (ap not c.if-not-rows_fit.false) c.cells_fit.result c.cells_fit.ensures (ap not c.if-not-cells_fit.true))
+pub returns-then-not-fits-clause-bested : goal.returns-then-not-fits-clause-bested
+returns-then-not-fits-clause-bested c =
+    let R = c.args.rows.now in
+    let S = c.args.shares.now in
+    ap (λ (b : Bool). best_if b (best_rows (point_mass (row_jumps R.xs) (row_jumps R.ys)) R c.args.values.now) S.places.now S.masses.now) (sym c.if-not-fits.true ∙ c.fits.ensures)
 
 pub cheapest-requires : goal.cheapest-requires
-cheapest-requires c = record { beside = beside c.args.xs.now.targets.now c.args.xs.now.probs.now c.args.ys.now.targets.now c.args.ys.now.probs.now (length c.args.codes.now) c.rows_fit.result c.rows_fit.ensures (ap not c.if-not-rows_fit.false); ys_in_bounds = cells_room (length c.args.xs.now.targets.now) (length c.args.ys.now.targets.now) (length c.args.shares.now.places.now) (length c.args.shares.now.masses.now) c.cells_fit.result c.cells_fit.ensures (ap not c.if-not-cells_fit.false) }
+cheapest-requires c = let e = sym c.fits.ensures ∙ c.if-not-fits.false in record { beside = fitting_beside c.args.rows.now c.args.shares.now e; room = fitting_room c.args.rows.now c.args.shares.now e }
 
 pub returns-clause-bested : goal.returns-clause-bested
-returns-clause-bested c = c.cheapest.ensures.bested ∙ ap (λ (b : Bool). best_if b (best_by (point_mass (jumps_of c.args.xs.now.targets.now c.args.xs.now.probs.now) (jumps_of c.args.ys.now.targets.now c.args.ys.now.probs.now)) (look_up c.args.codes.now) c.args.values.now (jumps_of c.args.xs.now.targets.now c.args.xs.now.probs.now) (jumps_of c.args.ys.now.targets.now c.args.ys.now.probs.now)) c.args.shares.now.places.now c.args.shares.now.masses.now) (both_fit (length c.args.xs.now.targets.now) (length c.args.xs.now.probs.now) (length c.args.ys.now.targets.now) (length c.args.ys.now.probs.now) (length c.args.codes.now) (length c.args.shares.now.places.now) (length c.args.shares.now.masses.now) c.rows_fit.result c.rows_fit.ensures (ap not c.if-not-rows_fit.false) c.cells_fit.result c.cells_fit.ensures (ap not c.if-not-cells_fit.false))
+returns-clause-bested c =
+    let R = c.args.rows.now in
+    let S = c.args.shares.now in
+    c.cheapest.ensures.bested ∙ ap (λ (b : Bool). best_if b (best_rows (point_mass (row_jumps R.xs) (row_jumps R.ys)) R c.args.values.now) S.places.now S.masses.now) (sym c.if-not-fits.false ∙ c.fits.ensures)

@@ -10,16 +10,20 @@ pub loop-i-preserved : goal.loop-i-preserved
 loop-i-preserved c =
     let I = c.loop-i.invariant in
     let h = c.loop-i-test.true in
-    let n = places_length (look_up c.args.codes.now) c.args.xs.now c.args.ys.now c.args.plan.now.rows.now c.args.plan.now.columns.now c.args.count in (
+    let R = c.args.rows.now in
+    let P = c.args.plan.now in
+    let n = places_length (look_up R.codes.now) R.xs.targets.now R.ys.targets.now P.rows.now P.columns.now c.args.count in (
       omega arith,
       length-set c.loop-i.places c.loop-i.i _ ∙ I.1,
-      over_next (places_by (look_up c.args.codes.now) c.args.xs.now c.args.ys.now c.args.plan.now.rows.now c.args.plan.now.columns.now c.args.count) c.args.places.now c.loop-i.places c.loop-i.i 0 _ I.2
-          (c.place.ensures ∙ sym (places_at (look_up c.args.codes.now) c.args.xs.now c.args.ys.now c.args.plan.now.rows.now c.args.plan.now.columns.now c.args.count c.loop-i.i h))
-          (omega arith) (let r = c.requires.codes_len_bound.3 in omega arith),
+      over_next (places_by (look_up R.codes.now) R.xs.targets.now R.ys.targets.now P.rows.now P.columns.now c.args.count) c.args.places.now c.loop-i.places c.loop-i.i 0 _ I.2
+          (c.place.ensures ∙ sym (places_at (look_up R.codes.now) R.xs.targets.now R.ys.targets.now P.rows.now P.columns.now c.args.count c.loop-i.i h))
+          (omega arith) (let r = c.requires.room in omega arith),
     )
 
 pub returns : goal.returns
 returns c =
+    let R = c.args.rows.now in
+    let P = c.args.plan.now in
     let h = c.loop-i-test.false in let l = c.loop-i.invariant.0 in
-    let n = places_length (look_up c.args.codes.now) c.args.xs.now c.args.ys.now c.args.plan.now.rows.now c.args.plan.now.columns.now c.args.count in
-    over_done (places_by (look_up c.args.codes.now) c.args.xs.now c.args.ys.now c.args.plan.now.rows.now c.args.plan.now.columns.now c.args.count) c.args.places.now c.loop-i.places c.loop-i.i c.loop-i.invariant.2 (omega arith)
+    let n = places_length (look_up R.codes.now) R.xs.targets.now R.ys.targets.now P.rows.now P.columns.now c.args.count in
+    over_done (places_by (look_up R.codes.now) R.xs.targets.now R.ys.targets.now P.rows.now P.columns.now c.args.count) c.args.places.now c.loop-i.places c.loop-i.i c.loop-i.invariant.2 (omega arith)

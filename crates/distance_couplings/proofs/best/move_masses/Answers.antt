@@ -8,11 +8,14 @@ use Rattle.distance_couplings.proofs.Moves.{ok_is, err_is, no_refusal, in_rows, 
 use Rattle.distance_couplings.proofs.best.move_masses.Goals as goal
 
 pub lay_planned-requires : goal.lay_planned-requires
-lay_planned-requires c = record { codes_len_bound = has_room_lem c.requires (replicate 1024 0) (replicate 1024 0) c.args.shares.now.masses.now (length-replicate {A = ℕ} 1024 0) (length-replicate {A = ℕ} 1024 0) refl _ c.transport_sized.ensures.ends _ (ok_is c.transport_sized.result c.ok.ensures.value c.in_ok-moved.was); by_index = in_rows c.requires (replicate 1024 0) (replicate 1024 0) c.args.shares.now.masses.now (length-replicate {A = ℕ} 1024 0) (length-replicate {A = ℕ} 1024 0) refl _ c.transport_sized.ensures.ends _ (ok_is c.transport_sized.result c.ok.ensures.value c.in_ok-moved.was) }
+lay_planned-requires c =
+    let (a, m, n, r) = has_room_lem c.requires (replicate 1024 0) (replicate 1024 0) c.args.shares.now.masses.now (length-replicate {A = ℕ} 1024 0) (length-replicate {A = ℕ} 1024 0) refl _ c.transport_sized.ensures.ends _ (ok_is c.transport_sized.result c.ok.ensures.value c.in_ok-moved.was) in
+    let k = in_rows c.requires (replicate 1024 0) (replicate 1024 0) c.args.shares.now.masses.now (length-replicate {A = ℕ} 1024 0) (length-replicate {A = ℕ} 1024 0) refl _ c.transport_sized.ensures.ends _ (ok_is c.transport_sized.result c.ok.ensures.value c.in_ok-moved.was) in
+    record { cells = (a, m, n, k); room = r }
 
 pub returns-clause-bested : goal.returns-clause-bested
 returns-clause-bested c =
-    let e = moved_end c.requires (replicate 1024 0) (replicate 1024 0) c.args.shares.now.masses.now (length-replicate {A = ℕ} 1024 0) (length-replicate {A = ℕ} 1024 0) refl _ c.transport_sized.ensures.ends _ (ok_is c.transport_sized.result c.ok.ensures.value c.in_ok-moved.was) (look_up c.args.codes.now) _ c.args.shares.now.places.now c.lay_planned.ensures in
+    let e = moved_end c.requires (replicate 1024 0) (replicate 1024 0) c.args.shares.now.masses.now (length-replicate {A = ℕ} 1024 0) (length-replicate {A = ℕ} 1024 0) refl _ c.transport_sized.ensures.ends _ (ok_is c.transport_sized.result c.ok.ensures.value c.in_ok-moved.was) (look_up c.args.pairs.now.codes.now) _ c.args.shares.now.places.now c.lay_planned.ensures in
     search (rules, e)
 
 pub returns-in_err-moved-clause-bested : goal.returns-in_err-moved-clause-bested

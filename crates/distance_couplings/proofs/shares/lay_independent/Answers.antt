@@ -1,24 +1,23 @@
--- By the cases of the tests.
-use mathlib.Core.Path.{ap, ◌∙◌}
-use mathlib.Core.Bool.{not, Bool}
+-- By the test of the rows.
+use mathlib.Core.Path.{sym, ap, ◌∙◌}
+use mathlib.Core.Bool.{Bool}
 use lib.ListN.{length}
-use Rattle.epsdelta_theory.specs.Jumps.{jumps_of}
 use Rattle.distance_theory.proofs.Index.{look_up}
-use Rattle.distance_theory.proofs.Bests.{independent_by, lay_if, beside, no_rows, no_cells, both_fit, cells_room}
+use Rattle.distance_theory.proofs.Bests.{lay_if}
+use Rattle.distance_theory.proofs.RowsLent.{independent_rows, fitting_beside, fitting_room}
 use Rattle.distance_couplings.proofs.Moves.{laid_all}
 use Rattle.distance_couplings.proofs.shares.lay_independent.Goals as goal
 
-pub returns-then-not-rows_fit-clause-laid : goal.returns-then-not-rows_fit-clause-laid
-returns-then-not-rows_fit-clause-laid c = ap (λ (b : Bool). lay_if b (independent_by (look_up c.args.codes.now) (jumps_of c.args.xs.now.targets.now c.args.xs.now.probs.now) (jumps_of c.args.ys.now.targets.now c.args.ys.now.probs.now)) c.args.shares.now.places.now c.args.shares.now.masses.now) (no_rows (length c.args.xs.now.targets.now) (length c.args.xs.now.probs.now) (length c.args.ys.now.targets.now) (length c.args.ys.now.probs.now) (length c.args.codes.now) (length c.args.shares.now.places.now) (length c.args.shares.now.masses.now) c.rows_fit.result c.rows_fit.ensures (ap not c.if-not-rows_fit.true))
-
-pub cells_fit-requires : goal.cells_fit-requires
-cells_fit-requires c = let B = beside c.args.xs.now.targets.now c.args.xs.now.probs.now c.args.ys.now.targets.now c.args.ys.now.probs.now (length c.args.codes.now) c.rows_fit.result c.rows_fit.ensures (ap not c.if-not-rows_fit.false) in (B.few_left, B.few_right)
-
-pub returns-then-not-cells_fit-clause-laid : goal.returns-then-not-cells_fit-clause-laid
-returns-then-not-cells_fit-clause-laid c = ap (λ (b : Bool). lay_if b (independent_by (look_up c.args.codes.now) (jumps_of c.args.xs.now.targets.now c.args.xs.now.probs.now) (jumps_of c.args.ys.now.targets.now c.args.ys.now.probs.now)) c.args.shares.now.places.now c.args.shares.now.masses.now) (no_cells (length c.args.xs.now.targets.now) (length c.args.xs.now.probs.now) (length c.args.ys.now.targets.now) (length c.args.ys.now.probs.now) (length c.args.codes.now) (length c.args.shares.now.places.now) (length c.args.shares.now.masses.now) c.rows_fit.result c.rows_fit.ensures (ap not c.if-not-rows_fit.false) c.cells_fit.result c.cells_fit.ensures (ap not c.if-not-cells_fit.true))
+pub returns-then-not-fits-clause-laid : goal.returns-then-not-fits-clause-laid
+returns-then-not-fits-clause-laid c = let S = c.args.shares.now in ap (λ (b : Bool). lay_if b (independent_rows c.args.rows.now) S.places.now S.masses.now) (sym c.if-not-fits.true ∙ c.fits.ensures)
 
 pub lay_shares-requires : goal.lay_shares-requires
-lay_shares-requires c = record { beside = beside c.args.xs.now.targets.now c.args.xs.now.probs.now c.args.ys.now.targets.now c.args.ys.now.probs.now (length c.args.codes.now) c.rows_fit.result c.rows_fit.ensures (ap not c.if-not-rows_fit.false); ys_in_bounds = cells_room (length c.args.xs.now.targets.now) (length c.args.ys.now.targets.now) (length c.args.shares.now.places.now) (length c.args.shares.now.masses.now) c.cells_fit.result c.cells_fit.ensures (ap not c.if-not-cells_fit.false) }
+lay_shares-requires c = let e = sym c.fits.ensures ∙ c.if-not-fits.false in record { beside = fitting_beside c.args.rows.now c.args.shares.now e; room = fitting_room c.args.rows.now c.args.shares.now e }
 
 pub returns-clause-laid : goal.returns-clause-laid
-returns-clause-laid c = laid_all (look_up c.args.codes.now) c.args.xs.now.targets.now c.args.xs.now.probs.now c.args.ys.now.targets.now c.args.ys.now.probs.now (length c.args.codes.now) (beside c.args.xs.now.targets.now c.args.xs.now.probs.now c.args.ys.now.targets.now c.args.ys.now.probs.now (length c.args.codes.now) c.rows_fit.result c.rows_fit.ensures (ap not c.if-not-rows_fit.false)) _ c.args.shares.now.places.now _ c.args.shares.now.masses.now c.lay_shares.ensures.laid.0 c.lay_shares.ensures.laid.1 ∙ ap (λ (b : Bool). lay_if b (independent_by (look_up c.args.codes.now) (jumps_of c.args.xs.now.targets.now c.args.xs.now.probs.now) (jumps_of c.args.ys.now.targets.now c.args.ys.now.probs.now)) c.args.shares.now.places.now c.args.shares.now.masses.now) (both_fit (length c.args.xs.now.targets.now) (length c.args.xs.now.probs.now) (length c.args.ys.now.targets.now) (length c.args.ys.now.probs.now) (length c.args.codes.now) (length c.args.shares.now.places.now) (length c.args.shares.now.masses.now) c.rows_fit.result c.rows_fit.ensures (ap not c.if-not-rows_fit.false) c.cells_fit.result c.cells_fit.ensures (ap not c.if-not-cells_fit.false))
+returns-clause-laid c =
+    let R = c.args.rows.now in
+    let S = c.args.shares.now in
+    let e = sym c.fits.ensures ∙ c.if-not-fits.false in
+    laid_all (look_up R.codes.now) R.xs.targets.now R.xs.probs.now R.ys.targets.now R.ys.probs.now (length R.codes.now) (fitting_beside R S e) _ S.places.now _ S.masses.now c.lay_shares.ensures.laid.0 c.lay_shares.ensures.laid.1
+    ∙ ap (λ (b : Bool). lay_if b (independent_rows R) S.places.now S.masses.now) (sym c.if-not-fits.false ∙ c.fits.ensures)
