@@ -11,7 +11,7 @@ use Rattle.std.specs.Prelude.{Option, Some, None}
 use Rattle.std.specs.Option.{MatchOption, unwrap_or}
 use Rattle.numbers.specs.Real.{eps}
 use Rattle.numbers.proofs.Bools.{lt_or_ge}
-use Rattle.flow_routes.proofs.Coding.{Shut, FirstOf, Found}
+use Rattle.flow_routes.proofs.Coding.{Shut, Found}
 
 -- nothing is left before f, and the first from f on of which something is left is i, or n
 pub shut_to : {f : ℕ} (n : ℕ) {B : List Float} → Shut f B → (r : Option ℕ) → MatchOption r ((k : ℕ) → f ≤ k → k < n → lt eps (get_or B k nan) ≡ false) (λ i. (f ≤ i) × (i < n) × (lt eps (get_or B i nan) ≡ true) × ((k : ℕ) → f ≤ k → k < i → lt eps (get_or B k nan) ≡ false)) → Shut (unwrap_or r n) B

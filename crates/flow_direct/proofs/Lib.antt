@@ -1,3 +1,4 @@
 pub mod Beginning
 pub mod Finding
+pub mod Lasting
 pub mod Pushing

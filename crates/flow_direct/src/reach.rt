@@ -8,8 +8,8 @@ ghost use Rattle.flow_links.proofs.Fitting.{TestFit};
 ghost use Rattle.flow_direct.specs.Lent.{Told};
 ghost use Rattle.flow_direct.specs.Reaches.{at_least, test_reaches, Known};
 
-use crate::give::{Rest, give_rows};
-use crate::settle::search_on;
+use crate::give::Rest;
+use crate::search::{Labels, Search};
 use flow_core::Flow;
 use flow_links::rows::Test;
 use numbers::refusal::Refusal;
@@ -26,21 +26,29 @@ fn reach_in(test: &Test, need: f64, flows: &mut [f64]) -> Option<bool>
     requires { TestFit test.now × (length test.now.left.targets.now * length test.now.right.targets.now ≤ length flows.old) × ((j : ℕ) → j < length flows.old → get_or flows.old j nan ≡ nought) }
     ensures { Told test.now need result }
 {
-    let test = *test; // a copy: what is lent is read again after each push
     let mut lefts = [0.0f64; 31];
     let mut rights = [0.0f64; 31];
     let mut rest = Rest {
+        test: *test,
         lefts: &mut lefts[..test.left.rates.len()],
         rights: &mut rights[..test.right.rates.len()],
         flows,
     };
     rest.lefts.copy_from_slice(test.left.rates);
     rest.rights.copy_from_slice(test.right.rates);
-    let total = give_rows(&test, &mut rest, need);
+    let total = rest.give_rows(need);
     if need <= total {
         return Some(true);
     }
-    search_on(&test, &mut rest, total, need)
+    let mut left_labels = [1usize; 31];
+    let mut right_labels = [1usize; 31];
+    let mut labels = Labels {
+        lefts: &mut left_labels[..test.left.targets.len()],
+        rights: &mut right_labels[..test.right.targets.len()],
+    };
+    labels.begin(&rest);
+    let mut search = Search { rest, labels };
+    search.settle(total, need)
 }
 
 // The same, with room for N pairs of targets.

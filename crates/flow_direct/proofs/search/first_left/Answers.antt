@@ -1,8 +1,0 @@
--- `search::first_left` meets its contract: the first that passes.
-use Rattle.std.proofs.Common.{rules, tests}
-use borrow.Author.Tests.{eqb-true, eqb-false}
-use Rattle.flow_direct.proofs.Finding.{found_by}
-use Rattle.flow_direct.proofs.search.first_left.Goals as goal
-
-pub returns : goal.returns
-returns c = found_by _ _ c.first.result _ _ c.first.ensures (λ i h y. search (rules, tests)) (λ i h y p. search (rules, tests))
