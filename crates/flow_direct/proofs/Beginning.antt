@@ -23,7 +23,10 @@ use Rattle.flow_links.proofs.LinkWrites.{entry}
 use Rattle.flow_links.proofs.Fitting.{fit}
 use Rattle.flow_core.specs.Outcome.{settled}
 use Rattle.flow_core.proofs.Tests.{lefts, rights, between}
-use Rattle.flow_direct.specs.Reaches.{reaches, both_reach, at_least}
+use Rattle.flow_links.specs.declared.rows.Test.{Test}
+use Rattle.flow_links.specs.Lent.{test_fits}
+use Rattle.flow_direct.specs.Lent as lent
+use Rattle.flow_direct.specs.Reaches.{reaches, both_reach, test_reaches, at_least}
 
 abbrev rows_of : List ℕ → List Float → List ℕ → List Float → ℕ → List ℕ → Rows
 rows_of us vs ts ws n store = record { states = n; relation = relation_of store; ps = jumps_of us vs; pt = jumps_of ts ws }
@@ -55,6 +58,10 @@ module _ (us : List ℕ) (vs : List Float) (ts : List ℕ) (ws : List Float) (n 
   -- rows that do not fit
   pub none_reaches : (need : Float) → fits us vs ts ws n ≡ false → false ≡ reaches us vs ts ws n (relation_of store) need
   none_reaches need f = ap (λ (b : Bool). b && le need (run_between n (relation_of store) (jumps_of us vs) (jumps_of ts ws)).total) (sym f)
+
+-- of a test that is lent
+pub known_test : (T : Test) → test_fits T ≡ true → (need : Float) (known : Option Bool) → lent.Told T need known → IfSome known (λ passes. passes ≡ test_reaches T need)
+known_test T = known_reaches T.left.targets.now T.left.rates.now T.right.targets.now T.right.rates.now T.states T.relation.now
 
 -- what is known to be so
 pub known_true : {x : Bool} (known : Option Bool) → IfSome known (λ passes. passes ≡ x) → unwrap_or known false ≡ true → x ≡ true
