@@ -1,8 +1,7 @@
 // The kind `build`: a model from transitions in columns.
-use crate::entries;
+use crate::entries::Entry;
 use bisim_build::builder::build;
 use build_theory::lent::{Draft, Store};
-use replay_text::columns;
 use replay_text::text::Reader;
 
 // The columns lent, as they are filled beforehand; the answer, and the columns at the end.
@@ -28,14 +27,14 @@ fn run_lent(r: &mut Reader, draft: &Draft) {
     r.expect_list(store.edge_weights);
 }
 
-pub fn run(r: &mut Reader, counts: &mut [u64; 48]) {
+pub fn run(r: &mut Reader) {
     let mut sources = [0u32; 2112];
     let mut labels = [0u32; 2112];
     let mut targets = [0u32; 2112];
     let mut weights = [0.0f64; 2112];
     let draft = Draft {
         states: r.number_field() as usize,
-        initial: columns::to_initial(r.number_field()),
+        initial: r.initial_field(),
         given: r.number_field() as usize,
         sources: r.list_field(&mut sources),
         labels: r.list_field(&mut labels),
@@ -43,5 +42,5 @@ pub fn run(r: &mut Reader, counts: &mut [u64; 48]) {
         weights: r.list_field(&mut weights),
     };
     run_lent(r, &draft);
-    r.count(counts, entries::BUILD);
+    r.count(Entry::Build as usize);
 }

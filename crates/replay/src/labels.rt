@@ -1,20 +1,20 @@
 // The kinds `intern` and `label`: the label ids of bisim_core::ids.
-use crate::entries;
+use crate::entries::Entry;
 use bisim_core::ids::{Interner, LabelId, intern};
 use replay_text::text::Reader;
 
 // The answer, and the list as `intern` leaves it.
-pub fn run_intern(r: &mut Reader, counts: &mut [u64; 48]) {
+pub fn run_intern(r: &mut Reader) {
     let mut store = [0u32; 2112];
     let labels = r.list_field(&mut store);
     let count = r.number_field() as usize;
     let value = r.short_field();
     r.expect_answer(intern(labels, count, value));
     r.expect_list(labels);
-    r.count(counts, entries::INTERN);
+    r.count(Entry::Intern as usize);
 }
 
-pub fn run_label(r: &mut Reader, counts: &mut [u64; 48]) {
+pub fn run_label(r: &mut Reader) {
     let mut store = [0u32; 2112];
     let labels = r.list_field(&mut store);
     let count = r.number_field() as usize;
@@ -23,6 +23,6 @@ pub fn run_label(r: &mut Reader, counts: &mut [u64; 48]) {
     let interner = Interner { labels, count };
     let found = interner.get(value);
     let resolved = interner.resolve(id);
-    r.check(counts, entries::GET, found);
-    r.check(counts, entries::RESOLVE, resolved);
+    r.check(Entry::Get as usize, found);
+    r.check(Entry::Resolve as usize, resolved);
 }

@@ -1,5 +1,5 @@
 // The kind `model`: the check of a built model, and its readers.
-use crate::entries;
+use crate::entries::Entry;
 use bisim_core::ids::{LabelId, StateId};
 use bisim_core::wlts::Wlts;
 use bisim_reader::reader;
@@ -7,15 +7,14 @@ use replay_text::columns::Model;
 use replay_text::text::Reader;
 
 // The check, and the counts.
-fn check_counts(r: &mut Reader, counts: &mut [u64; 48], model: &Wlts) {
-    r.check(counts, entries::MODEL_REFUSAL, model.check());
-    r.check(counts, entries::NUM_STATES, reader::num_states(model));
+fn check_counts(r: &mut Reader, model: &Wlts) {
+    r.check(Entry::ModelRefusal as usize, model.check());
+    r.check(Entry::NumStates as usize, reader::num_states(model));
     r.check(
-        counts,
-        entries::NUM_TRANSITIONS,
+        Entry::NumTransitions as usize,
         reader::num_transitions(model),
     );
-    r.check(counts, entries::NUM_LABELS, reader::num_labels(model));
+    r.check(Entry::NumLabels as usize, reader::num_labels(model));
 }
 
 // What is asked beside a model.
@@ -27,18 +26,17 @@ struct Asked {
 }
 
 // The readers of a state, a label and the initial state.
-fn check_readers(r: &mut Reader, counts: &mut [u64; 48], x: Asked, model: &Wlts) {
-    r.check(counts, entries::INITIAL, reader::initial(model));
+fn check_readers(r: &mut Reader, x: Asked, model: &Wlts) {
+    r.check(Entry::Initial as usize, reader::initial(model));
     r.check(
-        counts,
-        entries::SUCCESSORS,
+        Entry::Successors as usize,
         reader::successors(model, x.state),
     );
-    r.check(counts, entries::LABEL, reader::label(model, x.id));
-    r.check(counts, entries::LABEL_ID, reader::label_id(model, x.value));
+    r.check(Entry::Label as usize, reader::label(model, x.id));
+    r.check(Entry::LabelId as usize, reader::label_id(model, x.value));
 }
 
-pub fn run(r: &mut Reader, counts: &mut [u64; 48]) {
+pub fn run(r: &mut Reader) {
     let mut model = Model::new();
     model.read(r);
     let x = Asked {
@@ -47,6 +45,6 @@ pub fn run(r: &mut Reader, counts: &mut [u64; 48]) {
         value: r.short_field(),
     };
     let lent = model.lent();
-    check_counts(r, counts, &lent);
-    check_readers(r, counts, x, &lent);
+    check_counts(r, &lent);
+    check_readers(r, x, &lent);
 }

@@ -5,25 +5,15 @@
 mod models; // models.rt: the kind `bisim_distance`
 mod side; // side.rt: a model in the text
 
-use replay_text::text::Reader;
-use replay_text::{cases, tally};
+use replay_text::cases;
 use std::io;
 
-fn run_kind(r: &mut Reader, kind: &[u8], counts: &mut [u64; 48]) {
-    match kind {
-        b"bisim_distance" => models::run(r, counts),
-        _ => r.unknown(counts),
-    }
-}
-
 fn main(rt: HostRuntime) -> io::Result<()> {
-    let counts = cases::run(&rt, run_kind)?;
-    tally::print_entry(
+    let counts = cases::run(
         &rt,
-        b"bisim_distance bisim_distance ",
-        &counts,
-        models::BISIM_DISTANCE,
-    );
-    tally::print_end(&rt, &counts);
+        |r, kind| cases::run_only(r, kind, b"bisim_distance", models::run),
+    )?;
+    counts.print(&rt, "bisim_distance bisim_distance", 0);
+    counts.print_end(&rt);
     Ok(())
 }

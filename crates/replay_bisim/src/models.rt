@@ -5,17 +5,14 @@ use chain_theory::ChainStore;
 use distance_theory::Goal;
 use distance_words::told::Answer;
 use numbers::refusal::Refusal;
-use replay_measures::asked::Rooms;
+use replay_measures::asked::{ChainRooms, Rooms};
 use replay_measures::chains::Store;
 use replay_measures::scratch::{Lists, marked};
 use replay_measures::{answer, asked, scratch};
 use replay_text::text::Reader;
 
-// The place of the counts.
-pub const BISIM_DISTANCE: usize = 0;
-
 // The lists of a chain, all marked, so many entries of each.
-fn lend<'a>(store: &'a mut Store, rooms: Rooms) -> ChainStore<'a> {
+fn lend<'a>(store: &'a mut Store, rooms: ChainRooms) -> ChainStore<'a> {
     let Store {
         offsets,
         targets,
@@ -23,10 +20,10 @@ fn lend<'a>(store: &'a mut Store, rooms: Rooms) -> ChainStore<'a> {
         seen,
     } = store;
     ChainStore {
-        offsets: marked(offsets, rooms[0]),
-        targets: marked(targets, rooms[1]),
-        probs: marked(probs, rooms[2]),
-        observations: marked(seen, rooms[3]),
+        offsets: marked(offsets, rooms.offsets),
+        targets: marked(targets, rooms.targets),
+        probs: marked(probs, rooms.probs),
+        observations: marked(seen, rooms.seen),
     }
 }
 
@@ -47,12 +44,12 @@ fn run_measure(
         &mut lend(right_chain, right.rooms),
         goal,
         &mut lists.lend(rooms),
-        rooms[5],
+        rooms.records,
     )
 }
 
 // The models, the goal, and how much is lent; the answer, and what the lists that are lent hold then.
-pub fn run(r: &mut Reader, counts: &mut [u64; 48]) {
+pub fn run(r: &mut Reader) {
     let left = Side::read(r);
     let right = Side::read(r);
     let goal = asked::read(r);
@@ -75,5 +72,4 @@ pub fn run(r: &mut Reader, counts: &mut [u64; 48]) {
     left_chain.expect(r, left.rooms);
     right_chain.expect(r, right.rooms);
     scratch::expect_kept(r);
-    r.count(counts, BISIM_DISTANCE);
 }

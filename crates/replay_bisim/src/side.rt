@@ -2,9 +2,8 @@
 use bisim_checks::sides::Observed;
 use bisim_core::ids::StateId;
 use replay_measures::asked;
-use replay_measures::asked::Rooms;
-use replay_text::columns::Model;
-use replay_text::lists::front;
+use replay_measures::asked::ChainRooms;
+use replay_text::columns::{Column, Model};
 use replay_text::text::Reader;
 
 // What is read.
@@ -12,24 +11,22 @@ use replay_text::text::Reader;
 pub struct Side {
     model: Model,
     state: StateId,
-    observations: [f64; 200],
-    seen: usize,
-    pub rooms: Rooms,
+    observations: Column<f64, 200>,
+    pub rooms: ChainRooms,
 }
 
 impl Side {
     pub fn read(r: &mut Reader) -> Side {
         let mut model = Model::new();
-        let mut observations = [0.0f64; 200];
+        let mut observations = Column::new(0.0);
         model.read(r);
         let state = StateId(r.short_field());
-        let seen = r.list_field(&mut observations).len();
-        let rooms = asked::read_rooms(r);
+        observations.fill(r);
+        let rooms = asked::read_chain_rooms(r);
         Side {
             model,
             state,
             observations,
-            seen,
             rooms,
         }
     }
@@ -39,7 +36,7 @@ impl Side {
         Observed {
             model: self.model.lent(),
             state: self.state,
-            observations: front(&self.observations, self.seen),
+            observations: self.observations.read(),
         }
     }
 }

@@ -3,9 +3,6 @@ use card::report;
 use replay_text::lists;
 use replay_text::text::Reader;
 
-// The place of its counts.
-pub const REPORT: usize = 0;
-
 // All bytes from `from` on are that byte.
 fn filled_from(out: &[u8], from: usize, byte: u8) -> bool {
     out.iter().skip(from).all(|b| *b == byte)
@@ -17,7 +14,7 @@ fn expect_store(r: &mut Reader, out: &[u8], written: usize, byte: u8) {
     r.compared(filled_from(out, written, byte));
 }
 
-pub fn run(r: &mut Reader, counts: &mut [u64; 48], card: &mut [u8], out: &mut [u8]) {
+pub fn run(r: &mut Reader, card: &mut [u8], out: &mut [u8]) {
     let card = r.hex_field(card);
     let room = r.size_field(out.len());
     let byte = (r.short_field() % 256) as u8;
@@ -26,5 +23,4 @@ pub fn run(r: &mut Reader, counts: &mut [u64; 48], card: &mut [u8], out: &mut [u
     let answer = report(card, out);
     r.expect_answer(answer);
     expect_store(r, out, answer.unwrap_or(0), byte);
-    r.count(counts, REPORT);
 }

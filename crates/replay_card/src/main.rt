@@ -4,25 +4,19 @@
 
 mod cards; // cards.rt: a stored card, its report and the store
 
+use replay_text::cases;
 use replay_text::text::Reader;
-use replay_text::{cases, tally};
 use std::io;
 
-fn run_kind(r: &mut Reader, kind: &[u8], counts: &mut [u64; 48], card: &mut [u8], out: &mut [u8]) {
-    match kind {
-        b"card" => cards::run(r, counts, card, out),
-        _ => r.unknown(counts),
-    }
+fn run_kind(r: &mut Reader, kind: &[u8], card: &mut [u8], out: &mut [u8]) {
+    cases::run_only(r, kind, b"card", |r| cards::run(r, card, out));
 }
 
 fn main(rt: HostRuntime) -> io::Result<()> {
     let mut card = [0u8; 10500];
     let mut out = [0u8; 26662];
-    let counts = cases::run(
-        &rt,
-        |r, kind, counts| run_kind(r, kind, counts, &mut card, &mut out),
-    )?;
-    tally::print_entry(&rt, b"card report ", &counts, cards::REPORT);
-    tally::print_end(&rt, &counts);
+    let counts = cases::run(&rt, |r, kind| run_kind(r, kind, &mut card, &mut out))?;
+    counts.print(&rt, "card report", 0);
+    counts.print_end(&rt);
     Ok(())
 }

@@ -1,6 +1,7 @@
-// The places of the counts.
-pub const COMMON_RATE: usize = 0;
-
-pub const UNIFORMISE: usize = 2;
-
-pub const NORMALISE: usize = 4;
+// The entries that answers are counted for.
+#[derive(Clone, Copy, Debug, PartialEq, Eq)]
+pub enum Entry {
+    CommonRate,
+    Uniformise,
+    Normalise,
+}

@@ -1,5 +1,5 @@
 // The kind `uniformise`: a model, a rate, observations and the lists lent for the chain; how many entries it has, and the lists afterwards.
-use crate::entries;
+use crate::entries::Entry;
 use bisim_core::wlts::Wlts;
 use chain_theory::ChainStore;
 use chains::chain::uniformise;
@@ -26,12 +26,12 @@ fn run_lent(r: &mut Reader, model: &Wlts, rate: f64, observations: &[f64]) {
     r.expect_list(store.observations);
 }
 
-pub fn run(r: &mut Reader, counts: &mut [u64; 48]) {
+pub fn run(r: &mut Reader) {
     let mut model = Model::new();
     let mut observations = [0.0f64; 100];
     model.read(r);
     let rate = r.real_field();
     let observations = r.list_field(&mut observations);
     run_lent(r, &model.lent(), rate, observations);
-    r.count(counts, entries::UNIFORMISE);
+    r.count(Entry::Uniformise as usize);
 }

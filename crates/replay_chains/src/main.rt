@@ -2,29 +2,30 @@
 // The names of lines are skipped. A case whose values are not as laid out, or with a list that is too long, differs.
 #![tactic(auto)]
 
-mod entries; // entries.rt: the places of the counts
+mod entries; // entries.rt: the entries that answers are counted for
 mod made; // made.rt: the kind `uniformise`
 mod rates; // rates.rt: the kind `rate`
 mod scaled; // scaled.rt: the kind `normalise`
 
+use entries::Entry;
+use replay_text::cases;
 use replay_text::text::Reader;
-use replay_text::{cases, tally};
 use std::io;
 
-fn run_kind(r: &mut Reader, kind: &[u8], counts: &mut [u64; 48]) {
+fn run_kind(r: &mut Reader, kind: &[u8]) {
     match kind {
-        b"rate" => rates::run(r, counts),
-        b"uniformise" => made::run(r, counts),
-        b"normalise" => scaled::run(r, counts),
-        _ => r.unknown(counts),
+        b"rate" => rates::run(r),
+        b"uniformise" => made::run(r),
+        b"normalise" => scaled::run(r),
+        _ => r.unknown(),
     }
 }
 
 fn main(rt: HostRuntime) -> io::Result<()> {
     let counts = cases::run(&rt, run_kind)?;
-    tally::print_entry(&rt, b"rate common_rate ", &counts, entries::COMMON_RATE);
-    tally::print_entry(&rt, b"uniformise uniformise ", &counts, entries::UNIFORMISE);
-    tally::print_entry(&rt, b"normalise normalise ", &counts, entries::NORMALISE);
-    tally::print_end(&rt, &counts);
+    counts.print(&rt, "rate common_rate", Entry::CommonRate as usize);
+    counts.print(&rt, "uniformise uniformise", Entry::Uniformise as usize);
+    counts.print(&rt, "normalise normalise", Entry::Normalise as usize);
+    counts.print_end(&rt);
     Ok(())
 }

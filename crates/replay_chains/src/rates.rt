@@ -1,15 +1,14 @@
 // The kind `rate`: two models, and the rate that covers both.
-use crate::entries;
+use crate::entries::Entry;
 use chains::chain::common_rate;
 use replay_text::columns::Model;
 use replay_text::text::Reader;
 
-pub fn run(r: &mut Reader, counts: &mut [u64; 48]) {
+pub fn run(r: &mut Reader) {
     let mut left = Model::new();
     let mut right = Model::new();
     left.read(r);
     right.read(r);
     let answer = common_rate(&left.lent(), &right.lent());
-    r.expect_answer(answer);
-    r.count(counts, entries::COMMON_RATE);
+    r.check(Entry::CommonRate as usize, answer);
 }

@@ -4,20 +4,15 @@
 
 mod runs; // runs.rt: the kind `distance`
 
-use replay_text::text::Reader;
-use replay_text::{cases, tally};
+use replay_text::cases;
 use std::io;
 
-fn run_kind(r: &mut Reader, kind: &[u8], counts: &mut [u64; 48]) {
-    match kind {
-        b"distance" => runs::run(r, counts),
-        _ => r.unknown(counts),
-    }
-}
-
 fn main(rt: HostRuntime) -> io::Result<()> {
-    let counts = cases::run(&rt, run_kind)?;
-    tally::print_entry(&rt, b"distance distance ", &counts, runs::DISTANCE);
-    tally::print_end(&rt, &counts);
+    let counts = cases::run(
+        &rt,
+        |r, kind| cases::run_only(r, kind, b"distance", runs::run),
+    )?;
+    counts.print(&rt, "distance distance", 0);
+    counts.print_end(&rt);
     Ok(())
 }

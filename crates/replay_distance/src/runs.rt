@@ -5,11 +5,8 @@ use replay_measures::scratch::Lists;
 use replay_measures::{answer, asked, scratch};
 use replay_text::text::Reader;
 
-// The place of the counts.
-pub const DISTANCE: usize = 0;
-
 // The chains, the goal, and how much is lent; the answer, and what each list holds then.
-pub fn run(r: &mut Reader, counts: &mut [u64; 48]) {
+pub fn run(r: &mut Reader) {
     let mut left = Store::new();
     let mut right = Store::new();
     let left = left.read(r);
@@ -22,11 +19,10 @@ pub fn run(r: &mut Reader, counts: &mut [u64; 48]) {
         &right.chain(),
         goal,
         &mut lists.lend(rooms),
-        rooms[5],
+        rooms.records,
     );
     answer::expect(r, &told);
     scratch::expect_lists(r, 6);
     lists.expect(r, rooms);
     scratch::expect_kept(r);
-    r.count(counts, DISTANCE);
 }

@@ -1,8 +1,9 @@
 // The kind `edge`: a link added to a network.
+use crate::entries::Entry;
 use crate::kept::From;
 use crate::lent::Left;
 use crate::nets::Listed;
-use crate::{entries, kept, lent, nets};
+use crate::{kept, lent, nets};
 use flow::network::{FlowNetwork, Link};
 use flow_check::Edge;
 use replay_text::lists::front;
@@ -66,7 +67,7 @@ fn compare(r: &mut Reader, l: Listed, x: Edge, made: Left<()>) {
     r.compared(same_else(l, x, made));
 }
 
-pub fn run(r: &mut Reader, counts: &mut [u64; 48]) {
+pub fn run(r: &mut Reader) {
     let l = nets::read(r);
     let x = Edge {
         from: r.number_field() as usize,
@@ -76,5 +77,5 @@ pub fn run(r: &mut Reader, counts: &mut [u64; 48]) {
     };
     let made = lent::add_edge(l.net, x);
     compare(r, l, x, made);
-    r.count(counts, entries::ADD_EDGE);
+    r.count(Entry::AddEdge as usize);
 }

@@ -1,6 +1,7 @@
-// The places of the counts.
-pub const MAX_FLOW: usize = 0;
-
-pub const ADD_EDGE: usize = 2;
-
-pub const NEW: usize = 4;
+// The entries that answers are counted for.
+#[derive(Clone, Copy, Debug, PartialEq, Eq)]
+pub enum Entry {
+    MaxFlow,
+    AddEdge,
+    New,
+}

@@ -1,6 +1,7 @@
 // The kind `flow`: the maximum flow on a network.
+use crate::entries::Entry;
 use crate::kept::From;
-use crate::{entries, kept, lent, nets};
+use crate::{kept, lent, nets};
 use flow::network::FlowNetwork;
 use flow_check::Ends;
 use replay_text::lists::front;
@@ -21,7 +22,7 @@ fn same_else(before: &FlowNetwork, after: &FlowNetwork, n: usize) -> bool {
         )
 }
 
-pub fn run(r: &mut Reader, counts: &mut [u64; 48]) {
+pub fn run(r: &mut Reader) {
     let l = nets::read(r);
     let ends = Ends {
         source: r.number_field() as usize,
@@ -31,5 +32,5 @@ pub fn run(r: &mut Reader, counts: &mut [u64; 48]) {
     r.expect_answer(ran.answer.map(|f| (f.flow, f.phases, f.pushes)));
     r.expect_each(front(&ran.net.links, l.links), |link| link.cap);
     r.compared(same_else(&l.net, &ran.net, l.links));
-    r.count(counts, entries::MAX_FLOW);
+    r.count(Entry::MaxFlow as usize);
 }

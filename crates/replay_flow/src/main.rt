@@ -3,31 +3,32 @@
 #![tactic(auto)]
 
 mod edges; // edges.rt: the kind `edge`
-mod entries; // entries.rt: the places of the counts
+mod entries; // entries.rt: the entries that answers are counted for
 mod flows; // flows.rt: the kind `flow`
 mod kept; // kept.rt: what is to be as it was
 mod lent; // lent.rt: a network lent to an entry, and taken back
 mod nets; // nets.rt: networks as rows of numbers
 mod nodes; // nodes.rt: the kind `nodes`
 
+use entries::Entry;
+use replay_text::cases;
 use replay_text::text::Reader;
-use replay_text::{cases, tally};
 use std::io;
 
-fn run_kind(r: &mut Reader, kind: &[u8], counts: &mut [u64; 48]) {
+fn run_kind(r: &mut Reader, kind: &[u8]) {
     match kind {
-        b"flow" => flows::run(r, counts),
-        b"edge" => edges::run(r, counts),
-        b"nodes" => nodes::run(r, counts),
-        _ => r.unknown(counts),
+        b"flow" => flows::run(r),
+        b"edge" => edges::run(r),
+        b"nodes" => nodes::run(r),
+        _ => r.unknown(),
     }
 }
 
 fn main(rt: HostRuntime) -> io::Result<()> {
     let counts = cases::run(&rt, run_kind)?;
-    tally::print_entry(&rt, b"flow max_flow ", &counts, entries::MAX_FLOW);
-    tally::print_entry(&rt, b"edge add_edge ", &counts, entries::ADD_EDGE);
-    tally::print_entry(&rt, b"nodes new ", &counts, entries::NEW);
-    tally::print_end(&rt, &counts);
+    counts.print(&rt, "flow max_flow", Entry::MaxFlow as usize);
+    counts.print(&rt, "edge add_edge", Entry::AddEdge as usize);
+    counts.print(&rt, "nodes new", Entry::New as usize);
+    counts.print_end(&rt);
     Ok(())
 }

@@ -1,6 +1,7 @@
 // The kind `nodes`: a new network.
+use crate::entries::Entry;
 use crate::kept::From;
-use crate::{entries, kept, nets};
+use crate::{kept, nets};
 use flow::network::FlowNetwork;
 use numbers::refusal::Refusal;
 use replay_text::text::Reader;
@@ -30,8 +31,8 @@ fn compare(r: &mut Reader, made: Result<FlowNetwork, Refusal>) {
     }
 }
 
-pub fn run(r: &mut Reader, counts: &mut [u64; 48]) {
+pub fn run(r: &mut Reader) {
     let nodes = r.number_field() as usize;
     compare(r, FlowNetwork::new(nodes));
-    r.count(counts, entries::NEW);
+    r.count(Entry::New as usize);
 }

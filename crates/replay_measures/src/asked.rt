@@ -17,13 +17,57 @@ pub fn read(r: &mut Reader) -> Goal
     }
 }
 
-// How many entries are lent, by list.
-pub type Rooms = [usize; 6];
+// How many entries of each list are lent for a run, and how many records.
+#[derive(Clone, Copy, Debug)]
+pub struct Rooms {
+    pub lefts: usize,
+    pub rights: usize,
+    pub codes: usize,
+    pub places: usize,
+    pub masses: usize,
+    pub records: usize,
+}
+
+// How many entries of each list are lent for a chain.
+#[derive(Clone, Copy, Debug)]
+pub struct ChainRooms {
+    pub offsets: usize,
+    pub targets: usize,
+    pub probs: usize,
+    pub seen: usize,
+}
+
+// At most six counts; 0 for those that are not there.
+fn counts(r: &mut Reader) -> [usize; 6]
+    ensures { Lasts r.old r.new }
+{
+    let mut counts = [0u32; 6];
+    r.list_field(&mut counts);
+    counts.map(|n| n as usize)
+}
 
 pub fn read_rooms(r: &mut Reader) -> Rooms
     ensures { Lasts r.old r.new }
 {
-    let mut rooms = [0u32; 6];
-    r.list_field(&mut rooms);
-    rooms.map(|n| n as usize)
+    let [lefts, rights, codes, places, masses, records] = counts(r);
+    Rooms {
+        lefts,
+        rights,
+        codes,
+        places,
+        masses,
+        records,
+    }
+}
+
+pub fn read_chain_rooms(r: &mut Reader) -> ChainRooms
+    ensures { Lasts r.old r.new }
+{
+    let [offsets, targets, probs, seen, _, _] = counts(r);
+    ChainRooms {
+        offsets,
+        targets,
+        probs,
+        seen,
+    }
 }

@@ -1,7 +1,7 @@
 // A chain in the text, with its observations.
 ghost use Rattle.replay_text.specs.Reading.{Lasts};
 
-use crate::asked::Rooms;
+use crate::asked::ChainRooms;
 use crate::scratch::expect_held;
 use bisim_core::ids::StateId;
 use chain_theory::{ChainMut, ChainShape};
@@ -49,12 +49,12 @@ impl Store {
     }
 
     // What the lists hold, where they were lent.
-    pub fn expect(&self, r: &mut Reader, rooms: Rooms)
+    pub fn expect(&self, r: &mut Reader, rooms: ChainRooms)
         ensures { Lasts r.old r.new }
     {
-        expect_held(r, &self.offsets, rooms[0]);
-        expect_held(r, &self.targets, rooms[1]);
-        expect_held(r, &self.probs, rooms[2]);
-        expect_held(r, &self.seen, rooms[3]);
+        expect_held(r, &self.offsets, rooms.offsets);
+        expect_held(r, &self.targets, rooms.targets);
+        expect_held(r, &self.probs, rooms.probs);
+        expect_held(r, &self.seen, rooms.seen);
     }
 }

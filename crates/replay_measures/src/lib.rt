@@ -2,6 +2,6 @@
 #![tactic(auto)]
 
 pub mod answer; // answer.rt: what a run tells, set against the stored answer
-pub mod asked; // asked.rt: the options, and how much is lent
+pub mod asked; // asked.rt: the goal, and how much is lent
 pub mod chains; // chains.rt: a chain in the text
 pub mod scratch; // scratch.rt: lent scratch, its marks and what it holds

@@ -47,12 +47,12 @@ impl Mark for f64 {
     }
 }
 
-// What a list holds. A list of no entries holds its marks.
+// What a list holds, by its number in the text. A list of no entries holds its marks.
 #[derive(Clone, Copy)]
 enum Holding {
-    Marks,
-    Zeros,
-    Others,
+    Marks = 0,
+    Zeros = 1,
+    Others = 2,
 }
 
 // The first n entries, marked.
@@ -84,12 +84,7 @@ fn held<T: Mark>(xs: &[T]) -> Holding {
 pub fn expect_held<T: Mark>(r: &mut Reader, xs: &[T], n: usize)
     ensures { Lasts r.old r.new }
 {
-    let number = match held(front(xs, n)) {
-        Holding::Marks => 0u64,
-        Holding::Zeros => 1,
-        Holding::Others => 2,
-    };
-    r.expect(number);
+    r.expect(held(front(xs, n)) as u32);
 }
 
 // The line begins: its name, and how many lists there are.
@@ -138,11 +133,11 @@ impl Lists {
             masses,
         } = self;
         Scratch {
-            lefts: marked(lefts, rooms[0]),
-            rights: marked(rights, rooms[1]),
-            codes: marked(codes, rooms[2]),
-            places: marked(places, rooms[3]),
-            masses: marked(masses, rooms[4]),
+            lefts: marked(lefts, rooms.lefts),
+            rights: marked(rights, rooms.rights),
+            codes: marked(codes, rooms.codes),
+            places: marked(places, rooms.places),
+            masses: marked(masses, rooms.masses),
         }
     }
 
@@ -150,10 +145,10 @@ impl Lists {
     pub fn expect(&self, r: &mut Reader, rooms: Rooms)
         ensures { Lasts r.old r.new }
     {
-        expect_held(r, &self.lefts, rooms[0]);
-        expect_held(r, &self.rights, rooms[1]);
-        expect_held(r, &self.codes, rooms[2]);
-        expect_held(r, &self.places, rooms[3]);
-        expect_held(r, &self.masses, rooms[4]);
+        expect_held(r, &self.lefts, rooms.lefts);
+        expect_held(r, &self.rights, rooms.rights);
+        expect_held(r, &self.codes, rooms.codes);
+        expect_held(r, &self.places, rooms.places);
+        expect_held(r, &self.masses, rooms.masses);
     }
 }

@@ -6,10 +6,3 @@ pub enum Entry {
     MinEpsilon,
     Related,
 }
-
-impl Entry {
-    // The place of the answers that agree; behind it are those that differ.
-    pub fn place(self) -> usize {
-        2 * self as usize
-    }
-}

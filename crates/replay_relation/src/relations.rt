@@ -23,7 +23,6 @@ struct Asked<'a> {
 // What an entry answers, by `answer`, in bytes as they are at first, and the bytes as it leaves them.
 fn check<F: FnOnce(&mut Reader, Asked, &mut [u8])>(
     r: &mut Reader,
-    counts: &mut [u64; 48],
     entry: Entry,
     x: Asked,
     lent: &mut [u8],
@@ -34,7 +33,7 @@ fn check<F: FnOnce(&mut Reader, Asked, &mut [u8])>(
     store::fill(lent, x.listed);
     answer(r, x, lent);
     store::expect(r, lent, x.listed.len());
-    r.count(counts, entry.place());
+    r.count(entry as usize);
 }
 
 fn run_epsdelta(r: &mut Reader, x: Asked, lent: &mut [u8]) {
@@ -50,7 +49,7 @@ fn run_least(r: &mut Reader, x: Asked, lent: &mut [u8]) {
 }
 
 // The classes, the tolerances and the bytes; each entry gets the bytes as they are at first.
-fn run_lent(r: &mut Reader, counts: &mut [u64; 48], bytes: &mut [u8], left: Wlts, right: Wlts) {
+fn run_lent(r: &mut Reader, bytes: &mut [u8], left: Wlts, right: Wlts) {
     let mut left_classes = [0u32; 2112];
     let mut right_classes = [0u32; 2112];
     let mut listed = [0u8; 512];
@@ -75,22 +74,22 @@ fn run_lent(r: &mut Reader, counts: &mut [u64; 48], bytes: &mut [u8], left: Wlts
         listed: l.listed,
     };
     let lent = lists::front_mut(bytes, l.room);
-    check(r, counts, Entry::Epsdelta, x, lent, run_epsdelta);
-    check(r, counts, Entry::EpsdeltaBisimilar, x, lent, run_bisimilar);
-    check(r, counts, Entry::MinEpsilon, x, lent, run_least);
+    check(r, Entry::Epsdelta, x, lent, run_epsdelta);
+    check(r, Entry::EpsdeltaBisimilar, x, lent, run_bisimilar);
+    check(r, Entry::MinEpsilon, x, lent, run_least);
 }
 
 // Both models, and what comes after them.
-pub fn run(r: &mut Reader, counts: &mut [u64; 48], bytes: &mut [u8]) {
+pub fn run(r: &mut Reader, bytes: &mut [u8]) {
     let mut left = Model::new();
     let mut right = Model::new();
     left.read(r);
     right.read(r);
-    run_lent(r, counts, bytes, left.lent(), right.lent());
+    run_lent(r, bytes, left.lent(), right.lent());
 }
 
 // Whether the bytes, as they are handed in, hold s with t.
-pub fn run_related(r: &mut Reader, counts: &mut [u64; 48], bytes: &mut [u8]) {
+pub fn run_related(r: &mut Reader, bytes: &mut [u8]) {
     let mut listed = [0u8; 512];
     let left = r.number_field() as usize;
     let right = r.number_field() as usize;
@@ -100,5 +99,5 @@ pub fn run_related(r: &mut Reader, counts: &mut [u64; 48], bytes: &mut [u8]) {
     let lent = lists::front_mut(bytes, l.room);
     store::fill(lent, l.listed);
     r.expect_answer(related(left, right, lent, s, t));
-    r.count(counts, Entry::Related.place());
+    r.count(Entry::Related as usize);
 }

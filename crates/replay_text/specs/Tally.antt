@@ -1,27 +1,45 @@
--- How answers are counted: at place e those of an entry that agree, at e + 1 those that differ.
-use Rattle.std.specs.Prelude.{ℕ, ◌+◌, ◌≤◌, ◌≡◌, List, Bool, cond, ◌&&◌, eqb, ltb, length, get_or, set}
+-- How answers are counted.
+use Rattle.std.specs.Prelude.{ℕ, ◌+◌, ◌≤◌, ◌≡◌, List, Bool, true, false, cond, ◌&&◌, not, ltb, get_or, set, replicate}
 use Rattle.replay_text.specs.declared.text.Reader.{Reader}
+use Rattle.replay_text.specs.declared.tally.Tally.{Tally}
+use Rattle.replay_text.specs.declared.tally.Counts.{Counts}
 
 -- whether an answer was read without a fault, and is the one stored
 abbrev pub agrees : Reader → Bool
-agrees r = eqb r.faults 0 && eqb r.differences 0
+agrees r = not r.faulty && not r.differs
 
--- where it is counted
-abbrev pub place : ℕ → Bool → ℕ
-place entry agree = cond agree entry (cond (ltb entry 1000) (entry + 1) 0)
+-- no answers
+abbrev pub nothing : Tally
+nothing = record { agree = 0; differ = 0 }
 
--- one more at place i, as far as there are places, and up to 10^12
-abbrev pub more : List ℕ → ℕ → List ℕ
-more l i = cond (ltb i (length l)) (cond (ltb (get_or l i 0) 1000000000000) (set l i (get_or l i 0 + 1)) l) l
+abbrev pub none : Counts
+none = record { entries = replicate 22 nothing; other = nothing; all = nothing }
 
--- the counts with an answer more: of its entry, and of all
-unfoldable pub tallied : List ℕ → ℕ → Bool → List ℕ
-tallied l entry agree = more (more l (place entry agree)) (place 46 agree)
+-- one more, up to 10^12
+abbrev pub up : ℕ → ℕ
+up n = cond (ltb n 1000000000000) (n + 1) n
+
+-- with an answer more
+abbrev pub more : Tally → Bool → Tally
+more t true = record { agree = up t.agree; differ = t.differ }
+more t false = record { agree = t.agree; differ = up t.differ }
+
+-- the answers of an entry; none of one that there is not
+abbrev pub tally_of : Counts → ℕ → Tally
+tally_of c e = get_or c.entries e nothing
+
+-- the counts with an answer more: of its entry, if there is one of that number, and of all
+abbrev pub tallied : Counts → ℕ → Bool → Counts
+tallied c e a = record { entries = cond (ltb e 22) (set c.entries e (more (tally_of c e) a)) c.entries; other = c.other; all = more c.all a }
+
+-- with a case more that cannot be read
+abbrev pub other_tallied : Counts → Counts
+other_tallied c = record { entries = c.entries; other = more c.other false; all = more c.all false }
 
 -- ready for the next answer: faults stay until the end of a case
 abbrev pub Ready : Reader → Reader → Type 0
-Ready r s = (s.faults ≡ r.faults) × (s.differences ≡ 0)
+Ready r s = (s.faulty ≡ r.faulty) × (s.differs ≡ false)
 
 -- and ready for the next answer after this one was read
 abbrev pub Counted : Reader → Reader → Type 0
-Counted r s = (r.faults ≤ s.faults) × (s.differences ≡ 0)
+Counted r s = (r.faulty ≡ true → s.faulty ≡ true) × (s.differs ≡ false)

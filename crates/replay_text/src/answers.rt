@@ -27,15 +27,10 @@ impl Reader<'_> {
     }
 
     // And it is counted.
-    pub fn check<T: Value>(
-        &mut self,
-        counts: &mut [u64; 48],
-        entry: usize,
-        answer: Result<T, Refusal>,
-    )
+    pub fn check<T: Value>(&mut self, entry: usize, answer: Result<T, Refusal>)
         ensures { Counted self.old self.new }
     {
         self.expect_answer(answer);
-        self.count(counts, entry);
+        self.count(entry);
     }
 }

@@ -11,26 +11,28 @@ use bisim_core::wlts::{Shape, Wlts};
 
 // Room for a column, and how many of its entries are read.
 #[derive(Drop)]
-struct Column<T> {
-    entries: [T; 2112],
+pub struct Column<T, const N: usize> {
+    entries: [T; N],
     count: usize,
 }
 
-impl<T: Entry> Column<T> {
-    fn new(zero: T) -> Column<T> {
+impl<T: Entry, const N: usize> Column<T, N> {
+    pub fn new(zero: T) -> Column<T, N>
+        ensures { result.count ≡ 0 }
+    {
         Column {
-            entries: [zero; 2112],
+            entries: [zero; N],
             count: 0,
         }
     }
 
-    fn fill(&mut self, r: &mut Reader)
+    pub fn fill(&mut self, r: &mut Reader)
         ensures { Lasts r.old r.new }
     {
         self.count = r.list_field(&mut self.entries).len();
     }
 
-    fn read(&self) -> &[T]
+    pub fn read(&self) -> &[T]
         ensures { result.now ≡ take self.now.count self.now.entries }
     {
         front(&self.entries, self.count)
@@ -41,36 +43,31 @@ impl<T: Entry> Column<T> {
 #[derive(Drop)]
 pub struct Model {
     shape: Shape,
-    label_values: Column<u32>,
-    offsets: Column<u32>,
-    edge_labels: Column<u32>,
-    edge_targets: Column<u32>,
-    edge_weights: Column<f64>,
-}
-
-// An absent initial state is written `-`.
-pub fn to_initial(x: u64) -> Option<StateId>
-    ensures { x ≡ 18446744073709551615 → result ≡ None }
-{
-    if x == text::ABSENT {
-        return None;
-    }
-    Some(StateId(text::narrow(x)))
+    label_values: Column<u32, 2112>,
+    offsets: Column<u32, 2112>,
+    edge_labels: Column<u32, 2112>,
+    edge_targets: Column<u32, 2112>,
+    edge_weights: Column<f64, 2112>,
 }
 
 impl Reader<'_> {
+    // A state, or `-` for none.
+    pub fn initial_field(&mut self) -> Option<StateId>
+        ensures { Lasts self.old self.new }
+    {
+        self.name();
+        let x = self.number_or_none()?;
+        Some(StateId(text::narrow(x)))
+    }
+
     pub fn shape(&mut self) -> Shape
         ensures { Lasts self.old self.new }
     {
-        let states = self.number_field();
-        let edges = self.number_field();
-        let labels = self.number_field();
-        let initial = self.number_field();
         Shape {
-            states: states as usize,
-            edges: edges as usize,
-            labels: labels as usize,
-            initial: to_initial(initial),
+            states: self.number_field() as usize,
+            edges: self.number_field() as usize,
+            labels: self.number_field() as usize,
+            initial: self.initial_field(),
         }
     }
 }

@@ -10,16 +10,12 @@ impl Reader<'_> {
     fn hex_digit(&mut self) -> u64
         ensures { (result < 16) × Lasts self.old self.new }
     {
-        match self.rest.first().and_then(|b| digit(*b, 16)) {
-            Some(x) => {
-                self.advance();
-                x
-            }
-            None => {
-                self.faulty();
-                0
-            }
-        }
+        let Some(x) = self.rest.first().and_then(|b| digit(*b, 16)) else {
+            self.fault();
+            return 0;
+        };
+        self.advance();
+        x
     }
 
     // A byte of two digits.

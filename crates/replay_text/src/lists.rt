@@ -21,7 +21,7 @@ pub fn front_mut<'a, T>(xs: &'a mut [T], n: usize) -> &'a mut [T]
 }
 
 impl Reader<'_> {
-    // How many entries there are: as many as there is room for.
+    // How many entries there are; more than there is room for is a fault, and 0.
     pub fn size_field(&mut self, room: usize) -> usize
         ensures { (result ≤ room) × Lasts self.old self.new }
     {
@@ -29,7 +29,7 @@ impl Reader<'_> {
         if n <= room as u64 {
             return n as usize;
         }
-        self.faulty();
+        self.fault();
         0
     }
 

@@ -1,122 +1,93 @@
-// How often each entry agrees with the stored answers, and how often it differs.
-ghost use Rattle.std.specs.Prelude.{◌≡◌, true, false, get_or};
-ghost use Rattle.replay_text.specs.Tally.{Ready, agrees as agreed, place as place_of, more, tallied};
+// How often the answers of each entry are the stored ones, and how often they differ.
+ghost use Rattle.std.specs.Prelude.{◌≡◌, true, false};
+ghost use Rattle.replay_text.specs.Tally.{up, more, none, tallied, other_tallied, tally_of};
 
-use crate::text::Reader;
 use std::io;
-use std::io::Write;
 
-// Cases of no known kind, and cases with more text than their kind has, are counted here.
-pub const OTHER: usize = 44;
+// How many answers agree with the stored ones, and how many differ.
+#[derive(Clone, Copy, Debug)]
+pub struct Tally {
+    pub agree: u64,
+    pub differ: u64,
+}
 
-// All of them.
-pub const TOTAL: usize = 46;
+// No answers.
+const NONE: Tally = Tally {
+    agree: 0,
+    differ: 0,
+};
 
-fn one_more(counts: &mut [u64], i: usize)
-    ensures { counts.new ≡ more counts.old i }
+// One more, up to 10^12.
+fn one_more(n: u64) -> u64
+    ensures { result ≡ up n }
 {
-    if i < counts.len() && counts[i] < 1000000000000 {
-        counts[i] += 1;
-    }
+    if n < 1000000000000 { n + 1 } else { n }
 }
 
-// The place of those that agree, or of those that differ.
-fn place(entry: usize, agree: bool) -> usize
-    ensures { result ≡ place_of entry agree }
-{
-    if agree {
-        return entry;
-    }
-    if entry < 1000 { entry + 1 } else { 0 }
-}
-
-fn tally(counts: &mut [u64; 48], entry: usize, agree: bool)
-    ensures { counts.new ≡ tallied counts.old entry agree }
-{
-    one_more(counts, place(entry, agree));
-    one_more(counts, place(TOTAL, agree));
-}
-
-fn at(counts: &[u64], i: usize) -> u64
-    ensures { result ≡ get_or counts.now i 0 }
-{
-    counts.get(i).copied().unwrap_or(0)
-}
-
-fn print_line(
-    rt: &impl Print,
-    what: &[u8],
-    agree: u64,
-    between: &str,
-    differ: u64,
-) -> io::Result<()> {
-    io::writer(rt).write_all(what)?;
-    println!(rt; "{agree}{between}{differ} differ")
-}
-
-// Prints how many agree and differ, and answers how many differ. What can't be written is lost.
-pub fn print_entry(rt: &impl Print, what: &[u8], counts: &[u64; 48], entry: usize) -> u64
-    ensures { result ≡ get_or counts.now (place_of entry false) 0 }
-{
-    let differ = at(counts, place(entry, false));
-    let agree = at(counts, place(entry, true));
-    match print_line(rt, what, agree, " agree ", differ) {
-        Ok(()) => differ,
-        Err(_) => differ,
-    }
-}
-
-// The two last lines: cases of no known kind, and all.
-pub fn print_end(rt: &impl Print, counts: &[u64; 48]) -> u64
-    ensures { result ≡ get_or counts.now (place_of 46 false) 0 }
-{
-    print_entry(rt, b"other ", counts, OTHER);
-    print_total(rt, counts)
-}
-
-pub fn print_total(rt: &impl Print, counts: &[u64; 48]) -> u64
-    ensures { result ≡ get_or counts.now (place_of 46 false) 0 }
-{
-    let differ = at(counts, place(TOTAL, false));
-    let agree = at(counts, place(TOTAL, true));
-    match print_line(rt, b"", agree, " agree, ", differ) {
-        Ok(()) => differ,
-        Err(_) => differ,
-    }
-}
-
-impl Reader<'_> {
-    fn agrees(&self) -> bool
-        ensures { result ≡ agreed self.now }
+impl Tally {
+    fn count(&mut self, agrees: bool)
+        ensures { self.new ≡ more self.old agrees }
     {
-        self.faults == 0 && self.differences == 0
+        if agrees {
+            self.agree = one_more(self.agree);
+        } else {
+            self.differ = one_more(self.differ);
+        }
+    }
+}
+
+// The answers of each entry by its number, those of cases of no known kind or with more text than their kind has, and all.
+#[derive(Clone, Copy, Debug)]
+pub struct Counts {
+    pub entries: [Tally; 22],
+    pub other: Tally,
+    pub all: Tally,
+}
+
+impl Counts {
+    pub fn new() -> Counts
+        ensures { result ≡ none }
+    {
+        Counts {
+            entries: [NONE; 22],
+            other: NONE,
+            all: NONE,
+        }
     }
 
-    // Counts an answer, and makes ready for the next.
-    pub fn count(&mut self, counts: &mut [u64; 48], entry: usize)
-        ensures { (counts.new ≡ tallied counts.old entry (agreed self.old)) × Ready self.old self.new }
+    pub fn count(&mut self, entry: usize, agrees: bool)
+        ensures { self.new ≡ tallied self.old entry agrees }
     {
-        tally(counts, entry, self.agrees());
-        self.settle();
+        if entry < 22 {
+            self.entries[entry].count(agrees);
+        }
+        self.all.count(agrees);
     }
 
     // A case that cannot be read: one difference.
-    pub fn unknown(&mut self, counts: &mut [u64; 48])
-        ensures { (counts.new ≡ tallied counts.old 44 false) × Ready self.old self.new }
+    pub fn count_other(&mut self)
+        ensures { self.new ≡ other_tallied self.old }
     {
-        tally(counts, OTHER, false);
-        self.settle();
+        self.other.count(false);
+        self.all.count(false);
     }
 
-    // What follows a case is an empty line, or the end: more text is one difference.
-    pub fn next_case(&mut self, counts: &mut [u64; 48])
-        ensures { (self.new.faults ≡ 0) × (self.new.differences ≡ 0) }
+    // Prints how many answers of an entry agree and differ, and says how many differ. What can't be written is lost.
+    pub fn print(&self, rt: &impl Print, what: &str, entry: usize) -> u64
+        ensures { result ≡ (tally_of self.now entry).differ }
     {
-        if self.faults == 0 && self.within_line() {
-            self.unknown(counts);
-        }
-        self.past_case();
-        self.faults = 0;
-        self.differences = 0;
+        let of = self.entries.get(entry).copied().unwrap_or(NONE);
+        let _ = println!(rt; "{what} {} agree {} differ", of.agree, of.differ);
+        of.differ
+    }
+
+    // The two last lines: cases of no known kind, and all; it says how many of all differ.
+    pub fn print_end(&self, rt: &impl Print) -> u64
+        ensures { result ≡ self.now.all.differ }
+    {
+        let (other, all) = (self.other, self.all);
+        let _ = println!(rt; "other {} agree {} differ", other.agree, other.differ);
+        let _ = println!(rt; "{} agree, {} differ", all.agree, all.differ);
+        all.differ
     }
 }

@@ -1,19 +1,18 @@
 // The text of cases: words and numbers between single blanks and line feeds.
-ghost use Rattle.std.specs.Prelude.{◌≡◌, true, false, ◌<◌, ◌≤◌, eqb, length, IfSome};
+ghost use Rattle.std.specs.Prelude.{◌≡◌, true, false, ◌<◌, ◌&&◌, not, cond, eqb, length, IfSome};
 ghost use Rattle.replay_text.specs.Reading.{Placed, Kept, Lasts, same};
+ghost use Rattle.replay_text.specs.Tally.{Ready, agrees as agreed, tallied, other_tallied};
 
+use crate::tally::Counts;
 use crate::values::Value;
 
-// Stands for an absent value, which is written `-`.
-pub const ABSENT: u64 = 18446744073709551615;
-
-// What is still to come of the text.
-// `faults` is 0 where the text has been as laid out so far, `differences` where the answers have been the stored ones since the last count.
+// What is still to come of a case, and how it has gone so far.
 #[derive(Clone, Copy)]
 pub struct Reader<'a> {
     pub rest: &'a [u8],
-    pub faults: u32,
-    pub differences: u32,
+    pub faulty: bool, // the text has not been as laid out
+    pub differs: bool, // an answer since the last count is not the one stored
+    pub counts: Counts,
 }
 
 fn within_word(b: u8) -> bool {
@@ -63,37 +62,36 @@ pub fn alike(x: f64, y: f64) -> bool
 }
 
 impl<'a> Reader<'a> {
-    pub fn new(text: &'a [u8]) -> Reader<'a>
-        ensures { (result.faults ≡ 0) × (result.differences ≡ 0) }
+    pub fn new(case: &'a [u8], counts: Counts) -> Reader<'a>
+        ensures { (result.faulty ≡ false) × (result.differs ≡ false) × (result.counts ≡ counts) }
     {
         Reader {
-            rest: text,
-            faults: 0,
-            differences: 0,
+            rest: case,
+            faulty: false,
+            differs: false,
+            counts,
         }
     }
 
     // The text is not as laid out.
-    pub fn faulty(&mut self)
-        ensures { (1 ≤ self.new.faults) × Lasts self.old self.new }
+    pub fn fault(&mut self)
+        ensures { (self.new.faulty ≡ true) × Lasts self.old self.new }
     {
-        self.faults = self.faults.max(1);
+        self.faulty = true;
     }
 
     // An answer is the stored one, or differs.
     pub fn compared(&mut self, agrees: bool)
-        ensures { (agrees ≡ false → 1 ≤ self.new.differences) × Lasts self.old self.new }
+        ensures { (agrees ≡ false → self.new.differs ≡ true) × Lasts self.old self.new }
     {
-        if !agrees {
-            self.differences = self.differences.max(1);
-        }
+        self.differs |= !agrees;
     }
 
     // The answer is counted: the next has no differences so far.
-    pub fn settle(&mut self)
-        ensures { Placed self.old self.new × (self.new.faults ≡ self.old.faults) × (self.new.differences ≡ 0) }
+    fn settle(&mut self)
+        ensures { Placed self.old self.new × (self.new.faulty ≡ self.old.faulty) × (self.new.differs ≡ false) }
     {
-        self.differences = 0;
+        self.differs = false;
     }
 
     pub fn at_end(&self) -> bool
@@ -116,7 +114,7 @@ impl<'a> Reader<'a> {
         ensures { Lasts self.old self.new }
     {
         if size == 0 || self.rest.first().is_some_and(|b| within_word(*b)) {
-            self.faulty();
+            self.fault();
             return;
         }
         self.advance();
@@ -145,27 +143,35 @@ impl<'a> Reader<'a> {
         self.word();
     }
 
-    // What is read, 0 and a fault where there is nothing.
-    fn found(&mut self, x: Option<u64>) -> u64
+    // What is read; 0 and a fault where there is nothing.
+    pub(crate) fn found<T: Default>(&mut self, x: Option<T>) -> T
         ensures { Lasts self.old self.new }
     {
         match x {
             Some(x) => x,
             None => {
-                self.faulty();
-                0
+                self.fault();
+                T::default()
             }
         }
     }
 
-    // A whole number, or `-`.
-    pub(crate) fn number(&mut self) -> u64
+    // A whole number, or `-` for none.
+    pub(crate) fn number_or_none(&mut self) -> Option<u64>
         ensures { Lasts self.old self.new }
     {
         match self.word() {
-            b"-" => ABSENT,
-            word => self.found(parsed(word, 10)),
+            b"-" => None,
+            word => Some(self.found(parsed(word, 10))),
         }
+    }
+
+    // A whole number.
+    pub(crate) fn number(&mut self) -> u64
+        ensures { Lasts self.old self.new }
+    {
+        let x = self.number_or_none();
+        self.found(x)
     }
 
     // The 16 hexadecimal digits of a bit pattern.
@@ -186,13 +192,7 @@ impl<'a> Reader<'a> {
         ensures { Lasts self.old self.new }
     {
         let x = self.number();
-        match u32::try_from(x) {
-            Ok(x) => x,
-            Err(_) => {
-                self.faulty();
-                0
-            }
-        }
+        self.found(u32::try_from(x).ok())
     }
 
     // A field is a name, which need not be looked at, and what follows it.
@@ -225,35 +225,37 @@ impl<'a> Reader<'a> {
         x.expect(self);
     }
 
-    // ---- from case to case
+    // ---- what is told is counted
 
-    pub(crate) fn within_line(&self) -> bool {
-        self.rest.first().is_some_and(|b| *b != b'\n')
+    pub(crate) fn agrees(&self) -> bool
+        ensures { result ≡ agreed self.now }
+    {
+        !self.faulty && !self.differs
     }
 
-    // The rest of a line; 1,000,000 bytes at most.
-    fn past_line(&mut self)
-        ensures { Kept self.old self.new }
+    // Counts an answer of an entry, and makes ready for the next.
+    pub fn count(&mut self, entry: usize)
+        ensures { (self.new.counts ≡ tallied self.old.counts entry (agreed self.old)) × Ready self.old self.new }
     {
-        for _ in 0..1000000usize {
-            if !self.within_line() {
-                break;
-            }
-            self.advance();
-        }
-        self.advance();
+        let agrees = self.agrees();
+        self.counts.count(entry, agrees);
+        self.settle();
     }
 
-    // The rest of a case: up to an empty line, and past it; 1,000,000 lines at most.
-    pub(crate) fn past_case(&mut self)
-        ensures { Kept self.old self.new }
+    // A case that cannot be read.
+    pub fn unknown(&mut self)
+        ensures { (self.new.counts ≡ other_tallied self.old.counts) × Ready self.old self.new }
     {
-        for _ in 0..1000000usize {
-            if !self.within_line() {
-                break;
-            }
-            self.past_line();
+        self.counts.count_other();
+        self.settle();
+    }
+
+    // A case has ended: where it is as laid out so far, more text is one difference.
+    pub fn end(&mut self)
+        ensures { self.new.counts ≡ cond (not self.old.faulty && not (eqb (length self.old.rest.now) 0)) (other_tallied self.old.counts) self.old.counts }
+    {
+        if !self.faulty && !self.at_end() {
+            self.unknown();
         }
-        self.advance();
     }
 }

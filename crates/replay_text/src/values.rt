@@ -38,8 +38,8 @@ impl Value for u64 {
     }
 
     fn expect(self, r: &mut Reader) {
-        let stored = r.number();
-        r.compared(stored == self);
+        let stored = r.number_or_none();
+        r.compared(stored == Some(self));
     }
 }
 
@@ -124,7 +124,10 @@ impl<T: Value> Value for Option<T> {
     fn expect(self, r: &mut Reader) {
         match self {
             Some(x) => x.expect(r),
-            None => text::ABSENT.expect(r),
+            None => {
+                let stored = r.number_or_none();
+                r.compared(stored.is_none());
+            }
         }
     }
 }

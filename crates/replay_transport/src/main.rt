@@ -4,20 +4,15 @@
 
 mod plans; // plans.rt: a stored case, its answer and its columns
 
-use replay_text::text::Reader;
-use replay_text::{cases, tally};
+use replay_text::cases;
 use std::io;
 
-fn run_kind(r: &mut Reader, kind: &[u8], counts: &mut [u64; 48]) {
-    match kind {
-        b"transport" => plans::run(r, counts),
-        _ => r.unknown(counts),
-    }
-}
-
 fn main(rt: HostRuntime) -> io::Result<()> {
-    let counts = cases::run(&rt, run_kind)?;
-    tally::print_entry(&rt, b"transport transport ", &counts, plans::TRANSPORT);
-    tally::print_end(&rt, &counts);
+    let counts = cases::run(
+        &rt,
+        |r, kind| cases::run_only(r, kind, b"transport", plans::run),
+    )?;
+    counts.print(&rt, "transport transport", 0);
+    counts.print_end(&rt);
     Ok(())
 }

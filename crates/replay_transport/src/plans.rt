@@ -4,9 +4,6 @@ use transport::entry;
 use transport::plan::PlanRows;
 use transport_theory::Masses;
 
-// The place of its counts.
-pub const TRANSPORT: usize = 0;
-
 // Masses and costs of a case are read; now the columns, the answer, and the columns as `transport` leaves them.
 fn planned(r: &mut Reader, of: &Masses) {
     let mut rows = [0u32; 1100];
@@ -24,7 +21,7 @@ fn planned(r: &mut Reader, of: &Masses) {
     r.expect_list(plan.masses);
 }
 
-pub fn run(r: &mut Reader, counts: &mut [u64; 48]) {
+pub fn run(r: &mut Reader) {
     let mut left = [0.0f64; 100];
     let mut right = [0.0f64; 100];
     let mut costs = [0.0f64; 1100];
@@ -34,5 +31,4 @@ pub fn run(r: &mut Reader, counts: &mut [u64; 48]) {
         costs: r.list_field(&mut costs),
     };
     planned(r, &of);
-    r.count(counts, TRANSPORT);
 }
