@@ -2,7 +2,7 @@
 use Rattle.std.specs.Option.{is_none}
 use Rattle.std.specs.Prelude.{Option}
 use Rattle.bisim_core.specs.declared.ids.StateId.{StateId}
-use Rattle.std.specs.Prelude.{ℕ, ◌+◌, Bool, true, false, ◌&&◌, ◌||◌, not, List, length, ltb, Float}
+use Rattle.std.specs.Prelude.{ℕ, ◌+◌, Bool, false, ◌&&◌, ◌||◌, not, List, length, ltb, Float}
 use Rattle.std.specs.Float.Ieee.{lt, le}
 use Rattle.numbers.specs.Refuse.{check}
 use Rattle.numbers.specs.Lists.{span, every, all}
