@@ -33,6 +33,7 @@ pub struct FlowNetwork {
 }
 
 // Copies heads, capacities and costs of the links to the front of rows.
+// Stays: the three rows are no struct, since max_flow_in lends two of them on as shared beside the third, which the run changes: what fields of one lent struct hold is not known after that (docs/PROVING.md, Pitfalls).
 fn unpack(links: &[Link], heads: &mut [u32], caps: &mut [f64], costs: &mut [f64])
     requires { (length links.now ≤ length heads.old) × (length links.now ≤ length caps.old) × (length links.now ≤ length costs.old) }
     ensures { (heads.new ≡ over (heads_of (length links.now) links.now) heads.old) × (caps.new ≡ over (caps_of (length links.now) links.now) caps.old) × (costs.new ≡ over (costs_of (length links.now) links.now) costs.old) }
@@ -88,6 +89,7 @@ fn grow(net: &mut FlowNetwork)
 }
 
 // The run on the network through lent rows, in which heads, capacities and costs of its links stand meanwhile.
+// Stays: three rows, for the reason that `unpack` gives.
 pub(crate) fn max_flow_in(
     net: &mut FlowNetwork,
     heads: &mut [u32],

@@ -46,6 +46,7 @@ fn fill(
 }
 
 // The maximum flow from source to sink on a network that is lent and filled with the links of the rows' first n places, two for each added link; the rows keep the capacities and the costs of the links.
+// Stays: three rows, for the reason that `network::unpack` gives; n says how far work space is in use that is lent whole, and they are cut to it here.
 pub fn flow_rows(
     net: &mut FlowNetwork,
     heads: &mut [u32],

@@ -20,15 +20,9 @@ pub record Least (x₀ : Float) (c : List Float) (p : List ℕ) (i : ℕ) (x : F
 
 module _ {x₀ : Float} {c : List Float} {p : List ℕ} where
   module _ {i : ℕ} {x : Float} (I : Least x₀ c p i x) (more : i < length p) where
-    step_least : (b : Bool) → lt (get_or c (get_or p i 0) nan) x ≡ b → least c (choose b (get_or c (get_or p i 0) nan) x) (drop (suc i) p) ≡ least c x₀ p
-    unfolding least smaller
-    step_least b t = ap (λ (d : Bool). least c (choose d (get_or c (get_or p i 0) nan) x) (drop (suc i) p)) (sym t) ∙ ap (least c x) (sym (drop-cons p i 0 more)) ∙ I.same
-
-    pub lower : lt (get_or c (get_or p i 0) nan) x ≡ true → (y : Float) → y ≡ get_or c (get_or p i 0) nan → Least x₀ c p (i + 1) y
-    lower t y q = record { ends = omega arith; same = rw (add-one i, q) (step_least true t) }
-
-    pub stays : lt (get_or c (get_or p i 0) nan) x ≡ false → (y : Float) → y ≡ x → Least x₀ c p (i + 1) y
-    stays t y q = record { ends = omega arith; same = rw (add-one i, q) (step_least false t) }
+    pub lower : (y : Float) → y ≡ smaller x (get_or c (get_or p i 0) nan) → Least x₀ c p (i + 1) y
+    unfolding least left
+    lower y q = record { ends = omega arith; same = rw (add-one i, q) (ap (least c x) (sym (drop-cons p i 0 more)) ∙ I.same) }
 
   pub least_ends : {i : ℕ} {x : Float} → Least x₀ c p i x → length p ≤ i → x ≡ least c x₀ p
   unfolding least
@@ -37,9 +31,9 @@ module _ {x₀ : Float} {c : List Float} {p : List ℕ} where
       ap (least c x) (sym (drop_of_length-le p (omega arith))) ∙ I.same
 
 -- a link without a capacity is never less
-pub lt_past : (c : List Float) (e : ℕ) (x : Float) → length c ≤ e → lt (get_or c e nan) x ≡ false
-unfolding lt
-lt_past c e x h = ap (λ (y : Float). lt y x) (get_or_past c e nan h)
+pub none_smaller : (c : List Float) (e : ℕ) (x : Float) → length c ≤ e → x ≡ smaller x (get_or c e nan)
+unfolding smaller lt
+none_smaller c e x h = sym (ap (smaller x) (get_or_past c e nan h))
 
 -- what is still to come of the path leads from these capacities to the last ones
 pub record PushesOn (x : Float) (c₀ : List Float) (p : List ℕ) (i : ℕ) (c : List Float) : Type 0 where

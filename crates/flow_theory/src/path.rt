@@ -3,6 +3,7 @@ ghost use Rattle.flow_theory.specs.Augment;
 ghost use Rattle.std.specs.Prelude.{◌≡◌};
 
 use crate::reverse;
+use numbers::smaller;
 
 // The least of x and the capacities on the path; a link without one is passed over.
 pub fn least(caps: &[f64], path: &[usize], x: f64) -> f64
@@ -10,8 +11,8 @@ pub fn least(caps: &[f64], path: &[usize], x: f64) -> f64
 {
     let mut y = x;
     for e in path {
-        if *e < caps.len() && caps[*e] < y {
-            y = caps[*e];
+        if *e < caps.len() {
+            y = smaller(y, caps[*e]);
         }
     }
     y
