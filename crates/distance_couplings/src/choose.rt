@@ -8,7 +8,7 @@ use crate::best::best_coupling;
 use distance_theory::lent::{Best, SharesMut, Task};
 
 // The cheapest coupling of a task's pair k over the front of two lists. None where there is no such pair, a row can't be read or has over 32 entries, there are over 4,096 codes, or a list is short: the lists are then as they were.
-// Stays: the two lists are apart; `&mut SharesMut` was tried, and the proof of `improve_each`, which cuts both lists after the call, didn't close.
+// Stays: the two lists are apart; of a `SharesMut` of two arrays the caller would cut the fields after the call, and the check forgets what a field holds that is lent in part. The same was tried in `move_masses`, with the columns of a plan.
 pub fn best_pair(
     task: &Task,
     k: usize,

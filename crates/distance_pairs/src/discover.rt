@@ -13,12 +13,13 @@ use crate::index::{code, goes_by, is_at, key};
 use chain_check::shape::misshapen;
 use chain_theory::Chain;
 use distance_theory::lent::PairsMut;
+use distance_theory::long;
 use numbers::refusal::Refusal;
 use parts::rates::insert;
 
 // Where the codes of a key go among those of the pairs so far.
 fn goes(pairs: &PairsMut, key: u64) -> usize
-    requires { pairs.now.count ≤ length pairs.now.codes.now }
+    requires { (key ≤ 8800387989504) × (pairs.now.count ≤ length pairs.now.codes.now) }
     ensures { (result ≡ keyed (take pairs.now.count pairs.now.codes.now) key) × (result ≤ pairs.now.count) }
 {
     goes_by(&pairs.codes[..pairs.count], key)
@@ -79,6 +80,7 @@ fn meet_rows(pairs: &mut PairsMut, xs: &[u32], ys: &[u32]) -> Result<(), Refusal
 }
 
 // The targets of a state.
+// Stays: `Chain::row` reads the probabilities too and answers an Option; here offsets and targets are known to be there, so that it would bring a refusal that can't come.
 fn row<'a>(chain: &Chain<'a>, x: usize) -> &'a [u32]
     requires { Rowed chain.now.offsets.now chain.now.targets.now x }
     ensures { result.now ≡ row_in chain.now.offsets.now chain.now.targets.now x }
@@ -105,17 +107,20 @@ fn discover_in(left: &Chain, right: &Chain, pairs: &mut PairsMut) -> Result<(), 
 }
 
 // Columns as check 4 wants them, of at most 2,000 states.
-fn readable(chain: &Chain) -> bool
+pub fn readable(chain: &Chain) -> bool
     ensures { result ≡ Discovery.readable chain.now.shape (of_chain chain.now) }
 {
     chain.shape.states <= 2000 && !misshapen(chain)
 }
 
-// At least 4,096 entries each.
-fn long(pairs: &PairsMut) -> bool
+// Room for 4,096 pairs.
+fn roomy(pairs: &PairsMut) -> bool
     ensures { result ≡ Discovery.long (length pairs.now.lefts.now) (length pairs.now.rights.now) (length pairs.now.codes.now) }
 {
-    pairs.lefts.len() >= 4096 && pairs.rights.len() >= 4096 && pairs.codes.len() >= 4096
+    long(
+        4096,
+        &[pairs.lefts.len(), pairs.rights.len(), pairs.codes.len()],
+    )
 }
 
 // The first pair is noted, and all that are met from it on.
@@ -140,7 +145,7 @@ pub fn discover_from(left: &Chain, right: &Chain, pairs: &mut PairsMut) -> Resul
     ensures lists { SamePairs pairs.old pairs.new }
     ensures found { found (numbered result) pairs.new.lefts.now pairs.new.rights.now pairs.new.codes.now ≡ found_in (discover left.now.shape (of_chain left.now) right.now.shape (of_chain right.now) pairs.old.lefts.now pairs.old.rights.now pairs.old.codes.now) }
 {
-    if !long(pairs) || !readable(left) || !readable(right) {
+    if !roomy(pairs) || !readable(left) || !readable(right) {
         return Err(Refusal::OutOfRange);
     }
     discover(left, right, pairs)?;

@@ -7,7 +7,6 @@ use mathlib.Core.List.{List, [], ◌∷◌, ◌++◌, append-nil}
 use native.Mathlib.Omega.{arith}
 use native.Mathlib.Nat.{le_of_suc-le-suc, not-suc-le-zero}
 use lib.Dec.{eqb, ltb}
-use mir.Val.{bool_byte}
 use lib.ListN.{length, get_or}
 use borrow.Author.Tests.{ltb-true, lt-ltb, le-ltb, eqb-true, eq-eqb}
 use Rattle.numbers.specs.Lists.{In}
@@ -78,14 +77,13 @@ pub below_ge : (c k : ℕ) → k ≤ c / 4096 → below c k ≡ 0
 unfolding below
 below_ge c k h = rw (le-ltb (c / 4096) k h, below)
 
--- as the byte of a test
-pub below_byte : (c k x : ℕ) → x ≡ bool_byte (ltb (c / 4096) k) → (x ≡ below c k) × (x ≤ 1)
-unfolding below
-below_byte c k x e = pick (ltb (c / 4096) k) e
+-- the sign of a difference
+pub below_sign : (c k : ℕ) → c < 18446744073709551616 → k ≤ 8800387989504 → (k + 9223372036854775807 - c / 4096) / 9223372036854775808 ≡ below c k
+below_sign c k g h = pick (lt_or_ge (c / 4096) k)
   where
-    pick : (b : Bool) → x ≡ bool_byte b → (x ≡ elim b [ true ↦ 1 | false ↦ 0 ]) × (x ≤ 1)
-    pick true e = (e, omega arith)
-    pick false e = (e, omega arith)
+    pick : (c / 4096 < k) ⊎ (k ≤ c / 4096) → (k + 9223372036854775807 - c / 4096) / 9223372036854775808 ≡ below c k
+    pick (inl t) = let e : (k + 9223372036854775807 - c / 4096) / 9223372036854775808 ≡ 1 = omega arith in e ∙ sym (below_lt c k t)
+    pick (inr t) = let e : (k + 9223372036854775807 - c / 4096) / 9223372036854775808 ≡ 0 = omega arith in e ∙ sym (below_ge c k t)
 
 module _ (l : List ℕ) (k : ℕ) where
   narrow_on : (f lo n : ℕ) → 0 < n → narrow (suc f) l k lo n ≡ narrow f l k (lo + (n - n / 2) * below (get_or l (lo + (n - n / 2) - 1) 0) k) (n / 2)

@@ -1,5 +1,7 @@
-use Rattle.distance_theory.proofs.Index.{below_byte}
+-- The sign of the difference of the keys.
+use native.Mathlib.Omega.{arith}
+use Rattle.distance_theory.proofs.Index.{below_sign}
 use Rattle.distance_pairs.proofs.index.below.Goals as goal
 
 pub returns : goal.returns
-returns c = below_byte c.args.code c.args.key _ c.from.ensures
+returns c = (below_sign c.args.code c.args.key (omega arith) c.requires, omega arith)
