@@ -35,6 +35,17 @@ fn build_in(draft: &Draft, store: &mut Store, triples: &mut [u64]) -> Result<Sha
     })
 }
 
+// `build`, with work space for N transitions: as many as are given, if they are not too many.
+fn build_with<const N: usize>(draft: &Draft, store: &mut Store) -> Result<Shape, Refusal>
+    requires { (N ≤ 4096) × (draft.now.given ≤ 4096 → draft.now.given ≤ N) }
+    ensures outcome { ends (numbered result) (columns_in store.new)
+        ≡ Build.build draft.now.states draft.now.initial (transitions_of draft.now) draft.now.given (columns_in store.old) }
+    ensures same_lists { kept store.old store.new }
+{
+    let mut triples = [0u64; N];
+    build_in(draft, store, &mut triples)
+}
+
 // The model of a draft, its columns in the store. Turned back with the first check that fails: then the store is left as it was.
 pub fn build(draft: &Draft, store: &mut Store) -> Result<Shape, Refusal>
     ensures outcome { ends (numbered result) (columns_in store.new)
@@ -42,9 +53,8 @@ pub fn build(draft: &Draft, store: &mut Store) -> Result<Shape, Refusal>
     ensures same_lists { kept store.old store.new }
 {
     if draft.given <= 256 {
-        let mut triples = [0u64; 256];
-        return build_in(draft, store, &mut triples);
+        build_with::<256>(draft, store)
+    } else {
+        build_with::<4096>(draft, store)
     }
-    let mut triples = [0u64; 4096];
-    build_in(draft, store, &mut triples)
 }

@@ -1,18 +1,19 @@
 // The results, written into the columns lent.
-ghost use Rattle.std.specs.Prelude.{◌≡◌, List, ◌||◌, ◌+◌, ◌≤◌, ◌<◌, ltb, Float, length};
+ghost use Rattle.std.specs.Prelude.{◌≡◌, List, ◌||◌, ◌+◌, ◌*◌, ◌≤◌, ◌<◌, ltb, Float, length};
 ghost use Rattle.numbers.specs.Lists.{over};
 ghost use Rattle.build_theory.specs.Edges;
 ghost use Rattle.build_theory.specs.Lent.{kept};
 ghost use Rattle.build_theory.proofs.Steps.{Rising, edges_in, FirstFrom, Writable, Written};
 
+use build_theory::keys::Triple;
 use build_theory::lent::{Draft, Store};
 
-// The first number of triples[p..] that is not below the bound.
-fn first_from(triples: &[u64], p: usize, bound: u64) -> usize
+// The first of triples[p..] whose source is not below s.
+fn first_from(triples: &[u64], p: usize, s: u64) -> usize
     requires { p ≤ length triples.now }
-    ensures { FirstFrom triples.now (length triples.now) p bound result }
+    ensures { FirstFrom triples.now (length triples.now) p (s * 524288) result }
 {
-    match triples[p..].iter().position(|x| *x >= bound) {
+    match triples[p..].iter().position(|x| Triple(*x).source() >= s) {
         Some(k) => p + k,
         None => triples.len(),
     }
@@ -24,7 +25,7 @@ fn write_offsets(triples: &[u64], states: usize, offsets: &mut [u32])
 {
     let mut p = 0;
     for s in 0..=states {
-        p = first_from(triples, p, s as u64 * 524288);
+        p = first_from(triples, p, s as u64);
         offsets[s] = p as u32;
     }
 }
@@ -33,10 +34,10 @@ fn write_edges(triples: &[u64], labels: &mut [u32], targets: &mut [u32])
     requires { Writable triples.now (length triples.now) labels.old targets.old }
     ensures { Written triples.now (length triples.now) labels.old targets.old labels.new targets.new }
 {
-    for (i, triple) in triples.iter().enumerate() {
-        let q = *triple;
-        labels[i] = (q / 2048 % 256) as u32;
-        targets[i] = (q % 2048) as u32;
+    for (i, number) in triples.iter().enumerate() {
+        let triple = Triple(*number);
+        labels[i] = triple.label();
+        targets[i] = triple.target();
     }
 }
 

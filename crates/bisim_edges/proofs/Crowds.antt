@@ -203,6 +203,10 @@ module _ {K : List ℕ} {n : ℕ} {W : List Float} {seen : List ℕ} {count stat
       known = sym (ap distinct (led_none K W s j (let a = j_low in omega arith) (λ i l y. let a = I.low i l in let b = I.ahead j (omega arith) h in e (omega arith))));
     })
 
+    -- what the test of key j says, of the place, the target and the source that are read of it
+    pub leads_read : (a u s' : ℕ) → a ≡ get_or K j 0 % 4096 → u ≡ t → s' ≡ s → {r b : Bool} → r ≡ not (is_zero (get_or W a nan) || eqb u s') → r ≡ b → not (z || eqb t s) ≡ b
+    leads_read a u s' p q v {r} {b} = rw (p, q, v) (λ e g. sym e ∙ g)
+
     lows : (i : ℕ) → i < j + 1 → source_at K W i ≤ s
     lows i l = pick (eq_or_ne i j)
       where
@@ -214,8 +218,8 @@ module _ {K : List ℕ} {n : ℕ} {W : List Float} {seen : List ℕ} {count stat
     calms x e = subst (λ (l : List ℕ). length (distinct l) ≤ 31) (sym (more_none K W j j_low x (λ y. e (sym y)))) (calm_all x)
 
     module _ (count' : ℕ) (Y : Ready count') where
-      pub crowd_self : not (z || eqb t s) ≡ false → (seen'' : List ℕ) (count'' : ℕ) → seen'' ≡ seen → count'' ≡ count' → Crowding K n W seen'' count'' s (j + 1)
-      crowd_self e seen'' count'' p q = rw (p, q) (record {
+      pub crowd_self : not (z || eqb t s) ≡ false → (seen'' : List ℕ) (count'' s' : ℕ) → seen'' ≡ seen → count'' ≡ count' → s' ≡ s → Crowding K n W seen'' count'' s' (j + 1)
+      crowd_self e seen'' count'' s' p q v = rw (p, q, v) (record {
         j_in = omega arith;
         size = I.size;
         few = Y.few;
@@ -225,12 +229,15 @@ module _ {K : List ℕ} {n : ℕ} {W : List Float} {seen : List ℕ} {count stat
         ahead = rest;
       })
 
-      module _ (e : not (z || eqb t s) ≡ true) (seen' : List ℕ) (r : ℕ) (N : Noted seen count' t seen' r) where
+      module _ (e : not (z || eqb t s) ≡ true) (seen₁ : List ℕ) (u : ℕ) (same : seen₁ ≡ seen) (read : u ≡ t) (seen' : List ℕ) (r : ℕ) (added : Noted seen₁ count' u seen' r) where
+        N : Noted seen count' t seen' r
+        N = subst (λ (l : List ℕ). Noted l count' t seen' r) same (subst (λ (x : ℕ). Noted seen₁ count' x seen' r) read added)
+
         noted_is : intern (take count' seen) (t ∷ []) ≡ distinct (led K W (j + 1) s)
         noted_is = ap (λ (l : List ℕ). intern l (t ∷ [])) Y.known ∙ sym (more_one K W j j_low (not-true _ e))
 
-        pub crowd_more : length seen' ≡ length seen → r ≤ 31 → (seen'' : List ℕ) (count'' : ℕ) → seen'' ≡ seen' → count'' ≡ r → Crowding K n W seen'' count'' s (j + 1)
-        crowd_more y l seen'' count'' p q = rw (p, q) (record {
+        pub crowd_more : length seen' ≡ length seen → r ≤ 31 → (seen'' : List ℕ) (count'' s' : ℕ) → seen'' ≡ seen' → count'' ≡ r → s' ≡ s → Crowding K n W seen'' count'' s' (j + 1)
+        crowd_more y l seen'' count'' s' p q v = rw (p, q, v) (record {
           j_in = omega arith;
           size = y ∙ I.size;
           few = l;

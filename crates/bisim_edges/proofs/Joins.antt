@@ -102,6 +102,10 @@ kept_before E false a rest = append_assoc E (a ∷ []) rest
 
 -- ---- the loop
 
+-- a key behind the first
+pub behind : (x : ℕ) (l : List ℕ) (i : ℕ) → get_or l i 0 ≡ get_or (x ∷ l) (i + 1) 0
+behind x l i = rw (add-one i) refl
+
 pub record Joining (K : List ℕ) (n : ℕ) (W : List Float) (T₀ : List ℕ) (U₀ : List Float) (T : List ℕ) (U : List Float) (run : ℕ) (sum : Float) (m i : ℕ) : Type 0 where
   pub i_in : i ≤ n
   pub m_low : m < i
@@ -110,15 +114,15 @@ pub record Joining (K : List ℕ) (n : ℕ) (W : List Float) (T₀ : List ℕ) (
   pub same_edges : made ++ nonzero (runs (edge_in run sum) (map (edge_of W) (slice i n K))) ≡ joined K n W
 
 module _ (K : List ℕ) (n : ℕ) (W : List Float) (T₀ : List ℕ) (U₀ : List Float) (J : Keys K n) where
-  pub joining : n ≢ 0 → Joining K n W T₀ U₀ T₀ U₀ (get_or K 0 0 / 4096) (get_or W (get_or K 0 0 % 4096) nan) 0 1
+  pub joining : n ≢ 0 → (run at m : ℕ) → run ≡ get_or K 0 0 / 4096 → at ≡ get_or K 0 0 % 4096 → m ≡ 0 → Joining K n W T₀ U₀ T₀ U₀ run (get_or W at nan) m 1
   unfolding join
-  joining h = record {
+  joining h run at m p q r = rw (p, q, r) (record {
     i_in = omega arith;
     m_low = omega arith;
     made = [];
     holds = record { triples = refl; sums = refl; count = refl };
     same_edges = ap (λ (l : List ℕ). nonzero (join (map (edge_of W) l))) (sym (slice-cons 0 n K 0 (omega arith) J.within));
-  }
+  })
 
   module _ (t-in : n ≤ length T₀) (u-in : n ≤ length U₀) {T : List ℕ} {U : List Float} {run : ℕ} {sum : Float} {m i : ℕ} (I : Joining K n W T₀ U₀ T U run sum m i) where
     m_t : m < length T₀

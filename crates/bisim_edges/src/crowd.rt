@@ -1,25 +1,39 @@
 // Check 6: the targets of a state.
-ghost use Rattle.std.specs.Prelude.{◌≡◌, ◌||◌, not, ◌+◌, ◌≤◌, eqb, length, unwrap_or, IfSome};
+ghost use Rattle.std.specs.Prelude.{◌≡◌, ◌||◌, not, ◌+◌, ◌≤◌, eqb, length, true, false};
 ghost use Rattle.numbers.specs.Real.{is_zero};
 ghost use Rattle.build_theory.proofs.Steps.{Keys, Noted, Crowded};
 
+use build_theory::keys::Key;
 use numbers::seek;
 
-// t joins the values seen[..count], if it is new: how many there are then, if the list holds as many.
-// Stays: with no heap, a list that grows is an array and a count.
-fn note(seen: &mut [u32], count: usize, t: u32) -> Option<usize>
-    requires { (count ≤ length seen.old) × (length seen.old ≤ 4096) }
-    ensures noted { Noted seen.old count t seen.new (unwrap_or result (length seen.old + 1)) }
-    ensures room { IfSome result (λ n. n ≤ length seen.old) }
-{
-    if seek(&seen[..count], t).is_some() {
-        return Some(count);
+// How many distinct targets other than itself a state may have.
+const MOST: usize = 31;
+
+// The distinct targets of a state: the first `count` of a list.
+#[derive(Drop)]
+struct Seen {
+    targets: [u32; MOST],
+    count: usize,
+}
+
+impl Seen {
+    // t joins them, if it is new: whether the list has room for it.
+    fn add(&mut self, t: u32) -> bool
+        requires { self.old.count ≤ length self.old.targets }
+        ensures added { result ≡ true → Noted self.old.targets self.old.count t self.new.targets self.new.count }
+        ensures full { result ≡ false → Noted self.old.targets self.old.count t self.new.targets (length self.old.targets + 1) }
+        ensures room { (length self.new.targets ≡ length self.old.targets) × (self.new.count ≤ length self.old.targets) }
+    {
+        if seek(&self.targets[..self.count], t).is_some() {
+            return true;
+        }
+        if self.count == self.targets.len() {
+            return false;
+        }
+        self.targets[self.count] = t;
+        self.count += 1;
+        true
     }
-    if count == seen.len() {
-        return None;
-    }
-    seen[count] = t;
-    Some(count + 1)
 }
 
 // Whether a transition has a weight and leads to another state.
@@ -34,23 +48,22 @@ pub(crate) fn crowded(keys: &[u64], weights: &[f64]) -> bool
     requires { Keys keys.now (length keys.now) × (length keys.now ≤ length weights.now) }
     ensures { Crowded keys.now (length keys.now) weights.now result }
 {
-    let mut seen = [0u32; 31];
-    let mut count = 0;
+    let mut seen = Seen {
+        targets: [0; MOST],
+        count: 0,
+    };
     let mut state = 0;
-    for key in keys {
-        let k = *key;
-        let q = k / 4096;
-        let s = q / 524288;
-        let t = q % 2048;
+    for number in keys {
+        let key = Key(*number);
+        let triple = key.triple();
+        let s = triple.source();
+        let t = triple.target();
         if s != state {
-            count = 0;
+            seen.count = 0;
         }
         state = s;
-        if leads(s, t, weights[(k % 4096) as usize]) {
-            match note(&mut seen, count, t as u32) {
-                Some(n) => count = n,
-                None => return true,
-            }
+        if leads(s, u64::from(t), weights[key.at()]) && !seen.add(t) {
+            return true;
         }
     }
     false

@@ -1,19 +1,55 @@
 // From sorted transitions to edges: equal triples joined, zero weights dropped.
-ghost use Rattle.std.specs.Prelude.{◌≤◌, ◌<◌, length};
+ghost use Rattle.std.specs.Prelude.{◌≡◌, ◌+◌, ◌≤◌, ◌<◌, ◌∷◌, length};
 ghost use Rattle.build_theory.proofs.Steps.{Pushed, Keys, Joined};
 
-// The run that ends, unless its sum is zero, is stored as edge m.
-// Stays: with no heap, lists that grow are arrays and a count.
-fn push(triples: &mut [u64], sums: &mut [f64], m: usize, run: u64, sum: f64) -> usize
-    requires { (m < length triples.old) × (m < length sums.old) }
-    ensures { Pushed triples.old sums.old m run sum triples.new sums.new result }
-{
-    if sum == 0.0 {
-        return m;
+use build_theory::keys::{Key, Triple};
+
+// Edges: the first `len` of two lists that are lent, of triples and of the sum of weights of each.
+#[derive(Drop)]
+struct Edges<'a> {
+    triples: &'a mut [u64],
+    sums: &'a mut [f64],
+    len: usize,
+}
+
+impl Edges<'_> {
+    // The run that ends is one more, unless its sum is zero.
+    fn add(&mut self, run: Triple, sum: f64)
+        requires { (self.old.len < length self.old.triples.now) × (self.old.len < length self.old.sums.now) }
+        ensures lists { (self.new.triples.ghost_name ≡ self.old.triples.ghost_name) × (self.new.sums.ghost_name ≡ self.old.sums.ghost_name) }
+        ensures added { Pushed self.old.triples.now self.old.sums.now self.old.len run.0 sum self.new.triples.now self.new.sums.now self.new.len }
+    {
+        if sum == 0.0 {
+            return;
+        }
+        self.triples[self.len] = run.0;
+        self.sums[self.len] = sum;
+        self.len += 1;
     }
-    triples[m] = run;
-    sums[m] = sum;
-    m + 1
+
+    // Those of sorted keys, of which the first is apart.
+    fn join(&mut self, first: Key, rest: &[u64], weights: &[f64])
+        requires few { self.old.len ≡ 0 }
+        requires keys { Keys (first.0 ∷ rest.now) (length rest.now + 1) × (length rest.now < length weights.now) }
+        requires room { (length rest.now < length self.old.triples.now) × (length rest.now < length self.old.sums.now) }
+        ensures lists { (self.new.triples.ghost_name ≡ self.old.triples.ghost_name) × (self.new.sums.ghost_name ≡ self.old.sums.ghost_name) }
+        ensures joined { Joined (first.0 ∷ rest.now) (length rest.now + 1) weights.now self.old.triples.now self.old.sums.now self.new.triples.now self.new.sums.now self.new.len }
+    {
+        let mut run = first.triple();
+        let mut sum = weights[first.at()];
+        for number in rest {
+            let key = Key(*number);
+            let w = weights[key.at()];
+            if key.triple() == run {
+                sum += w;
+            } else {
+                self.add(run, sum);
+                run = key.triple();
+                sum = w;
+            }
+        }
+        self.add(run, sum);
+    }
 }
 
 // The edges of sorted keys.
@@ -26,24 +62,14 @@ pub(crate) fn join_runs(
     requires { Keys keys.now (length keys.now) × (length keys.now ≤ length weights.now) × (length keys.now ≤ length triples.old) × (length keys.now ≤ length sums.old) }
     ensures { Joined keys.now (length keys.now) weights.now triples.old sums.old triples.new sums.new result }
 {
-    if keys.is_empty() {
+    let Some((first, rest)) = keys.split_first() else {
         return 0;
-    }
-    let first = keys[0];
-    let mut run = first / 4096;
-    let mut sum = weights[(first % 4096) as usize];
-    let mut m = 0;
-    for i in 1..keys.len() {
-        let key = keys[i];
-        let w = weights[(key % 4096) as usize];
-        let q = key / 4096;
-        if q == run {
-            sum += w;
-        } else {
-            m = push(triples, sums, m, run, sum);
-            run = q;
-            sum = w;
-        }
-    }
-    push(triples, sums, m, run, sum)
+    };
+    let mut edges = Edges {
+        triples,
+        sums,
+        len: 0,
+    };
+    edges.join(Key(*first), rest, weights);
+    edges.len
 }

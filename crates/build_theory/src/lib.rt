@@ -1,6 +1,7 @@
 // What `build` is handed, and the checks of transitions that need no work space.
 #![tactic(auto)]
 
+pub mod keys; // keys.rt: transitions as numbers in their order
 pub mod lent; // lent.rt: a model asked for, and the lists that it goes into
 
 ghost use Rattle.std.specs.Prelude.{◌≡◌, ltb, take};

@@ -4,5 +4,5 @@ use lib.ListN.{length}
 use Rattle.bisim_edges.proofs.Crowds.{Crowding}
 use Rattle.bisim_edges.proofs.crowd.crowded.Given as goal
 
-abbrev pub invariant-loop-key : goal.invariant-loop-key
-invariant-loop-key l = Crowding l.keys (length l.keys) l.weights l.seen l.count l.state l.key-index
+abbrev pub invariant-loop-number : goal.invariant-loop-number
+invariant-loop-number l = Crowding l.keys (length l.keys) l.weights l.seen.targets l.seen.count l.state l.number-index
