@@ -3,19 +3,24 @@
 -- or s, and changes nothing; another goes to the end of the list.
 use mathlib.Core.Path.{◌≡◌, refl, sym, subst, ap, ◌∙◌}
 use mathlib.Core.Logic.{◌⊎◌, inl, inr, ◌≢◌}
-use mathlib.Core.Bool.{Bool, true, false, ◌&&◌, not}
+use mathlib.Core.Bool.{Bool, true, false, ◌&&◌, not, true≢false}
 use Prim.Native.Nat.{ℕ, zero, suc, ◌+◌, ◌-◌, ◌≤◌, ◌<◌}
 use mathlib.Core.List.{List, [], ◌∷◌, ◌++◌, map}
 use native.Mathlib.Omega.{arith}
 use native.Mathlib.Numerals.{add-one}
 use lib.Dec.{eqb}
 use lib.Ieee.{Float}
-use lib.ListN.{length, get_or, set, replicate, length-set, length-append}
+use lib.ListN.{length, get_or, take, drop, set, replicate, length-set, length-append, length-drop}
+use Rattle.std.proofs.lemmas.List.{length-take, get_or-take, get_or-drop}
 use lib.Seq.{get_or-set_same, get_or-set_other}
 use borrow.Author.Tests.{eq-eqb, ne_eqb, lt-ltb, le-ltb, ltb-true, ltb-false}
+use Rattle.std.specs.List.{list_all, range_with_len}
+use Rattle.std.proofs.lemmas.List.FromFn.{length-range_with_len, get_or-range_with_len}
 use Rattle.numbers.specs.Lists.{span}
 use Rattle.numbers.specs.Search.{here, seek}
 use Rattle.numbers.proofs.Bools.{eq_or_ne, lt_or_ge, and_t}
+use Rattle.numbers.proofs.Alls.{all_at, all_of}
+use Rattle.numbers.proofs.Loops.{list_all_is}
 use Rattle.numbers.proofs.Seeks.{seek_more, seek_new}
 use Rattle.bisim_core.specs.Data.{Columns, columns}
 use Rattle.bisim_core.specs.Ids.{listed, intern, distinct}
@@ -65,6 +70,37 @@ module _ (M : Columns) (s to : ℕ) where
   rise_at from i e h k =
       let z : from + (i - from) ≡ i = omega arith in
       subst (λ (j : ℕ). follows (edge_at M s j) (edge_at M s (j + 1)) ≡ true) z (rise_from (i - from) from e (omega arith))
+
+  -- and all of them, as the code asks it
+  abbrev rises_at : ℕ → Bool
+  rises_at i = follows (edge_at M s i) (edge_at M s (i + 1))
+
+  rises_of : (d i : ℕ) → to ≤ i + d + 1 → ((j : ℕ) → i ≤ j → j + 1 < to → rises_at j ≡ true) → Rises i ≡ true
+  rises_of zero i h f = rise_end i (omega arith)
+  rises_of (suc d) i h f = pick (rises_of d (i + 1) (omega arith) (λ j a b. f j (omega arith) b)) (lt_or_ge (i + 1) to)
+    where
+      pick : Rises (i + 1) ≡ true → (i + 1 < to) ⊎ (to ≤ i + 1) → Rises i ≡ true
+      pick ih (inl l) = rise_on i l (f i (omega arith) l) ∙ ih
+      pick ih (inr l) = rise_end i l
+
+  pub all_rise : (from n : ℕ) → n ≡ to - 1 - from → list_all rises_at (range_with_len from n) ≡ Rises from
+  all_rise from n e = pick (Rises from) refl
+    where
+      held : Rises from ≡ true → list_all rises_at (range_with_len from n) ≡ true
+      held r = list_all_is rises_at (range_with_len from n) ∙ all_of rises_at (range_with_len from n) 0 (λ j h.
+          let k : j < n = omega (arith, length-range_with_len from n, h) in
+          ap rises_at (get_or-range_with_len from n j 0 k) ∙ rise_at from (from + j) r (omega arith) (omega arith))
+
+      not_held : Rises from ≡ false → (b : Bool) → list_all rises_at (range_with_len from n) ≡ b → b ≡ false
+      not_held q true f = absurd (true≢false (sym (rises_of (to - from) from (omega arith) (λ j a b.
+          let k : j - from < n = omega arith in
+          let z : get_or (range_with_len from n) (j - from) 0 ≡ j = omega (arith, get_or-range_with_len from n (j - from) 0 k) in
+          sym (ap rises_at z) ∙ all_at rises_at (range_with_len from n) 0 (sym (list_all_is rises_at (range_with_len from n)) ∙ f) (j - from) (omega (arith, length-range_with_len from n)))) ∙ q))
+      not_held q false f = refl
+
+      pick : (b : Bool) → Rises from ≡ b → list_all rises_at (range_with_len from n) ≡ b
+      pick true q = held q
+      pick false q = not_held q _ refl
 
 -- ---- values listed
 
@@ -204,6 +240,20 @@ module _ {T : List ℕ} {from to s m : ℕ} {marks : List ℕ} {count i : ℕ} (
   all_counted h D O L W =
       let z : to - i ≡ 0 = omega arith in
       I.counted ∙ ap length (sym (ap (λ (n : ℕ). intern I.known (others s (map (edge_at (columns D O L T W) s) (span i n)))) z) ∙ I.rest D O L W)
+
+-- an entry of the part of a list from a to b, which is from `from` to `to`
+pub part_at : (T : List ℕ) (from to a b k : ℕ) → a ≡ from → b ≡ to → k < length (take (b - a) (drop a T)) → (from + k < to) × (get_or (take (b - a) (drop a T)) k 0 ≡ get_or T (from + k) 0)
+part_at T from to a b k p q = rw (p, q) (λ h.
+    let l = length-take (to - from) (drop from T) in
+    let n : k < to - from = omega (arith, l, h) in
+    (omega arith, get_or-take (to - from) (drop from T) k 0 n ∙ get_or-drop from T k 0))
+
+-- its length
+pub part_length : (T : List ℕ) (from to a b k : ℕ) → a ≡ from → b ≡ to → to ≤ length T → length (take (b - a) (drop a T)) ≤ k → to ≤ from + k
+part_length T from to a b k p q u = rw (p, q) (λ h.
+    let l = length-take (to - from) (drop from T) in
+    let d = length-drop from T in
+    omega (arith, l, d, h, u))
 
 -- no mark yet
 pub unmarked : (n x : ℕ) → get_or {A = ℕ} (replicate n 0) x 0 ≤ 0

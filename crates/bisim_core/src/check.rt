@@ -13,7 +13,6 @@ use crate::ids::single;
 use crate::wlts::{Shape, Wlts, starts_outside};
 use numbers::bounds::Bounds;
 use numbers::{GREATEST_JOINED, LEAST_WEIGHT};
-use std::ops::Range;
 
 // ---- check 3
 
@@ -48,30 +47,16 @@ fn steady(model: &Wlts) -> bool
     offsets.is_sorted()
 }
 
-// By label id, then target.
-fn follows(label: u32, target: u32, next_label: u32, next_target: u32) -> bool
-    ensures { result ≡ (ltb label next_label || (eqb label next_label && ltb target next_target)) }
-{
-    label < next_label || (label == next_label && target < next_target)
-}
-
-// The edges of state s rise strictly.
+// The edges of state s rise strictly: by label id, then target.
 fn row_rises(model: &Wlts, s: usize) -> bool
     requires { (s + 1 < length model.now.offsets.now) × (begins (columns_of model.now) s ≤ begins (columns_of model.now) (s + 1)) × (begins (columns_of model.now) (s + 1) ≤ length model.now.edge_labels.now) × (begins (columns_of model.now) (s + 1) ≤ length model.now.edge_targets.now) }
     ensures { result ≡ rises (row (columns_of model.now) s) }
 {
     let labels = model.edge_labels;
     let targets = model.edge_targets;
-    let Range {
-        start: from,
-        end: to,
-    } = model.row(s);
-    for i in from..to.saturating_sub(1) {
-        if !follows(labels[i], targets[i], labels[i + 1], targets[i + 1]) {
-            return false;
-        }
-    }
-    true
+    let edges = model.row(s);
+    (edges.start..edges.end.saturating_sub(1))
+        .all(|i| (labels[i], targets[i]) < (labels[i + 1], targets[i + 1]))
 }
 
 fn rows_rise(model: &Wlts) -> bool
@@ -147,15 +132,11 @@ fn count_others(model: &Wlts, s: usize, marks: &mut [u32]) -> usize
     requires { (s + 1 < length model.now.offsets.now) × (begins (columns_of model.now) s ≤ begins (columns_of model.now) (s + 1)) × (begins (columns_of model.now) (s + 1) ≤ length model.now.edge_targets.now) × (s < length marks.old) × (length marks.old ≤ 2000) × (((i : ℕ) → i < begins (columns_of model.now) (s + 1) → get_or model.now.edge_targets.now i 0 < length marks.old)) × (((x : ℕ) → get_or marks.old x 0 ≤ s)) }
     ensures { (result ≡ length (distinct (others s (row (columns_of model.now) s)))) × (((x : ℕ) → get_or marks.new x 0 ≤ s + 1)) }
 {
-    let Range {
-        start: from,
-        end: to,
-    } = model.row(s);
     let mark = s as u32 + 1;
     marks[s] = mark;
     let mut count = 0;
-    for i in from..to {
-        let t = model.edge_targets[i] as usize;
+    for target in &model.edge_targets[model.row(s)] {
+        let t = *target as usize;
         if marks[t] != mark {
             marks[t] = mark;
             count += 1;
