@@ -5,8 +5,6 @@ ghost use Rattle.card_layout.specs.Layout;
 
 use card_layout::column;
 
-const LINE_FEED: u8 = 10;
-
 // A line of numbers, stored at `at`.
 pub(crate) fn put_line(out: &mut [u8], at: usize, row: &[u32])
     requires { at + 6 * length row.now + 1 ≤ length out.old }
@@ -17,5 +15,5 @@ pub(crate) fn put_line(out: &mut [u8], at: usize, row: &[u32])
         out[p..p + 6].copy_from_slice(&column(*n));
         p += 6;
     }
-    out[p] = LINE_FEED;
+    out[p] = b'\n';
 }
