@@ -4,6 +4,7 @@ ghost use Rattle.std.specs.Prelude.{◌≡◌};
 use flow_links::rows::Rows;
 
 // The rows of a run, how much flow a test needs, and how much is plenty, if any is.
+// Stays: a parameter of its own beside Memory, since both as one struct lent by &mut would have each contract promise too that the terms are kept.
 #[derive(Clone, Copy)]
 pub(crate) struct Terms<'a> {
     pub(crate) rows: Rows<'a>,
