@@ -1,4 +1,4 @@
-use Rattle.std.proofs.Common.{◌≡◌, refl, sym, ap, ◌∙◌, ℕ, ◌≤◌, ◌/◌, ◌%◌, List, length, get_or, arith}
+use Rattle.std.proofs.Common.{◌≡◌, refl, sym, ap, ◌∙◌, ℕ, ◌≤◌, ◌/◌, ◌%◌, List, length, arith}
 use Rattle.bisim_edges.proofs.Crowds.{source_at, target_at, crowding, Ready, ready_same, ready_new, leads_read, crowd_self, crowd_more, crowd_found, crowd_none}
 use Rattle.bisim_edges.proofs.crowd.crowded.Goals.{then-s-state, else-s-state, else-leads-via-then-leads+else-not-add, else-leads-via-else-leads}
 use Rattle.bisim_edges.proofs.crowd.crowded.Goals as goal
