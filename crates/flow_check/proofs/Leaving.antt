@@ -1,5 +1,5 @@
 -- The links that leave a node, cut out of the list.
-use mathlib.Core.Path.{◌≡◌, ◌∙◌}
+use mathlib.Core.Path.{◌≡◌}
 use mathlib.Core.Bool.{◌&&◌, cond, and-false}
 use mathlib.Core.Logic.{inl, inr}
 use mathlib.Core.List.{List, []}

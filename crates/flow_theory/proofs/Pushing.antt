@@ -1,7 +1,6 @@
 -- One turn of the loops along a path: the least capacity, and the push.
 use mathlib.Core.Path.{◌≡◌, sym, ap, ◌∙◌}
-use mathlib.Core.Bool.{Bool, true, false}
-use Prim.Native.Nat.{ℕ, suc, ◌+◌, ◌≤◌, ◌<◌}
+use Prim.Native.Nat.{ℕ, ◌+◌, ◌≤◌, ◌<◌}
 use mathlib.Core.List.{List}
 use native.Mathlib.Omega.{arith}
 use native.Mathlib.Numerals.{add-one}
@@ -9,7 +8,7 @@ use lib.ListN.{length, get_or, set, drop, length-set, drop_of_length-le}
 use lib.Seq.{drop-cons}
 use Rattle.std.proofs.lemmas.List.{get_or_past}
 use lib.Ieee.{Float, binary64, nan, lt, add, sub}
-use Rattle.numbers.specs.Choice.{choose, smaller}
+use Rattle.numbers.specs.Choice.{smaller}
 use Rattle.flow_theory.specs.Network.{rev, left}
 use Rattle.flow_theory.specs.Augment.{least, push_link, push_path}
 

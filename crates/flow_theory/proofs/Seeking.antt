@@ -5,7 +5,6 @@ use Prim.Native.Nat.{ℕ, zero, suc, ◌+◌, ◌-◌, ◌≤◌, ◌<◌}
 use mathlib.Core.List.{List}
 use native.Mathlib.Omega.{arith}
 use native.Mathlib.Nat.{le_refl}
-use native.Mathlib.Numerals.{add-one}
 use lib.ListN.{length, get_or, set, take, drop}
 use lib.Seq.{get_or-set_same, set-get_or, set-set}
 use Rattle.numbers.specs.Lists.{In}
