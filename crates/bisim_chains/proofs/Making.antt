@@ -10,7 +10,7 @@ use lib.Seq.{take_at, drop_at, take_all, length-take-le}
 use borrow.Author.Tests.{eq-eqb}
 use Rattle.std.specs.Prelude.{Option, Some, None, Result, Ok, Err}
 use Rattle.std.specs.Option.{is_some}
-use Rattle.std.specs.Result.{IsErrAnd}
+use Rattle.std.specs.Result.{IsErrAnd, is_ok}
 use Rattle.numbers.specs.Lists.{over}
 use Rattle.numbers.specs.Refuse
 use Rattle.numbers.specs.Refuse.{numbered, answered}
@@ -32,7 +32,7 @@ use Rattle.normalise.specs.Outcome.{scaling}
 use Rattle.bisim_checks.proofs.Passed.{Side, passed}
 use Rattle.distance_theory.specs.Refusal.{bisim_refusal}
 use Rattle.distance_theory.specs.declared.MetricOptions.{MetricOptions}
-use Rattle.bisim_chains.specs.Made.{rate_of, Made, made, made_of, made_if, bisim_made}
+use Rattle.bisim_chains.specs.Made.{Made, made, made_of, made_if, bisim_made}
 
 -- ---- a list over another
 
@@ -60,6 +60,10 @@ module _ (a d : List Float) (n : ℕ) (p : length a ≡ n) where
 
   pub put_back : (l : List Float) → length l ≡ n → l ++ drop (n - 0) (over a d) ≡ over l d
   put_back l e = let z : n - 0 ≡ length l = omega arith in ap (λ (k : ℕ). l ++ drop k (over a d)) z ∙ over_same l a d (e ∙ sym p)
+
+or_that : Float → Result Float ℕ → Float
+or_that x (Ok y) = y
+or_that x (Err n) = x
 
 -- ---- one side
 
@@ -105,9 +109,17 @@ module _ {SL : Shape} {ML : Columns} {s : ℕ} {seenL : List Float} {CL : ChainC
   abbrev q : Float
   q = common_rate L R
 
-  pub rate_is : (x : Result Float ℕ) (y : Float) → x ≡ rated SL ML SR MR → y ≡ rate_of x → y ≡ q
+  rated_so : rated SL ML SR MR ≡ Ok q
   unfolding rated
-  rate_is x y e f = f ∙ ap rate_of (e ∙ ap (λ (k : ℕ). answered k q) (sym (models_number SL ML SR MR 0 0 0 (sym P.model_passes) (sym Q.model_passes) refl)))
+  rated_so = ap (λ (k : ℕ). answered k q) (sym (models_number SL ML SR MR 0 0 0 (sym P.model_passes) (sym Q.model_passes) refl))
+
+  pub rate_is : (y : Float) → Ok y ≡ rated SL ML SR MR → y ≡ q
+  unfolding or_that common_rate
+  rate_is y e = ap (or_that q) (e ∙ rated_so)
+
+  -- so it is not refused
+  pub not_refused : (n : ℕ) → Err n ≡ rated SL ML SR MR → ⊥
+  not_refused n e = true≢false (ap is_ok (sym (e ∙ rated_so)))
 
   abbrev A : Chain
   A = uniformise L q seenL s

@@ -1,6 +1,5 @@
 -- The chains that `bisim_distance` runs, in the lists lent for them, or the number of the first check that fails.
 use Rattle.std.specs.Prelude.{ℕ, zero, suc, List, length, take, Float, Result, Ok, Err}
-use Rattle.numbers.specs.Real.{nought}
 use Rattle.bisim_core.specs.Data.{Edge, Columns}
 use Rattle.bisim_core.specs.declared.wlts.Shape.{Shape}
 use Rattle.bisim_core.specs.Model.{model}
@@ -10,11 +9,6 @@ use Rattle.chain_theory.specs.declared.ChainShape.{ChainShape}
 use Rattle.chains.specs.Outcome.{laid}
 use Rattle.distance_theory.specs.Refusal.{bisim_refusal}
 use Rattle.distance_theory.specs.declared.MetricOptions.{MetricOptions}
-
--- the rate; 0 behind a refusal
-abbrev pub rate_of : Result Float ℕ → Float
-rate_of (Ok q) = q
-rate_of (Err r) = nought
 
 -- the counts and initial states of both chains, and the lists
 pub record Made : Type 0 where

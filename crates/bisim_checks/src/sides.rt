@@ -8,21 +8,13 @@ ghost use Rattle.bisim_checks.specs.Rest.{of_rest};
 ghost use Rattle.bisim_checks.specs.Sides.{beside_refusal, side_refusal};
 
 use crate::rest::{Rest, rest_refusal};
-use bisim_core::ids::StateId;
-use bisim_core::wlts::{Shape, Wlts};
+use bisim_core::wlts::Shape;
 use chain_theory::{ChainStore, OBSERVATIONS};
 use chains::checks::cramped;
+use chains::observed::Observed;
 use numbers::refusal::Refusal;
 use parts::refusals::earlier;
 use parts::starts::absent;
-
-// A model, a state of it, and an observation of each state.
-#[derive(Clone, Copy, Debug)]
-pub struct Observed<'a> {
-    pub model: Wlts<'a>,
-    pub state: StateId,
-    pub observations: &'a [f64],
-}
 
 // Turned back with the first check that fails of what is lent beside a model, of its initial state and of its observations.
 fn beside_refusal(shape: Shape, observations: &[f64], store: &ChainStore) -> Result<(), Refusal>
@@ -51,6 +43,7 @@ pub fn side_refusal(side: &Observed, store: &ChainStore) -> Result<(), Refusal>
 }
 
 // The same of the arguments of `bisim_distance`, over both models and the rest.
+// Stays: a side and the store for its chain as one struct is refused where exports makes it: 'a struct holds at one lifetime parameter two references at two lifetimes of the signature'.
 pub fn bisim_refusal(
     left: &Observed,
     left_store: &ChainStore,

@@ -7,15 +7,16 @@ ghost use Rattle.distance_theory.specs.Lent.{SameScratch};
 ghost use Rattle.distance_theory.specs.Outcome.{ends, chains_end, bisim_distance};
 ghost use Rattle.distance.specs.Measuring.{memory};
 
-use bisim_checks::sides::Observed;
 use bisim_measure::measure::measure;
 use chain_theory::ChainStore;
+use chains::observed::Observed;
 use distance::entry::hand_out;
 use distance_theory::lent::Scratch;
 use distance_theory::{Distance, Goal, PairContribution};
 use numbers::refusal::Refusal;
 
 // The distance of a state of one model to a state of another: that of their chains at the common rate, from these states, with observations scaled together. Or the first check that fails. The lists lent for the chains are scratch too.
+// Stays: a side and the store for its chain as one struct is refused where exports makes it: 'a struct holds at one lifetime parameter two references at two lifetimes of the signature'.
 pub fn bisim_distance(
     left: &Observed,
     left_chain: &mut ChainStore,

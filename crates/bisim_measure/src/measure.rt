@@ -11,8 +11,8 @@ ghost use Rattle.bisim_measure.specs.Measure.{measuring, bisim_measure};
 
 use bisim_chains::make::make_chains;
 use bisim_checks::rest::Rest;
-use bisim_checks::sides::Observed;
 use chain_theory::{Chain, ChainShape, ChainStore};
+use chains::observed::Observed;
 use distance_run::run::run;
 use distance_run::scratch::{clear_masses, clear_states};
 use distance_theory::Goal;
@@ -69,6 +69,7 @@ fn run_chains(
 }
 
 // Two models measured: a refusal of the arguments leaves all as it was; else the chains are made and run, and every list is all zero.
+// Stays: a side and the store for its chain as one struct is refused where exports makes it: 'a struct holds at one lifetime parameter two references at two lifetimes of the signature'.
 pub fn measure(
     left: &Observed,
     left_chain: &mut ChainStore,

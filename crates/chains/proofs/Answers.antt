@@ -11,7 +11,8 @@ use lib.ListN.{length, take, drop}
 use lib.Seq.{length-take-le}
 use borrow.Author.Tests.{ltb-false, eq-eqb, ne_eqb}
 use Rattle.std.specs.Prelude.{Some, None, Result, Ok, Err}
-use Rattle.std.specs.Result.{IsErrAnd, is_err}
+use Rattle.std.specs.Option.{is_some}
+use Rattle.std.specs.Result.{IsErrAnd, result_ok}
 use Rattle.numbers.specs.Refuse
 use Rattle.numbers.specs.Refuse.{check, code, numbered, answered}
 use Rattle.numbers.specs.declared.refusal.Refusal.{Refusal}
@@ -144,13 +145,13 @@ module _ (S : Shape) (M : Columns) (q : Float) (seen : List Float) (s : StateId)
 
 -- ---- `lay_chain`: which answer is due
 
-pub erred : {A : Type 0} (a : Result A Refusal) → is_err a ≡ true → code a ≢ 0
-erred (Ok x) h e = absurd (false≢true h)
+pub erred : {A : Type 0} (a : Result A Refusal) → None ≡ result_ok a → code a ≢ 0
+erred (Ok x) h e = absurd (false≢true (ap is_some h))
 erred (Err r) h e = number_positive r e
 
-pub passed_by : {A : Type 0} (a : Result A Refusal) → is_err a ≡ false → code a ≡ 0
-passed_by (Ok x) h = refl
-passed_by (Err r) h = absurd (true≢false h)
+pub passed_by : {A : Type 0} (x : A) (a : Result A Refusal) → Some x ≡ result_ok a → code a ≡ 0
+passed_by x (Ok y) h = refl
+passed_by x (Err r) h = absurd (true≢false (ap is_some h))
 
 module _ (S : Shape) (M : Columns) (q : Float) (seen : List Float) (i : ℕ) (C : ChainColumns) (m : ℕ) (e : m ≡ model_refusal S M) where
   abbrev chain : Chain

@@ -11,9 +11,9 @@ ghost use Rattle.chain_theory.specs.Lent.{of_store, SameLists};
 ghost use Rattle.chains.specs.Outcome;
 
 use crate::checks::{cramped, uniformise_refusal};
+use crate::observed::Observed;
 use crate::rates::greatest_exit;
 use crate::rows::make_rows;
-use bisim_core::ids::StateId;
 use bisim_core::wlts::Wlts;
 use chain_theory::{ChainShape, ChainStore};
 use numbers::larger;
@@ -39,29 +39,24 @@ pub fn common_rate(left: &Wlts, right: &Wlts) -> Result<f64, Refusal>
 }
 
 // The chain of an accepted model in lists that are long enough.
-fn lay(
-    model: &Wlts,
-    rate: f64,
-    observations: &[f64],
-    initial: StateId,
-    store: &mut ChainStore,
-) -> ChainShape
-    requires accepted { Accepted model.now.shape (columns_of model.now) }
-    requires room { Check.cramped model.now.shape.states model.now.shape.edges (length observations.now) (of_store store.old) ≡ false }
-    ensures laid_out { Outcome.LaidOut (Chain.uniformise (Model.model model.now.shape (columns_of model.now)) rate observations.now initial.0) result (of_store store.old) (of_store store.new) }
+fn lay(observed: &Observed, rate: f64, store: &mut ChainStore) -> ChainShape
+    requires accepted { Accepted observed.now.model.shape (columns_of observed.now.model) }
+    requires room { Check.cramped observed.now.model.shape.states observed.now.model.shape.edges (length observed.now.observations.now) (of_store store.old) ≡ false }
+    ensures laid_out { Outcome.LaidOut (Chain.uniformise (Model.model observed.now.model.shape (columns_of observed.now.model)) rate observed.now.observations.now observed.now.state.0) result (of_store store.old) (of_store store.new) }
     ensures same_lists { SameLists store.old store.new }
 {
-    let states = model.shape.states;
-    store.observations[0..states].copy_from_slice(&observations[..states]);
-    let entries = make_rows(model, rate, store);
+    let states = observed.model.shape.states;
+    store.observations[0..states].copy_from_slice(&observed.observations[..states]);
+    let entries = make_rows(&observed.model, rate, store);
     ChainShape {
         states,
         entries,
-        initial,
+        initial: observed.state,
     }
 }
 
 // The chain of a model at a rate, with an observation of each state, in the lists that are lent. The entries past it are as they were, and so are the lists after a refusal.
+// Stays: the state of the chain is the model's initial one, so that an `Observed` would name a second.
 pub fn uniformise(
     model: &Wlts,
     rate: f64,
@@ -72,26 +67,23 @@ pub fn uniformise(
     ensures same_lists { SameLists store.old store.new }
 {
     uniformise_refusal(model, rate, observations, store)?;
-    let initial = start(model.shape.initial);
-    Ok(lay(model, rate, observations, initial, store))
+    let state = start(model.shape.initial);
+    let observed = Observed {
+        model: *model,
+        state,
+        observations,
+    };
+    Ok(lay(&observed, rate, store))
 }
 
 // The chain of a model at a rate from a state, as `uniformise` makes it, whatever the rate, the state and the observations. None, and the lists as they were, where the model is refused or a list is short.
-pub fn lay_chain(
-    model: &Wlts,
-    rate: f64,
-    observations: &[f64],
-    initial: StateId,
-    store: &mut ChainStore,
-) -> Option<ChainShape>
-    ensures outcome { Outcome.laying result (of_store store.new) ≡ Outcome.lay_chain model.now.shape (columns_of model.now) rate observations.now initial.0 (of_store store.old) }
+pub fn lay_chain(observed: &Observed, rate: f64, store: &mut ChainStore) -> Option<ChainShape>
+    ensures outcome { Outcome.laying result (of_store store.new) ≡ Outcome.lay_chain observed.now.model.shape (columns_of observed.now.model) rate observed.now.observations.now observed.now.state.0 (of_store store.old) }
     ensures same_lists { SameLists store.old store.new }
 {
-    if model.check().is_err() {
+    observed.model.check().ok()?;
+    if cramped(observed.model.shape, observed.observations, store) {
         return None;
     }
-    if cramped(model.shape, observations, store) {
-        return None;
-    }
-    Some(lay(model, rate, observations, initial, store))
+    Some(lay(observed, rate, store))
 }

@@ -39,6 +39,7 @@ pub fn cramped(shape: Shape, observations: &[f64], store: &ChainStore) -> bool
 }
 
 // Turned back with the first check that fails.
+// Stays: the state of the chain is the model's initial one, so that an `Observed` would name a second.
 pub(crate) fn uniformise_refusal(
     model: &Wlts,
     rate: f64,

@@ -32,7 +32,6 @@ fn make_row(model: &Wlts, s: usize, rate: f64, targets: &mut [u32], probs: &mut 
     let stay = 1.0 - exit_rate(model, s) / rate;
     if stay > MARGIN {
         entries.add(s as u32, stay);
-        return entries.len;
     }
     entries.len
 }

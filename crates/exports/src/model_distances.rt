@@ -10,11 +10,11 @@ ghost use Rattle.exports.specs.Distances;
 ghost use Rattle.exports.specs.Distances.{options};
 
 use crate::distances::metric_options;
-use bisim_checks::sides::Observed;
 use bisim_core::ids::StateId;
 use bisim_core::wlts::Wlts;
 use bisim_distance::entry::bisim_distance;
 use chain_theory::ChainStore;
+use chains::observed::Observed;
 use distance_replies::put_distance;
 use distance_theory::lent::Scratch;
 use distance_theory::{Goal, PairContribution};

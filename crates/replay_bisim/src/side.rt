@@ -1,6 +1,6 @@
 // A model in the text, with its state, its observations and how much is lent for its chain.
-use bisim_checks::sides::Observed;
 use bisim_core::ids::StateId;
+use chains::observed::Observed;
 use replay_measures::asked;
 use replay_measures::asked::ChainRooms;
 use replay_text::columns::{Column, Model};

@@ -20,4 +20,4 @@ lay-requires-clause-room c =
 
 pub returns-clause-outcome : goal.returns-clause-outcome
 returns-clause-outcome c =
-    answer_made c.args.model.now.shape (columns_of c.args.model.now) c.args.rate c.args.observations.now (of_store c.args.store.now) _ c.in_ok-uniformise_refusal.ensures refl _ _ (from c.args.model.now.shape (columns_of c.args.model.now) c.args.rate c.args.observations.now (of_store c.args.store.now) _ c.in_ok-uniformise_refusal.ensures c.start-initial.ensures c.lay.ensures.laid_out)
+    answer_made c.args.model.now.shape (columns_of c.args.model.now) c.args.rate c.args.observations.now (of_store c.args.store.now) _ c.in_ok-uniformise_refusal.ensures refl _ _ (from c.args.model.now.shape (columns_of c.args.model.now) c.args.rate c.args.observations.now (of_store c.args.store.now) _ c.in_ok-uniformise_refusal.ensures c.start-state.ensures c.lay.ensures.laid_out)
