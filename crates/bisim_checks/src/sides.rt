@@ -14,7 +14,6 @@ use chains::checks::cramped;
 use chains::observed::Observed;
 use numbers::refusal::Refusal;
 use parts::refusals::earlier;
-use parts::starts::absent;
 
 // Turned back with the first check that fails of what is lent beside a model, of its initial state and of its observations.
 fn beside_refusal(shape: Shape, observations: &[f64], store: &ChainStore) -> Result<(), Refusal>
@@ -23,7 +22,7 @@ fn beside_refusal(shape: Shape, observations: &[f64], store: &ChainStore) -> Res
     if cramped(shape, observations, store) {
         return Err(Refusal::Store);
     }
-    if absent(shape.initial) {
+    if shape.initial.is_none() {
         return Err(Refusal::NoInitialState);
     }
     if !OBSERVATIONS.hold_all(&observations[..shape.states]) {

@@ -11,7 +11,6 @@ use chain_theory::{ChainStore, OBSERVATIONS};
 use numbers::bounds::Bounds;
 use numbers::refusal::Refusal;
 use numbers::{GREATEST_RATE, LEAST_WEIGHT};
-use parts::starts::absent;
 
 // What a rate may be.
 const RATES: Bounds = Bounds {
@@ -52,7 +51,7 @@ pub(crate) fn uniformise_refusal(
     if cramped(model.shape, observations, store) {
         return Err(Refusal::Store);
     }
-    if absent(model.shape.initial) {
+    if model.shape.initial.is_none() {
         return Err(Refusal::NoInitialState);
     }
     if !RATES.hold(rate) {

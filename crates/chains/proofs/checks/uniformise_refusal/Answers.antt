@@ -16,21 +16,21 @@ pub returns-then-cramped : goal.returns-then-cramped
 returns-then-cramped c =
     refused_7 c.args.model.now.shape (columns_of c.args.model.now) c.args.rate c.args.observations.now (of_store c.args.store.now) _ c.in_ok-check.ensures refl (sym c.cramped.ensures ∙ c.if-cramped.true)
 
-pub returns-then-absent : goal.returns-then-absent
-returns-then-absent c =
-    refused_8 c.args.model.now.shape (columns_of c.args.model.now) c.args.rate c.args.observations.now (of_store c.args.store.now) _ c.in_ok-check.ensures refl (sym c.cramped.ensures ∙ c.if-cramped.false) (sym c.absent.ensures ∙ c.if-absent.true)
+pub returns-then-is_none : goal.returns-then-is_none
+returns-then-is_none c =
+    refused_8 c.args.model.now.shape (columns_of c.args.model.now) c.args.rate c.args.observations.now (of_store c.args.store.now) _ c.in_ok-check.ensures refl (sym c.cramped.ensures ∙ c.if-cramped.false) (ap not (c.is_none.ensures ∙ ap not c.if-is_none.true))
 
 pub returns-then-not-hold : goal.returns-then-not-hold
 returns-then-not-hold c =
-    refused_11 c.args.model.now.shape (columns_of c.args.model.now) c.args.rate c.args.observations.now (of_store c.args.store.now) _ c.in_ok-check.ensures refl (sym c.cramped.ensures ∙ c.if-cramped.false) (sym c.absent.ensures ∙ c.if-absent.false)
+    refused_11 c.args.model.now.shape (columns_of c.args.model.now) c.args.rate c.args.observations.now (of_store c.args.store.now) _ c.in_ok-check.ensures refl (sym c.cramped.ensures ∙ c.if-cramped.false) (ap not (c.is_none.ensures ∙ ap not c.if-is_none.false))
     (ap not (sym c.hold.ensures ∙ c.if-not-hold.true))
 
 pub returns-then-not-hold_all : goal.returns-then-not-hold_all
 returns-then-not-hold_all c =
-    refused_12 c.args.model.now.shape (columns_of c.args.model.now) c.args.rate c.args.observations.now (of_store c.args.store.now) _ c.in_ok-check.ensures refl (sym c.cramped.ensures ∙ c.if-cramped.false) (sym c.absent.ensures ∙ c.if-absent.false)
+    refused_12 c.args.model.now.shape (columns_of c.args.model.now) c.args.rate c.args.observations.now (of_store c.args.store.now) _ c.in_ok-check.ensures refl (sym c.cramped.ensures ∙ c.if-cramped.false) (ap not (c.is_none.ensures ∙ ap not c.if-is_none.false))
     (ap not (sym c.hold.ensures ∙ c.if-not-hold.false)) (ap not (sym c.hold_all.ensures ∙ c.if-not-hold_all.true))
 
 pub returns : goal.returns
 returns c =
-    refused_none c.args.model.now.shape (columns_of c.args.model.now) c.args.rate c.args.observations.now (of_store c.args.store.now) _ c.in_ok-check.ensures refl (sym c.cramped.ensures ∙ c.if-cramped.false) (sym c.absent.ensures ∙ c.if-absent.false)
+    refused_none c.args.model.now.shape (columns_of c.args.model.now) c.args.rate c.args.observations.now (of_store c.args.store.now) _ c.in_ok-check.ensures refl (sym c.cramped.ensures ∙ c.if-cramped.false) (ap not (c.is_none.ensures ∙ ap not c.if-is_none.false))
     (ap not (sym c.hold.ensures ∙ c.if-not-hold.false)) (ap not (sym c.hold_all.ensures ∙ c.if-not-hold_all.false))
