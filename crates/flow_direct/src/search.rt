@@ -26,7 +26,7 @@ pub(crate) struct Search<'a> {
 }
 
 // The first number below n that passes: each is tried, from the last down.
-// Stays: by `(0..n).find` relations took 1.22 times as long, with 2 % fewer instructions, and 1.13 times with tests by `&&` (two models of 40 states with 10 jumps each): where a search ends is seldom foretold.
+// Stays: by `(0..n).find` relations took 1.22 times as long, with 2 % fewer instructions, and 1.13 times with tests by `&&` (two models of 40 states with 10 jumps each, this code built by rustc): where a search ends is seldom foretold.
 fn first<F: Fn(usize) -> bool>(n: usize, test: F) -> Option<usize>
     requires { (j : ℕ) → j < n → F.pre test j }
     ensures { MatchOption result ((k : ℕ) → k < n → F.post test k false) (λ i. (i < n) × F.post test i true × ((k : ℕ) → k < i → F.post test k false)) }
