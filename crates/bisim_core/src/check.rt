@@ -55,8 +55,8 @@ fn row_rises(model: &Wlts, s: usize) -> bool
     let labels = model.edge_labels;
     let targets = model.edge_targets;
     let edges = model.row(s);
-    (edges.start..edges.end.saturating_sub(1))
-        .all(|i| (labels[i], targets[i]) < (labels[i + 1], targets[i + 1]))
+    (edges.start..edges.end.saturating_sub(1)).all(|i| (labels[i], targets[i])
+        < (labels[i + 1], targets[i + 1]))
 }
 
 fn rows_rise(model: &Wlts) -> bool

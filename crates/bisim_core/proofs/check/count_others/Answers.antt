@@ -1,4 +1,4 @@
-use Rattle.std.proofs.Common.{◌≡◌, refl, sym, subst, ap, ◌∙◌, ℕ, ◌+◌, ◌-◌, ◌<◌, List, length, take, drop, get_or, arith}
+use Rattle.std.proofs.Common.{◌≡◌, refl, sym, subst, ap, ◌∙◌, ℕ, ◌+◌, length, get_or, arith}
 use lib.ListN.{set, length-set}
 use Rattle.bisim_core.specs.Data.{columns_of}
 use Rattle.bisim_core.specs.Ids.{distinct}
@@ -32,11 +32,13 @@ loop-target-preserved c =
     let (l, e) = part_at M.edge_targets _ _ _ _ _ c.row.ensures.0 c.row.ensures.1 c.loop-target-test.true in
     let p = c.requires.5 _ l in
     let size = c.loop-target.auto.marks ∙ length-set c.args.marks.now s (s + 1) in
-    let z : begins M s + c.loop-target.target-index + 1 ≡ begins M s + (c.loop-target.target-index + 1) = omega arith in
-    (refl, subst (λ (i : ℕ). Counting M.edge_targets (begins M s) (begins M (s + 1)) s (length (set c.args.marks.now s (s + 1))) c.if-marks-t.marks c.if-marks-t.count i) z (elim c.if-marks-t.branch [
-      | then-marks-t w ↦ turn_new I l (omega arith) (λ q. w.if-marks-t.true (ap (λ (x : ℕ). get_or marks x 0) e ∙ q)) _ _ (w.marks-is ∙ ap (λ (x : ℕ). set marks x (s + 1)) e) w.count-is
-      | else-marks-t w ↦ turn_old I l (sym (ap (λ (x : ℕ). get_or marks x 0) e) ∙ w.if-marks-t.false) _ _ w.marks-is w.count-is
-    ]))
+    let z : begins M s + c.loop-target.target-index + 1 ≡ begins M s + (c.loop-target.target-index + 1) = omega arith in (
+      refl,
+      subst (λ (i : ℕ). Counting M.edge_targets (begins M s) (begins M (s + 1)) s (length (set c.args.marks.now s (s + 1))) c.if-marks-t.marks c.if-marks-t.count i) z (elim c.if-marks-t.branch [
+        | then-marks-t w ↦ turn_new I l (omega arith) (λ q. w.if-marks-t.true (ap (λ (x : ℕ). get_or marks x 0) e ∙ q)) _ _ (w.marks-is ∙ ap (λ (x : ℕ). set marks x (s + 1)) e) w.count-is
+        | else-marks-t w ↦ turn_old I l (sym (ap (λ (x : ℕ). get_or marks x 0) e) ∙ w.if-marks-t.false) _ _ w.marks-is w.count-is
+      ]),
+    )
 
 pub shape_of-marks : goal.shape_of-marks
 shape_of-marks c = let a = c.args in c.loop-target.invariant.1.size ∙ length-set a.marks.now a.s (a.s + 1)

@@ -1,4 +1,4 @@
-use Rattle.std.proofs.Common.{rules, refl, sym, ap, ◌∙◌, ◌+◌, ◌-◌, ◌<◌, length, arith}
+use Rattle.std.proofs.Common.{rules, refl, ap, ◌∙◌, ◌+◌, ◌<◌, length, arith}
 use borrow.Author.Tests.{tests}
 use Rattle.std.proofs.lemmas.Iterator.{YieldsList-from_range, serves_from_Range}
 use Rattle.std.proofs.lemmas.Iterator.Search.{all_from_yields_List}

@@ -1,4 +1,4 @@
-use Rattle.std.proofs.Common.{◌≡◌, rules, refl, sym, ap, ◌∙◌, ℕ, ◌<◌, Bool, true, false, cond, Option, Some, None, List, length, get_or, eqb, ltb, arith}
+use Rattle.std.proofs.Common.{◌≡◌, rules, refl, sym, ◌∙◌, ℕ, ◌<◌, Bool, true, false, cond, Some, None, List, length, get_or, eqb, ltb, arith}
 use Rattle.std.specs.Option.{option_eq}
 use borrow.Author.Tests.{tests, ne_eqb, ltb-false}
 use Rattle.std.proofs.lemmas.Iterator.{YieldsList-from_range}
