@@ -1,4 +1,4 @@
-// The contributions of the pairs to the distance: covered code weighs, ranks and chooses them, and a thin function writes the records into a lent row.
+// The contributions of the pairs to the distance: they are weighed, the largest are chosen, and their records are written into a lent row.
 #![tactic(auto)]
 
 mod choice; // choice.rt: which pairs are listed

@@ -1,10 +1,9 @@
 // The contributions of the pairs as records.
 ghost use Rattle.std.specs.Prelude.{◌≡◌, true, map, ℕ, ◌≤◌, ◌<◌, length, get_or, Some};
-ghost use Rattle.numbers.specs.Lists.{all, span};
-ghost use Rattle.distance_theory.specs.Contributions.{listed};
-ghost use Rattle.distance_theory.proofs.Choosing.{Read};
+ghost use Rattle.numbers.specs.Lists.{span};
 ghost use Rattle.distance_words.specs.Told.{row};
-ghost use Rattle.distance_words.proofs.Listing.{observing, pairs_in, record_of, share_of, below, listing, listed_of};
+ghost use Rattle.distance_words.proofs.Listing.{listing};
+ghost use Rattle.distance_contributions.specs.Visited.{ReadAt, record_at, share_at, listable_in, all_in, listed_in};
 ghost use Rattle.distance_words.proofs.Listing;
 
 use crate::choice;
@@ -23,25 +22,20 @@ fn known(n: usize, states: &[u32], count: usize) -> bool
 
 // Whether the contributions of all pairs can be listed, `top` of them.
 fn listable(of: &Visited, top: usize) -> bool
-    ensures { result ≡ Listing.listable (length of.now.pairs.lefts.now) of.now.pairs.lefts.now of.now.pairs.rights.now of.now.left.now of.now.right.now of.now.spent.now top }
+    ensures { result ≡ listable_in of.now top }
 {
     let n = of.pairs.lefts.len();
-    if n <= 4096 {
-        if top <= 64 {
-            if n <= of.spent.len() {
-                if known(n, of.pairs.lefts, of.left.len()) {
-                    return known(n, of.pairs.rights, of.right.len());
-                }
-            }
-        }
-    }
-    false
+    n <= 4096
+        && top <= 64
+        && n <= of.spent.len()
+        && known(n, of.pairs.lefts, of.left.len())
+        && known(n, of.pairs.rights, of.right.len())
 }
 
 // The record of pair k.
 fn record_of(of: &Visited, k: usize) -> PairContribution
-    requires { Read of.now.pairs.lefts.now of.now.pairs.rights.now of.now.left.now of.now.right.now of.now.spent.now k }
-    ensures { result ≡ record_of of.now.pairs.lefts.now of.now.pairs.rights.now of.now.left.now of.now.right.now of.now.spent.now k }
+    requires { ReadAt of.now k }
+    ensures { result ≡ record_at of.now k }
 {
     let x = of.pairs.lefts[k];
     let y = of.pairs.rights[k];
@@ -58,8 +52,8 @@ fn record_of(of: &Visited, k: usize) -> PairContribution
 
 // The contribution of each pair.
 fn weigh(of: &Visited, shares: &mut [f64])
-    requires { (k : ℕ) → k < length shares.old → Read of.now.pairs.lefts.now of.now.pairs.rights.now of.now.left.now of.now.right.now of.now.spent.now k }
-    ensures { shares.new ≡ map (share_of of.now.pairs.lefts.now of.now.pairs.rights.now of.now.left.now of.now.right.now of.now.spent.now) (span 0 (length shares.old)) }
+    requires { (k : ℕ) → k < length shares.old → ReadAt of.now k }
+    ensures { shares.new ≡ map (share_at of.now) (span 0 (length shares.old)) }
 {
     for (k, share) in shares.iter_mut().enumerate() {
         *share = record_of(of, k).contribution;
@@ -69,8 +63,8 @@ fn weigh(of: &Visited, shares: &mut [f64])
 // The records of the chosen pairs, and zeros behind them.
 fn records_of(of: &Visited, chosen: &[u32]) -> [PairContribution; 64]
     requires chosen_len_bound { length chosen.now ≤ 64 }
-    requires by_index { (i : ℕ) → i < length chosen.now → Read of.now.pairs.lefts.now of.now.pairs.rights.now of.now.left.now of.now.right.now of.now.spent.now (get_or chosen.now i 0) }
-    ensures { result ≡ row (map (record_of of.now.pairs.lefts.now of.now.pairs.rights.now of.now.left.now of.now.right.now of.now.spent.now) chosen.now) }
+    requires by_index { (i : ℕ) → i < length chosen.now → ReadAt of.now (get_or chosen.now i 0) }
+    ensures { result ≡ row (map (record_at of.now) chosen.now) }
 {
     let mut records = nothing_listed().records;
     for (i, k) in chosen.iter().enumerate() {
@@ -81,8 +75,8 @@ fn records_of(of: &Visited, chosen: &[u32]) -> [PairContribution; 64]
 
 // The contributions of all pairs, where they can be listed.
 fn list(of: &Visited, options: MetricOptions) -> Listed
-    requires { Listing.listable (length of.now.pairs.lefts.now) of.now.pairs.lefts.now of.now.pairs.rights.now of.now.left.now of.now.right.now of.now.spent.now options.top ≡ true }
-    ensures { Some result ≡ listing true (listed (observing of.now.left.now of.now.right.now (pairs_in of.now.pairs.lefts.now of.now.pairs.rights.now (length of.now.pairs.lefts.now))) options of.now.spent.now) }
+    requires { listable_in of.now options.top ≡ true }
+    ensures { Some result ≡ listing true (all_in of.now options) }
 {
     let n = of.pairs.lefts.len();
     let mut shares = [0.0f64; 4096];
@@ -95,7 +89,7 @@ fn list(of: &Visited, options: MetricOptions) -> Listed
 
 // The contributions above 0 of at most 4,096 pairs: largest first, equal ones in discovery order, as many as the options ask for, at most 64. None where a pair lacks a state, an observation or a time.
 pub fn contributions(of: &Visited, options: MetricOptions) -> Option<Listed>
-    ensures { result ≡ listed_of (length of.now.pairs.lefts.now) of.now.pairs.lefts.now of.now.pairs.rights.now of.now.left.now of.now.right.now of.now.spent.now options }
+    ensures { result ≡ listed_in of.now options }
 {
     if listable(of, options.top) {
         Some(list(of, options))

@@ -10,7 +10,7 @@ use native.Mathlib.Omega.{arith}
 use native.Mathlib.Numerals.{add-one}
 use lib.Dec.{leb}
 use lib.ListN.{length, get_or, set, take, length-map, length-set}
-use lib.Seq.{slice, take_at}
+use lib.Seq.{take_at}
 use lib.Ieee.{Float, nan, binary64, add, sub, mul, lt}
 use borrow.Author.Tests.{leb-true, le-leb, lt-leb, not-true, not-false}
 use Rattle.numbers.specs.Real.{nought, eps}
@@ -24,9 +24,13 @@ use Rattle.chain_theory.specs.Columns.{ChainColumns, row_targets, row_rates, rea
 use Rattle.transport_theory.specs.Transport.{transport}
 use Rattle.distance_theory.specs.Pairs.{target_pair}
 use Rattle.distance_theory.specs.Couplings.{Share, share, expected, Best, fitted, point_mass, shares_of}
+use Rattle.distance_theory.specs.Lent.{Reads, Couples}
+use Rattle.distance_theory.specs.declared.lent.Store.{Store}
+use Rattle.distance_theory.specs.declared.lent.StoreMut.{StoreMut}
+use Rattle.distance_theory.specs.declared.lent.Shares.{Shares}
 use Rattle.distance_theory.proofs.Index.{look_up}
 use Rattle.distance_theory.proofs.Crossings.{cross_length}
-use Rattle.distance_theory.proofs.Held.{shares_in}
+use Rattle.distance_theory.proofs.Held.{coupling}
 use Rattle.distance_theory.proofs.Store.{rates_length, fitted_length, transport_length}
 use Rattle.distance_theory.proofs.Bests.{Look, ats, parts, independent_by, values_by, planned_by, best_by, rows_fit, cells_fit, fitting, Bested, bested, bested_as, best_if, beside, cells_few}
 use Rattle.distance_theory.proofs.PairRows.{bested_when, best_pair}
@@ -35,10 +39,13 @@ use Rattle.distance_words.proofs.Improving.{best_when, best_at, Adopted, adopted
 -- ---- a coupling for a pair
 
 -- what the coupling in the store comes to, as it is read
-pub current_is : (v : List Float) (f t : ℕ) {P p : List ℕ} {M m : List Float} {y : Float} → p ≡ P → m ≡ M → y ≡ expected v (shares_of (slice f t p) (slice f t m)) → y ≡ expected v (shares_of (slice f t P) (slice f t M))
-current_is v f t ep em e = e ∙ ap₂ (λ (u : List ℕ) (w : List Float). expected v (shares_of (slice f t u) (slice f t w))) ep em
+pub current_is : (v : List Float) (S : StoreMut) (R : Store) (k : ℕ) → Reads S R → (C : Shares) → Couples R k C → {y : Float} → y ≡ expected v (shares_of C.places.now C.masses.now) → y ≡ expected v (coupling S.starts.now S.lengths.now S.places.now S.masses.now k)
+current_is v S R k (es, el, ep, em) C (a, b) e = e ∙ rw (a, b, es, el, ep, em)
 
-module _ (x : Float) (js : List ℕ) (ms v : List Float) (k : ℕ) (s l p : List ℕ) (m : List Float) (f t : ℕ) (ef : f ≡ get_or s k 0) (et : t ≡ f + get_or l k 0) (y : Float) (ey : y ≡ expected v (shares_of (slice f t p) (slice f t m))) where
+module _ (x : Float) (js : List ℕ) (ms v : List Float) (k : ℕ) (s l p : List ℕ) (m : List Float) (y : Float) (ey : y ≡ expected v (coupling s l p m k)) where
+  abbrev f : ℕ
+  f = get_or s k 0
+
   abbrev gain : Bool
   gain = gains x v k s l p m
 
@@ -49,7 +56,7 @@ module _ (x : Float) (js : List ℕ) (ms v : List Float) (k : ℕ) (s l p : List
   adopting b = adopt_if b k (get_or s k 0) js ms l p m
 
   gain_is : lt x (sub binary64 y eps) ≡ gain
-  gain_is = ap (λ (z : Float). lt x (sub binary64 z eps)) (ey ∙ ap₂ (λ (a b : ℕ). expected v (shares_in p m a b)) ef (et ∙ ap (λ (a : ℕ). a + get_or l k 0) ef))
+  gain_is = ap (λ (z : Float). lt x (sub binary64 z eps)) ey
 
   pub no_gain : lt x (sub binary64 y eps) ≡ false → adopted false l p m ≡ adopt x js ms v k s l p m
   no_gain h = let e : gain ≡ false = sym gain_is ∙ h in ap adopting (sym e ∙ and_first _ _ e)
@@ -66,7 +73,6 @@ module _ (x : Float) (js : List ℕ) (ms v : List Float) (k : ℕ) (s l p : List
       adopts hm u w eu ew =
           ap₂ (λ (a : List ℕ) (b : List Float). adopted true (set l k (length js)) a b)
           (back_is f p u (omega arith) ∙ ap (λ (a : List ℕ). take f p ++ a) (eu ∙ ap (over js) (part_all f p))) (back_is f m w (omega arith) ∙ ap (λ (b : List Float). take f m ++ b) (ew ∙ ap (over ms) (part_all f m)))
-          ∙ ap (λ (a : ℕ). adopt_if true k a js ms l p m) ef
           ∙ ap adopting (and_second gain roomy true (sym gain_is ∙ g) (and_second _ _ _ (le-leb (get_or s k 0 + length js) (length p) (omega arith)) (sym (le-leb (get_or s k 0 + length js) (length m) (omega arith)))))
 
 -- as many lengths as before

@@ -7,31 +7,19 @@ ghost use Rattle.distance_words.proofs.Improving;
 
 use crate::adopt::adopt;
 use distance_couplings::choose::best_pair;
-use distance_theory::lent::{Best, StoreMut, Task};
+use distance_theory::lent::{Best, Shares, StoreMut, Task};
 use distance_words::told::Improvement;
 use numbers::{apart, larger};
 
-// An entry for each of n pairs.
-fn counted(
-    n: usize,
-    lefts: usize,
-    rights: usize,
-    cost: usize,
-    starts: usize,
-    lengths: usize,
-) -> bool
-    ensures { result ≡ Improving.counted n lefts rights n cost starts lengths }
+// An entry of each list for each of n pairs.
+fn counted(n: usize, task: &Task, store: &StoreMut) -> bool
+    ensures { result ≡ Improving.counted n (length task.now.pairs.lefts.now) (length task.now.pairs.rights.now) n (length task.now.cost.now) (length store.now.starts.now) (length store.now.lengths.now) }
 {
-    if n <= lefts {
-        if n <= rights {
-            if n <= cost {
-                if n <= starts {
-                    return n <= lengths;
-                }
-            }
-        }
-    }
-    false
+    n <= task.pairs.lefts.len()
+        && n <= task.pairs.rights.len()
+        && n <= task.cost.len()
+        && n <= store.starts.len()
+        && n <= store.lengths.len()
 }
 
 // Pair after pair.
@@ -55,7 +43,11 @@ fn improve_each(task: &Task, values: &[f64], store: &mut StoreMut) -> Improvemen
             residual,
             apart(task.cost[k] + task.gamma * best.value, values[k]),
         );
-        improved |= adopt(best.value, &js[..n], &ms[..n], values, k, store);
+        let shares = Shares {
+            places: &js[..n],
+            masses: &ms[..n],
+        };
+        improved |= adopt(best.value, &shares, values, k, store);
     }
     Improvement { residual, improved }
 }
@@ -66,14 +58,7 @@ pub fn improve(task: &Task, values: &[f64], store: &mut StoreMut) -> Improvement
     ensures starts { store.new.starts.now ≡ store.old.starts.now }
     ensures bettered { bettered_as result store.new ≡ improve_in task.now values.now store.old }
 {
-    if !counted(
-        values.len(),
-        task.pairs.lefts.len(),
-        task.pairs.rights.len(),
-        task.cost.len(),
-        store.starts.len(),
-        store.lengths.len(),
-    ) {
+    if !counted(values.len(), task, store) {
         return Improvement {
             residual: 0.0,
             improved: false,

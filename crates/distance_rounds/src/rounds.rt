@@ -8,7 +8,7 @@ ghost use Rattle.distance_words.proofs.Iterating.{iterated_as, iterate_in};
 
 use crate::improve::improve;
 use distance_theory::lent::{StoreMut, Task};
-use distance_values::values::sweeps;
+use distance_values::values::{Costed, sweeps};
 use distance_words::told::{Improvement, Rounds};
 use numbers::infinity;
 
@@ -16,17 +16,19 @@ use numbers::infinity;
 fn ended(step: Improvement, aim: f64) -> bool
     ensures { result ≡ (not step.improved || le step.residual aim) }
 {
-    if !step.improved {
-        return true;
-    }
-    step.residual <= aim
+    !step.improved || step.residual <= aim
 }
 
 // The values of the couplings of all pairs, to within tol or after 1,000,000 sweeps.
 fn evaluate(task: &Task, store: &StoreMut, tol: f64, value: &mut [f64]) -> bool
     ensures { valued result value.new ≡ evaluated many store.now.starts.now store.now.lengths.now store.now.places.now store.now.masses.now task.now.cost.now task.now.gamma tol value.old (length value.old) }
 {
-    sweeps(1000000, &store.read(), task.cost, task.gamma, tol, value)
+    let of = Costed {
+        store: store.read(),
+        cost: task.cost,
+        gamma: task.gamma,
+    };
+    sweeps(1000000, &of, tol, value)
 }
 
 // At most max_rounds rounds on couplings in the store: values to within tol, improvement against these, up to a round that changes no coupling or leaves no value off by more than `aim`.

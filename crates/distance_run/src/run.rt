@@ -6,17 +6,19 @@ ghost use Rattle.chain_theory.specs.Columns.{chain_columns, chain_of};
 ghost use Rattle.chain_theory.specs.Lent.{of_chain};
 ghost use Rattle.distance_theory.specs.Lent.{SamePairs, SameScratch};
 ghost use Rattle.distance_theory.specs.Outcome;
+ghost use Rattle.distance_run.specs.Asked.{ran_in, ran_on, runnable_in};
 ghost use Rattle.distance_words.specs.Told.{told_of, ran_as};
 ghost use Rattle.distance_words.proofs.Run.{ran_of};
 ghost use Rattle.distance_words.proofs.Run;
 
 use crate::found::run_found;
+use crate::question::Question;
 use crate::scratch::clear;
 use chain_check::shape::misshapen;
 use chain_theory::Chain;
 use distance_pairs::discover::discover_from;
-use distance_theory::Goal;
 use distance_theory::lent::{Pairs, PairsMut, Scratch};
+use distance_theory::{Goal, long};
 use distance_words::told::Answer;
 use numbers::refusal::Refusal;
 
@@ -42,24 +44,43 @@ fn fits(chain: &Chain) -> bool
 fn roomy(scratch: &Scratch) -> bool
     ensures { result ≡ Run.roomy (length scratch.now.lefts.now) (length scratch.now.rights.now) (length scratch.now.codes.now) }
 {
-    scratch.lefts.len() >= 4096 && scratch.rights.len() >= 4096 && scratch.codes.len() >= 4096
+    let lengths = [
+        scratch.lefts.len(),
+        scratch.rights.len(),
+        scratch.codes.len(),
+    ];
+    long(4096, &lengths)
 }
 
 // Whether the chains can be run, with these lists of pairs and so many contributions asked for.
-fn runnable(left: &Chain, right: &Chain, top: usize, scratch: &Scratch) -> bool
-    ensures { result ≡ Run.runnable left.now.shape (of_chain left.now) right.now.shape (of_chain right.now) top (length scratch.now.lefts.now) (length scratch.now.rights.now) (length scratch.now.codes.now) }
+fn runnable(of: &Question, scratch: &Scratch) -> bool
+    ensures { result ≡ runnable_in of.now (length scratch.now.lefts.now) (length scratch.now.rights.now) (length scratch.now.codes.now) }
 {
-    fits(left) && fits(right) && top <= 64 && roomy(scratch)
+    fits(&of.left) && fits(&of.right) && of.goal.options.top <= 64 && roomy(scratch)
 }
 
 // The chain, with as many observations as it has states.
-fn observed<'a>(chain: &Chain<'a>) -> Chain<'a>
+fn seen<'a>(chain: &Chain<'a>) -> Chain<'a>
     requires { chain.now.shape.states ≤ length chain.now.observations.now }
     ensures { (result.shape ≡ chain.now.shape) × (of_chain result ≡ chain_columns chain.now.offsets.now chain.now.targets.now chain.now.probs.now (take chain.now.shape.states chain.now.observations.now)) }
 {
     Chain {
         observations: &chain.observations[..chain.shape.states],
         ..*chain
+    }
+}
+
+// The same of both chains.
+fn observed<'a>(of: &Question<'a>) -> Question<'a>
+    requires { (of.now.left.shape.states ≤ length of.now.left.observations.now) × (of.now.right.shape.states ≤ length of.now.right.observations.now) }
+    ensures left { (result.left.shape ≡ of.now.left.shape) × (of_chain result.left ≡ chain_columns of.now.left.offsets.now of.now.left.targets.now of.now.left.probs.now (take of.now.left.shape.states of.now.left.observations.now)) }
+    ensures right { (result.right.shape ≡ of.now.right.shape) × (of_chain result.right ≡ chain_columns of.now.right.offsets.now of.now.right.targets.now of.now.right.probs.now (take of.now.right.shape.states of.now.right.observations.now)) }
+    ensures goal { result.goal ≡ of.now.goal }
+{
+    Question {
+        left: seen(&of.left),
+        right: seen(&of.right),
+        goal: of.goal,
     }
 }
 
@@ -80,27 +101,37 @@ fn first<'a>(pairs: &'a PairsMut, n: usize) -> Pairs<'a>
 
 // The run of chains that can be run. The lists are left as it leaves them.
 fn run_pairs(
-    left: &Chain,
-    right: &Chain,
-    goal: Goal,
+    of: &Question,
     pairs: &mut PairsMut,
     places: &mut [u32],
     masses: &mut [f64],
 ) -> Result<Answer, Refusal>
-    requires { Run.runnable left.now.shape (of_chain left.now) right.now.shape (of_chain right.now) goal.options.top (length pairs.old.lefts.now) (length pairs.old.rights.now) (length pairs.old.codes.now) ≡ true }
+    requires { runnable_in of.now (length pairs.old.lefts.now) (length pairs.old.rights.now) (length pairs.old.codes.now) ≡ true }
     ensures lists { SamePairs pairs.old pairs.new }
     ensures lengths { (length pairs.new.lefts.now ≡ length pairs.old.lefts.now) × (length pairs.new.rights.now ≡ length pairs.old.rights.now) × (length pairs.new.codes.now ≡ length pairs.old.codes.now) }
-    ensures told { numbered result ≡ told_of (Outcome.run (chain_of left.now.shape (of_chain left.now)) (chain_of right.now.shape (of_chain right.now)) goal.gamma goal.options (min (length places.old) (length masses.old))) }
+    ensures told { numbered result ≡ told_of (Outcome.run (chain_of of.now.left.shape (of_chain of.now.left)) (chain_of of.now.right.shape (of_chain of.now.right)) of.now.goal.gamma of.now.goal.options (min (length places.old) (length masses.old))) }
 {
-    let n = discover_from(left, right, pairs)?;
-    run_found(
-        &first(pairs, n),
-        &observed(left),
-        &observed(right),
-        goal,
-        places,
-        masses,
-    )
+    let n = discover_from(&of.left, &of.right, pairs)?;
+    run_found(&first(pairs, n), &observed(of), places, masses)
+}
+
+// The same as `run`, of what is asked.
+fn run_asked(of: &Question, scratch: &mut Scratch) -> Result<Answer, Refusal>
+    ensures lists { SameScratch scratch.old scratch.new }
+    ensures ran { ran_in (numbered result) scratch.new ≡ ran_on of.now scratch.old }
+{
+    if !runnable(of, scratch) {
+        return Err(Refusal::OutOfRange);
+    }
+    let mut pairs = PairsMut {
+        lefts: &mut *scratch.lefts,
+        rights: &mut *scratch.rights,
+        codes: &mut *scratch.codes,
+        count: 0,
+    };
+    let told = run_pairs(of, &mut pairs, &mut *scratch.places, &mut *scratch.masses);
+    clear(scratch);
+    told
 }
 
 // The run of two chains: refusals 17, 18, 16 and 19, or the distance and its contributions. 4 where they can't be run; the lists are then as they were, else all zero.
@@ -113,23 +144,10 @@ pub fn run(
     ensures lists { SameScratch scratch.old scratch.new }
     ensures ran { ran_as (numbered result) scratch.new.lefts.now scratch.new.rights.now scratch.new.codes.now scratch.new.places.now scratch.new.masses.now ≡ ran_of left.now.shape (of_chain left.now) right.now.shape (of_chain right.now) goal.gamma goal.options scratch.old.lefts.now scratch.old.rights.now scratch.old.codes.now scratch.old.places.now scratch.old.masses.now }
 {
-    if !runnable(left, right, goal.options.top, scratch) {
-        return Err(Refusal::OutOfRange);
-    }
-    let mut pairs = PairsMut {
-        lefts: &mut *scratch.lefts,
-        rights: &mut *scratch.rights,
-        codes: &mut *scratch.codes,
-        count: 0,
-    };
-    let told = run_pairs(
-        left,
-        right,
+    let of = Question {
+        left: *left,
+        right: *right,
         goal,
-        &mut pairs,
-        &mut *scratch.places,
-        &mut *scratch.masses,
-    );
-    clear(scratch);
-    told
+    };
+    run_asked(&of, scratch)
 }

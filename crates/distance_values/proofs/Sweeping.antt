@@ -1,11 +1,12 @@
 -- The loops of `sweeps` over rows: one share is one item of the sum, one pair one `update` of the definition, one sweep one `swept`.
-use mathlib.Core.Path.{◌≡◌, refl, sym, ap, ◌∙◌}
+use mathlib.Core.Path.{◌≡◌, refl, sym, subst, ap, ◌∙◌}
 use Prim.Native.Nat.{ℕ, suc, ◌+◌, ◌-◌, ◌≤◌, ◌<◌}
 use mathlib.Core.Bool.{true, false}
 use mathlib.Core.List.{List, [], ◌∷◌, map}
 use mathlib.Core.Logic.{◌⊎◌}
 use native.Mathlib.Omega.{arith}
 use lib.ListN.{length, get_or, set, take, drop, length-set}
+use lib.Seq.{slice}
 use lib.Ieee.{Float, nan, binary64, add, mul, le}
 use Rattle.numbers.specs.Real.{nought, sum_from, sum}
 use Rattle.numbers.specs.Choice.{larger, apart}
@@ -13,7 +14,7 @@ use Rattle.distance_theory.specs.Couplings.{Share, Metric, weighed, expected, sh
 use Rattle.distance_theory.specs.Rounds.{Values, backup, update, sweep, swept, sweeps}
 use Rattle.distance_theory.proofs.Turns.{coupling_at, no_item, sweep_next}
 use Rattle.distance_theory.proofs.Lengths.{sweeps_on, sweeps_end}
-use Rattle.distance_theory.proofs.Held.{no_shares, coupling, policy_in, Leads, leads_past, part_leads, part_shares, Holds, policy_length, policy_at}
+use Rattle.distance_theory.proofs.Held.{no_shares, coupling, policy_in, Leads, leads_past, part_is, part_leads, Holds, policy_length, policy_at}
 use Rattle.distance_theory.proofs.ValueRows.{Swept}
 use Rattle.distance_words.proofs.Valuing.{priced}
 
@@ -63,16 +64,17 @@ module _ {S L P : List ℕ} {M c : List Float} {γ : Float} {v₀ : List Float} 
     pub pair_in_lem : k < length v → k < length v₀
     pair_in_lem l = let s = I.size in omega arith
 
-    pub pair_leads : Holds S L P M (length v₀) → k < length v → let a = get_or S k 0 in let b = a + get_or L k 0 in Leads (length v) (take (b - a) (drop a P))
-    pair_leads H l = rw I.size (part_leads (H.each k (pair_in_lem l)))
+    pub pair_coupled : Holds S L P M (length v₀) → k < length v → (k < length S) × (k < length L) × (get_or S k 0 + get_or L k 0 ≤ length P) × (get_or S k 0 + get_or L k 0 ≤ length M)
+    pair_coupled H l = let h = pair_in_lem l in let e = H.each k h in let a = H.in_starts in let b = H.in_lengths in (omega arith, omega arith, e.in_places, e.in_masses)
 
-    pub sweeping_on : k < length v → {y z e : Float} → (let a = get_or S k 0 in let b = a + get_or L k 0 in y ≡ expected v (shares_of (take (b - a) (drop a P)) (take (b - a) (drop a M)))) → z ≡ apart (add binary64 (get_or c k nan) (mul binary64 γ y)) (get_or v k nan) → e ≡ larger d z
+    pub pair_leads : Holds S L P M (length v₀) → k < length v → {ps : List ℕ} {ms : List Float} → (let a = get_or S k 0 in let b = a + get_or L k 0 in (ps ≡ slice a b P) × (ms ≡ slice a b M)) → Leads (length v) ps
+    pair_leads H l (ep, em) = rw I.size (subst (Leads (length v₀)) (part_is (get_or S k 0) (get_or S k 0 + get_or L k 0) P (omega arith) ∙ sym ep) (part_leads (H.each k (pair_in_lem l))))
+
+    pub sweeping_on : k < length v → {y z e : Float} {ps : List ℕ} {ms : List Float} → (let a = get_or S k 0 in let b = a + get_or L k 0 in (ps ≡ slice a b P) × (ms ≡ slice a b M)) → y ≡ expected v (shares_of ps ms) → z ≡ apart (add binary64 (get_or c k nan) (mul binary64 γ y)) (get_or v k nan) → e ≡ larger d z
         → Sweeping S L P M c γ v₀ (set v k (add binary64 (get_or c k nan) (mul binary64 γ y))) e (k + 1)
-    sweeping_on l {y} {z} {e} p q r =
+    sweeping_on l {y} {z} {e} (ep, em) p q r =
         let h = pair_in_lem l in
         let n = policy_length S L P M (length v₀) in
-        let a = get_or S k 0 in
-        let b = a + get_or L k 0 in
         record {
           ends = omega arith;
           size = length-set v k (add binary64 (get_or c k nan) (mul binary64 γ y)) ∙ I.size;
@@ -81,7 +83,7 @@ module _ {S L P : List ℕ} {M c : List Float} {γ : Float} {v₀ : List Float} 
         }
       where
         here : values (set v k (add binary64 (get_or c k nan) (mul binary64 γ y))) e ≡ update (priced γ c) k (coupling_at (policy_in S L P M (length v₀)) k) (values v d)
-        here = rw (r, q, p, part_shares P M (get_or S k 0) (get_or S k 0 + get_or L k 0) (omega arith), policy_at S L P M (length v₀) k (pair_in_lem l)) (sym (update_is (priced γ c) k (coupling S L P M k) v d))
+        here = rw (r, q, p, ep, em, policy_at S L P M (length v₀) k (pair_in_lem l)) (sym (update_is (priced γ c) k (coupling S L P M k) v d))
 
     pub sweeping_ends : length v ≤ k → Swept (swept (priced γ c) (policy_in S L P M (length v₀)) v₀) v d
     unfolding sweep

@@ -6,7 +6,7 @@ use mathlib.Core.List.{List, [], ◌∷◌}
 use mathlib.Core.Logic.{◌⊎◌}
 use native.Mathlib.Omega.{arith}
 use lib.ListN.{length, get_or, set, take, drop, replicate, length-set, length-replicate}
-use lib.Seq.{take-set-lt}
+use lib.Seq.{slice, take-set-lt}
 use lib.Ieee.{Float, nan, binary64, add, sub, mul, lt, eq, ne}
 use Rattle.numbers.specs.Real.{nought, one, eps, is_zero, sum}
 use Rattle.numbers.proofs.Parts.{take_replicate, take_replicate_length}
@@ -15,7 +15,7 @@ use Rattle.distance_theory.specs.Couplings.{Share, shares_of}
 use Rattle.distance_theory.specs.Contributions.{Visits, pour, Stay, stay, stay_all, onward, visits, depart}
 use Rattle.distance_theory.proofs.Turns.{coupling_at, no_item, stay_next}
 use Rattle.distance_theory.proofs.Lengths.{visits_on, visits_end}
-use Rattle.distance_theory.proofs.Held.{no_shares, coupling, policy_in, Leads, leads_past, part_leads, part_shares, Holds, policy_length, policy_at}
+use Rattle.distance_theory.proofs.Held.{no_shares, coupling, policy_in, Leads, leads_past, part_is, part_leads, Holds, policy_length, policy_at}
 use Rattle.distance_theory.proofs.ValueRows.{staying, Stayed, Advanced, visiting, Rested}
 
 -- ---- the shares of a coupling
@@ -63,8 +63,11 @@ module _ {S L P : List ℕ} {M : List Float} {γ : Float} {c x₀ s₀ : List Fl
 
   module _ {x s : List Float} {k : ℕ} (I : Stays S L P M γ c x₀ s₀ x s k) where
     module _ (more : k < length c) where
-      pub pair_leads : Holds S L P M (length c) → let a = get_or S k 0 in let b = a + get_or L k 0 in Leads (length x) (take (b - a) (drop a P))
-      pair_leads H = rw I.next_size (part_leads (H.each k more))
+      pub pair_coupled : Holds S L P M (length c) → (k < length S) × (k < length L) × (get_or S k 0 + get_or L k 0 ≤ length P) × (get_or S k 0 + get_or L k 0 ≤ length M)
+      pair_coupled H = let e = H.each k more in let a = H.in_starts in let b = H.in_lengths in (omega arith, omega arith, e.in_places, e.in_masses)
+
+      pub pair_leads : Holds S L P M (length c) → {ps : List ℕ} {ms : List Float} → (let a = get_or S k 0 in let b = a + get_or L k 0 in (ps ≡ slice a b P) × (ms ≡ slice a b M)) → Leads (length x) ps
+      pair_leads H (ep, em) = rw I.next_size (subst (Leads (length c)) (part_is (get_or S k 0) (get_or S k 0 + get_or L k 0) P (omega arith) ∙ sym ep) (part_leads (H.each k more)))
 
       turned : (b : Bool) → is_zero (get_or c k nan) ≡ b → (x' s' : List Float) → length x' ≡ length c → length s' ≡ length c
           → staying s' x' ≡ stay b γ (get_or c k nan) k (coupling S L P M k) (staying s x) → Stays S L P M γ c x₀ s₀ x' s' (k + 1)
@@ -86,10 +89,10 @@ module _ {S L P : List ℕ} {M : List Float} {γ : Float} {c x₀ s₀ : List Fl
       unfolding stay
       stays_over z x' s' e f = turned true (zero_unless (get_or c k nan) z) x' s' (ap length e ∙ I.next_size) (ap length f ∙ I.spent_size) (rw (e, f))
 
-      pub stays_through : ne (get_or c k nan) nought ≡ true → {y : List Float} → length y ≡ length x → (let a = get_or S k 0 in let b = a + get_or L k 0 in y ≡ pour (mul binary64 γ (get_or c k nan)) (shares_of (take (b - a) (drop a P)) (take (b - a) (drop a M))) x)
+      pub stays_through : ne (get_or c k nan) nought ≡ true → {y : List Float} → length y ≡ length x → {ps : List ℕ} {ms : List Float} → (let a = get_or S k 0 in let b = a + get_or L k 0 in (ps ≡ slice a b P) × (ms ≡ slice a b M)) → y ≡ pour (mul binary64 γ (get_or c k nan)) (shares_of ps ms) x
           → (x' s' : List Float) → x' ≡ y → s' ≡ set s k (add binary64 (get_or s k nan) (get_or c k nan)) → Stays S L P M γ c x₀ s₀ x' s' (k + 1)
       unfolding stay
-      stays_through z n p x' s' e f = turned false (zero_unless (get_or c k nan) z) x' s' (ap length e ∙ n ∙ I.next_size) (ap length f ∙ length-set s k (add binary64 (get_or s k nan) (get_or c k nan)) ∙ I.spent_size) (rw (e, f, p, part_shares P M (get_or S k 0) (get_or S k 0 + get_or L k 0) (omega arith)))
+      stays_through z n (ep, em) p x' s' e f = turned false (zero_unless (get_or c k nan) z) x' s' (ap length e ∙ n ∙ I.next_size) (ap length f ∙ length-set s k (add binary64 (get_or s k nan) (get_or c k nan)) ∙ I.spent_size) (rw (e, f, p, ep, em))
 
     pub stays_end : length c ≤ k → Stayed (stay_all γ c 0 (policy_in S L P M (length c)) (staying s₀ x₀)) s x
     unfolding stay_all

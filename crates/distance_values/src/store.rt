@@ -1,10 +1,11 @@
 // Whether the couplings in rows of numbers can be read: each in the store, and of pairs that are there.
-ghost use Rattle.std.specs.Prelude.{◌≡◌, ◌≤◌, ◌<◌, length};
+ghost use Rattle.std.specs.Prelude.{◌≡◌, ◌+◌, ◌≤◌, ◌<◌, length, get_or};
 ghost use Rattle.std.proofs.Math.Seq.{slice};
 ghost use Rattle.numbers.specs.Lists.{all};
+ghost use Rattle.distance_theory.specs.Lent.{Couples};
 ghost use Rattle.distance_words.proofs.Readable;
 
-use distance_theory::lent::Store;
+use distance_theory::lent::{Shares, Store};
 
 // Whether each of these places is below n.
 fn all_below(places: &[u32], n: usize) -> bool
@@ -14,6 +15,7 @@ fn all_below(places: &[u32], n: usize) -> bool
 }
 
 // Whether the coupling of pair k is in the store, and leads to some of n pairs.
+// Stays: whether all of it is in the store is asked of where it ends, which `Store::shares` has cut off.
 fn lies(store: &Store, n: usize, k: usize) -> bool
     requires { (k < length store.now.starts.now) × (k < length store.now.lengths.now) }
     ensures { result ≡ Readable.lies store.now.starts.now store.now.lengths.now store.now.places.now store.now.masses.now n k }
@@ -21,6 +23,20 @@ fn lies(store: &Store, n: usize, k: usize) -> bool
     let from = store.starts[k] as usize;
     let to = from + store.lengths[k] as usize;
     to <= store.places.len() && to <= store.masses.len() && all_below(&store.places[from..to], n)
+}
+
+// The coupling of pair k, all of which is in the store.
+pub(crate) fn coupling<'a>(store: &Store<'a>, k: usize) -> Shares<'a>
+    requires indexed { (k < length store.now.starts.now) × (k < length store.now.lengths.now) }
+    requires stored { (get_or store.now.starts.now k 0 + get_or store.now.lengths.now k 0 ≤ length store.now.places.now) × (get_or store.now.starts.now k 0 + get_or store.now.lengths.now k 0 ≤ length store.now.masses.now) }
+    ensures { Couples store.now k result }
+{
+    let from = store.starts[k] as usize;
+    let to = from + store.lengths[k] as usize;
+    Shares {
+        places: &store.places[from..to],
+        masses: &store.masses[from..to],
+    }
 }
 
 // Whether the coupling of each of n pairs is in the store, and leads to some of them.

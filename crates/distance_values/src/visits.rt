@@ -8,38 +8,39 @@ ghost use Rattle.distance_theory.proofs.Held.{policy_of, Leads, StoreHolds};
 ghost use Rattle.distance_theory.proofs.ValueRows.{staying, Stayed, Advanced, visiting, Rested};
 ghost use Rattle.distance_words.proofs.Valuing.{occupied_as, visited};
 
-use crate::store;
-use distance_theory::lent::Store;
+use crate::store::{coupling, held};
+use distance_theory::lent::{Shares, Store};
 use numbers::{EPS, ONE, Real};
 
+// What a round reads: the coupling of each pair, and the discount.
+#[derive(Clone, Copy, Debug)]
+pub struct Policy<'a> {
+    pub store: Store<'a>,
+    pub gamma: f64,
+}
+
 // x × mass more for each pair that the shares lead to.
-fn pour(places: &[u32], masses: &[f64], x: f64, next: &mut [f64])
-    requires { Leads (length next.old) places.now }
-    ensures { next.new ≡ Contributions.pour x (shares_of places.now masses.now) next.old }
+fn pour(shares: &Shares, x: f64, next: &mut [f64])
+    requires { Leads (length next.old) shares.now.places.now }
+    ensures { next.new ≡ Contributions.pour x (shares_of shares.now.places.now shares.now.masses.now) next.old }
 {
-    for (place, mass) in places.iter().zip(masses) {
+    for (place, mass) in shares.places.iter().zip(shares.masses) {
         next[*place as usize] += x * *mass;
     }
 }
 
 // The mass that is in a pair counts as time spent there, and goes on to the pairs that follow.
-fn stay_all(store: &Store, gamma: f64, current: &[f64], next: &mut [f64], spent: &mut [f64])
-    requires holds { StoreHolds store.now (length current.now) }
+// Stays: `current`, `next` and `spent` go through this function and `rounds` alone; a struct of them would have both of them say that its lists stay and keep their lengths, and one more function cut it.
+fn stay_all(of: &Policy, current: &[f64], next: &mut [f64], spent: &mut [f64])
+    requires holds { StoreHolds of.now.store (length current.now) }
     requires next_len { (length next.old ≡ length current.now) × (length spent.old ≡ length current.now) }
-    ensures { Stayed (Contributions.stay_all gamma current.now 0 (policy_of store.now (length current.now)) (staying spent.old next.old)) spent.new next.new }
+    ensures { Stayed (Contributions.stay_all of.now.gamma current.now 0 (policy_of of.now.store (length current.now)) (staying spent.old next.old)) spent.new next.new }
 {
-    let Store {
-        starts,
-        lengths,
-        places,
-        masses,
-    } = *store;
+    let Policy { store, gamma } = *of;
     for (k, p) in current.iter().enumerate() {
         if *p != 0.0 {
             spent[k] += *p;
-            let from = starts[k] as usize;
-            let to = from + lengths[k] as usize;
-            pour(&places[from..to], &masses[from..to], gamma * *p, next);
+            pour(&coupling(&store, k), gamma * *p, next);
         }
     }
 }
@@ -57,60 +58,49 @@ fn advance(current: &mut [f64], next: &mut [f64]) -> f64
 // Rounds while the mass is above 1e-12, at most `limit`; gives the mass that is left.
 fn rounds(
     limit: usize,
-    store: &Store,
-    gamma: f64,
+    of: &Policy,
     mass: f64,
     current: &mut [f64],
     next: &mut [f64],
     spent: &mut [f64],
 ) -> f64
-    requires holds { StoreHolds store.now (length current.old) }
+    requires holds { StoreHolds of.now.store (length current.old) }
     requires next_value { (next.old ≡ replicate (length current.old) nought) × (length spent.old ≡ length current.old) }
-    ensures { Rested (Contributions.visits gamma (policy_of store.now (length current.old)) limit (visiting spent.old current.old mass)) result spent.new }
+    ensures { Rested (Contributions.visits of.now.gamma (policy_of of.now.store (length current.old)) limit (visiting spent.old current.old mass)) result spent.new }
 {
     let mut left = mass;
     for _ in 0..limit {
         if !(left > EPS) {
             return left;
         }
-        stay_all(store, gamma, current, next, spent);
+        stay_all(of, current, next, spent);
         left = advance(current, next);
     }
     left
 }
 
 // The time spent in each of at most 4,096 pairs, from the first on; gives the mass that is left.
-fn visits_in(limit: usize, store: &Store, gamma: f64, spent: &mut [f64]) -> f64
-    requires holds { StoreHolds store.now (length spent.old) }
+fn visits_in(limit: usize, of: &Policy, spent: &mut [f64]) -> f64
+    requires holds { StoreHolds of.now.store (length spent.old) }
     requires spent_len_bound { length spent.old ≤ most }
-    ensures { Rested (Contributions.visits gamma (policy_of store.now (length spent.old)) limit (Contributions.depart gamma (length spent.old))) result spent.new }
+    ensures { Rested (Contributions.visits of.now.gamma (policy_of of.now.store (length spent.old)) limit (Contributions.depart of.now.gamma (length spent.old))) result spent.new }
 {
     let n = spent.len();
-    let p = ONE - gamma;
+    let p = ONE - of.gamma;
     let mut current = [0.0f64; 4096];
     let mut next = [0.0f64; 4096];
     current[0] = p;
     spent.fill(0.0);
-    rounds(
-        limit,
-        store,
-        gamma,
-        p,
-        &mut current[..n],
-        &mut next[..n],
-        spent,
-    )
+    rounds(limit, of, p, &mut current[..n], &mut next[..n], spent)
 }
 
 // The time spent in each of at most 4,096 pairs, each with its coupling, in at most `limit` rounds from the first pair on; gives the mass that is left. None, and nothing changes, where the couplings cannot be read.
-pub fn visits(limit: usize, store: &Store, gamma: f64, spent: &mut [f64]) -> Option<f64>
-    ensures { occupied_as result spent.new ≡ visited limit store.now.starts.now store.now.lengths.now store.now.places.now store.now.masses.now gamma spent.old (length spent.old) }
+pub fn visits(limit: usize, of: &Policy, spent: &mut [f64]) -> Option<f64>
+    ensures { occupied_as result spent.new ≡ visited limit of.now.store.starts.now of.now.store.lengths.now of.now.store.places.now of.now.store.masses.now of.now.gamma spent.old (length spent.old) }
 {
     let n = spent.len();
-    if n <= 4096 {
-        if store::held(store, n) {
-            return Some(visits_in(limit, store, gamma, spent));
-        }
+    if n > 4096 || !held(&of.store, n) {
+        return None;
     }
-    None
+    Some(visits_in(limit, of, spent))
 }

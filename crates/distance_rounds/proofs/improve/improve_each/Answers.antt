@@ -19,14 +19,14 @@ loop-k-init c = (length-replicate {A = ℕ} 1024 0, length-replicate {A = Float}
 pub slice_bounds-js-end : goal.slice_bounds-js-end
 slice_bounds-js-end c = let a = c.args in let W = worked_at a.task.now.pairs.lefts.now a.task.now.pairs.rights.now a.task.now.pairs.codes.now (of_chain a.task.now.left) (of_chain a.task.now.right) a.values.now c.loop-k.k _ _ refl refl c.loop-k.js c.loop-k.ms c.loop-k.invariant.0 c.loop-k.invariant.1 c.unwrap_or-best.result.value c.unwrap_or-best.result.cells _ _ (bested_or c.best_pair.result c.unwrap_or-best.ensures ∙ c.best_pair.ensures ((let r = c.requires.0 in let t = c.loop-k-test.true in omega arith), (let r = c.requires.1 in let t = c.loop-k-test.true in omega arith))) in let f = W.few in omega arith
 
-pub slice_bounds-adopt-end : goal.slice_bounds-adopt-end
-slice_bounds-adopt-end c = let a = c.args in let W = worked_at a.task.now.pairs.lefts.now a.task.now.pairs.rights.now a.task.now.pairs.codes.now (of_chain a.task.now.left) (of_chain a.task.now.right) a.values.now c.loop-k.k _ _ refl refl c.loop-k.js c.loop-k.ms c.loop-k.invariant.0 c.loop-k.invariant.1 c.unwrap_or-best.result.value c.unwrap_or-best.result.cells _ _ (bested_or c.best_pair.result c.unwrap_or-best.ensures ∙ c.best_pair.ensures ((let r = c.requires.0 in let t = c.loop-k-test.true in omega arith), (let r = c.requires.1 in let t = c.loop-k-test.true in omega arith))) in let f = W.few in let n = c.best_pair.auto.places in let b = c.loop-k.invariant.0 in sym (length-take-le c.unwrap_or-best.result.cells c.best_pair.new.places (omega arith))
+pub slice_bounds-shares-end : goal.slice_bounds-shares-end
+slice_bounds-shares-end c = let a = c.args in let W = worked_at a.task.now.pairs.lefts.now a.task.now.pairs.rights.now a.task.now.pairs.codes.now (of_chain a.task.now.left) (of_chain a.task.now.right) a.values.now c.loop-k.k _ _ refl refl c.loop-k.js c.loop-k.ms c.loop-k.invariant.0 c.loop-k.invariant.1 c.unwrap_or-best.result.value c.unwrap_or-best.result.cells _ _ (bested_or c.best_pair.result c.unwrap_or-best.ensures ∙ c.best_pair.ensures ((let r = c.requires.0 in let t = c.loop-k-test.true in omega arith), (let r = c.requires.1 in let t = c.loop-k-test.true in omega arith))) in let f = W.few in let n = c.best_pair.auto.places in let b = c.loop-k.invariant.0 in sym (length-take-le c.unwrap_or-best.result.cells c.best_pair.new.places (omega arith))
 
 pub slice_bounds-ms-end : goal.slice_bounds-ms-end
 slice_bounds-ms-end c = let a = c.args in let W = worked_at a.task.now.pairs.lefts.now a.task.now.pairs.rights.now a.task.now.pairs.codes.now (of_chain a.task.now.left) (of_chain a.task.now.right) a.values.now c.loop-k.k _ _ refl refl c.loop-k.js c.loop-k.ms c.loop-k.invariant.0 c.loop-k.invariant.1 c.unwrap_or-best.result.value c.unwrap_or-best.result.cells _ _ (bested_or c.best_pair.result c.unwrap_or-best.ensures ∙ c.best_pair.ensures ((let r = c.requires.0 in let t = c.loop-k-test.true in omega arith), (let r = c.requires.1 in let t = c.loop-k-test.true in omega arith))) in let f = W.few in omega arith
 
-pub slice_bounds-adopt-end-in-loop-k : goal.slice_bounds-adopt-end-in-loop-k
-slice_bounds-adopt-end-in-loop-k c = let a = c.args in let W = worked_at a.task.now.pairs.lefts.now a.task.now.pairs.rights.now a.task.now.pairs.codes.now (of_chain a.task.now.left) (of_chain a.task.now.right) a.values.now c.loop-k.k _ _ refl refl c.loop-k.js c.loop-k.ms c.loop-k.invariant.0 c.loop-k.invariant.1 c.unwrap_or-best.result.value c.unwrap_or-best.result.cells _ _ (bested_or c.best_pair.result c.unwrap_or-best.ensures ∙ c.best_pair.ensures ((let r = c.requires.0 in let t = c.loop-k-test.true in omega arith), (let r = c.requires.1 in let t = c.loop-k-test.true in omega arith))) in let f = W.few in let n = c.best_pair.auto.masses in let b = c.loop-k.invariant.1 in sym (length-take-le c.unwrap_or-best.result.cells c.best_pair.new.masses (omega arith))
+pub slice_bounds-shares-end-in-loop-k : goal.slice_bounds-shares-end-in-loop-k
+slice_bounds-shares-end-in-loop-k c = let a = c.args in let W = worked_at a.task.now.pairs.lefts.now a.task.now.pairs.rights.now a.task.now.pairs.codes.now (of_chain a.task.now.left) (of_chain a.task.now.right) a.values.now c.loop-k.k _ _ refl refl c.loop-k.js c.loop-k.ms c.loop-k.invariant.0 c.loop-k.invariant.1 c.unwrap_or-best.result.value c.unwrap_or-best.result.cells _ _ (bested_or c.best_pair.result c.unwrap_or-best.ensures ∙ c.best_pair.ensures ((let r = c.requires.0 in let t = c.loop-k-test.true in omega arith), (let r = c.requires.1 in let t = c.loop-k-test.true in omega arith))) in let f = W.few in let n = c.best_pair.auto.masses in let b = c.loop-k.invariant.1 in sym (length-take-le c.unwrap_or-best.result.cells c.best_pair.new.masses (omega arith))
 
 pub loop-k-preserved : goal.loop-k-preserved
 loop-k-preserved c =

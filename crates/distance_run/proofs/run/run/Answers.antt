@@ -1,13 +1,5 @@
--- A run leaves the lists all zero.
-use mathlib.Core.Path.{sym, ◌∙◌}
-use Rattle.std.proofs.Common.{rules}
-use Rattle.chain_theory.specs.Lent.{of_chain}
-use Rattle.distance_run.proofs.Running.{run_clears}
+-- The run of what is asked.
 use Rattle.distance_run.proofs.run.run.Goals as goal
 
 pub returns-clause-ran : goal.returns-clause-ran
-returns-clause-ran c =
-    let a = c.args in
-    let s = a.scratch.now in
-    run_clears a.left.now.shape (of_chain a.left.now) a.right.now.shape (of_chain a.right.now) a.goal.gamma a.goal.options s.lefts.now s.rights.now s.codes.now s.places.now s.masses.now
-    (sym c.runnable.ensures ∙ c.if-not-runnable.false) c.run_pairs-told.ensures.told c.clear.ensures.cleared (search rules) (search rules) (search rules) (search rules) (search rules)
+returns-clause-ran c = c.run_asked.ensures.ran

@@ -5,4 +5,4 @@ use Rattle.distance_values.proofs.Sweeping.{Adding}
 use Rattle.distance_values.proofs.values.expected.Given as goal
 
 abbrev pub invariant-loop-place : goal.invariant-loop-place
-invariant-loop-place l = Adding l.value l.places l.masses l.total (iter_rest (zip_first l.place-iterator)) (iter_rest (zip_second l.place-iterator))
+invariant-loop-place l = Adding l.value l.shares.places.now l.shares.masses.now l.total (iter_rest (zip_first l.place-iterator)) (iter_rest (zip_second l.place-iterator))

@@ -3,4 +3,4 @@ use Rattle.distance_values.proofs.Sweeping.{Sweeping}
 use Rattle.distance_values.proofs.values.sweep.Given as goal
 
 abbrev pub invariant-loop-k : goal.invariant-loop-k
-invariant-loop-k l = Sweeping l.store.starts.now l.store.lengths.now l.store.places.now l.store.masses.now l.cost l.gamma l.initial.value l.value l.delta l.k
+invariant-loop-k l = Sweeping l.of.store.starts.now l.of.store.lengths.now l.of.store.places.now l.of.store.masses.now l.of.cost.now l.of.gamma l.initial.value l.value l.delta l.k

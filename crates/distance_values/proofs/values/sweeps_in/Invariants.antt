@@ -3,4 +3,4 @@ use Rattle.distance_values.proofs.Sweeping.{Repeating}
 use Rattle.distance_values.proofs.values.sweeps_in.Given as goal
 
 abbrev pub invariant-loop : goal.invariant-loop
-invariant-loop l = Repeating l.limit l.store.starts.now l.store.lengths.now l.store.places.now l.store.masses.now l.cost l.gamma l.tol l.initial.value l.value l.counter
+invariant-loop l = Repeating l.limit l.of.store.starts.now l.of.store.lengths.now l.of.store.places.now l.of.store.masses.now l.of.cost.now l.of.gamma l.tol l.initial.value l.value l.counter

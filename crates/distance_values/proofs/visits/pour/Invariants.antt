@@ -5,4 +5,4 @@ use Rattle.distance_values.proofs.Visiting.{Pouring}
 use Rattle.distance_values.proofs.visits.pour.Given as goal
 
 abbrev pub invariant-loop-place : goal.invariant-loop-place
-invariant-loop-place l = Pouring l.places l.masses l.x l.initial.next l.next (iter_rest (zip_first l.place-iterator)) (iter_rest (zip_second l.place-iterator))
+invariant-loop-place l = Pouring l.shares.places.now l.shares.masses.now l.x l.initial.next l.next (iter_rest (zip_first l.place-iterator)) (iter_rest (zip_second l.place-iterator))

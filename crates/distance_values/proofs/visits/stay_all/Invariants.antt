@@ -3,4 +3,4 @@ use Rattle.distance_values.proofs.Visiting.{Stays}
 use Rattle.distance_values.proofs.visits.stay_all.Given as goal
 
 abbrev pub invariant-loop-k : goal.invariant-loop-k
-invariant-loop-k l = Stays l.store.starts.now l.store.lengths.now l.store.places.now l.store.masses.now l.gamma l.current l.initial.next l.initial.spent l.next l.spent l.k
+invariant-loop-k l = Stays l.of.store.starts.now l.of.store.lengths.now l.of.store.places.now l.of.store.masses.now l.of.gamma l.current l.initial.next l.initial.spent l.next l.spent l.k
