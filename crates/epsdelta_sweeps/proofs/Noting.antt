@@ -1,12 +1,15 @@
 -- Noted strikes as code reads and writes them: a sweep that is over, and what a turn leaves noted.
 use mathlib.Core.Path.{◌≡◌, sym, ap, subst⁻¹, ◌∙◌}
+use Rattle.epsdelta_sweeps.specs.Place.{words}
+use Rattle.epsdelta_sweeps.specs.declared.changes.Strikes.{Strikes}
+use Rattle.epsdelta_sweeps.proofs.Words.{none, words_length, recent_at, before_at, again_at}
 use mathlib.Core.Logic.{◌⊎◌, inl, inr, ◌≢◌}
-use mathlib.Core.Bool.{true, false, true≢false}
+use mathlib.Core.Bool.{Bool, true, false, true≢false}
 use mathlib.Core.List.{List}
 use Prim.Native.Nat.{ℕ, ◌+◌, ◌*◌, ◌≤◌, ◌<◌}
 use native.Mathlib.Omega.{arith}
 use lib.Ieee.{Float, nan}
-use lib.ListN.{length, get_or, set, replicate, length-set, length-replicate, get_or-replicate}
+use lib.ListN.{length, get_or, set, replicate, length-set, length-replicate}
 use lib.Seq.{get_or-set_same, get_or-set_other}
 use Rattle.numbers.specs.Real.{is_zero}
 use Rattle.numbers.specs.Bits.{bit_at}
@@ -16,38 +19,41 @@ use Rattle.epsdelta_theory.proofs.TasksIn.{RowsFit}
 use Rattle.epsdelta_theory.proofs.Unchanged.{Noted, noted_next}
 
 -- the words of n states, at first
-pub first_words : (n m : ℕ) → 2 * n < m → (2 * n < length (replicate {A = ℕ} m 0)) × (get_or (replicate {A = ℕ} m 0) (2 * n) 0 ≡ 0)
-first_words n m h = let z = length-replicate {A = ℕ} m 0 in (omega arith, get_or-replicate m (2 * n) 0 0 h)
+pub first_words : (n m : ℕ) → n ≤ m → (2 * n < length (words n (replicate m none) false)) × (get_or (words n (replicate m none) false) (2 * n) 0 ≡ 0)
+first_words n m h =
+    let z = length-replicate m none in
+    let e = words_length n (replicate m none) false (omega arith) in
+    (omega arith, again_at n (replicate m none) false (omega arith))
 
 -- the strikes of the states before u are those of the sweep before, the others not yet
-pub record Fading (C out : List ℕ) (u : ℕ) : Type 0 where
+pub record Fading (C out : List Strikes) (u : ℕ) : Type 0 where
   pub long : length out ≡ length C
-  pub faded : (v : ℕ) → v < u → get_or out (2 * v + 1) 0 ≡ get_or C (2 * v) 0
-  pub left : (v : ℕ) → u ≤ v → get_or out (2 * v) 0 ≡ get_or C (2 * v) 0
+  pub faded : (v : ℕ) → v < u → (get_or out v none).before ≡ (get_or C v none).recent
+  pub left : (v : ℕ) → u ≤ v → get_or out v none ≡ get_or C v none
 
-pub fades : (C out : List ℕ) (u : ℕ) → 2 * u + 1 < length C → Fading C out u → Fading C (set (set out (2 * u + 1) (get_or out (2 * u) 0)) (2 * u) 0) (u + 1)
+pub fades : (C out : List Strikes) (u : ℕ) → u < length C → Fading C out u → Fading C (set out u (record { recent = 0; before = (get_or out u none).recent })) (u + 1)
 fades C out u h F = record {
-  long = length-set (set out (2 * u + 1) x) (2 * u) 0 ∙ length-set out (2 * u + 1) x ∙ F.long;
+  long = length-set out u x ∙ F.long;
   faded = λ v l. pick v l (eq_or_ne v u);
-  left = λ v l. get_or-set_other (set out (2 * u + 1) x) (2 * u) (2 * v) 0 0 (omega arith) ∙ get_or-set_other out (2 * u + 1) (2 * v) x 0 (omega arith) ∙ F.left v (omega arith);
+  left = λ v l. get_or-set_other out u v x none (omega arith) ∙ F.left v (omega arith);
 }
   where
-    x : ℕ
-    x = get_or out (2 * u) 0
+    x : Strikes
+    x = record { recent = 0; before = (get_or out u none).recent }
 
-    pick : (v : ℕ) → v < u + 1 → (v ≡ u) ⊎ (v ≢ u) → get_or (set (set out (2 * u + 1) (get_or out (2 * u) 0)) (2 * u) 0) (2 * v + 1) 0 ≡ get_or C (2 * v) 0
+    pick : (v : ℕ) → v < u + 1 → (v ≡ u) ⊎ (v ≢ u) → (get_or (set out u x) v none).before ≡ (get_or C v none).recent
     pick v l (inl e) =
-        let k : 2 * u + 1 < length out = let w = F.long in omega arith in
-        get_or-set_other (set out (2 * u + 1) (get_or out (2 * u) 0)) (2 * u) (2 * v + 1) 0 0 (omega arith)
-        ∙ ap (λ (y : ℕ). get_or (set out (2 * u + 1) (get_or out (2 * u) 0)) (2 * y + 1) 0) e
-        ∙ get_or-set_same out (2 * u + 1) (get_or out (2 * u) 0) 0 k ∙ F.left u (omega arith) ∙ ap (λ (y : ℕ). get_or C (2 * y) 0) (sym e)
-    pick v l (inr d) =
-        get_or-set_other (set out (2 * u + 1) (get_or out (2 * u) 0)) (2 * u) (2 * v + 1) 0 0 (omega arith)
-        ∙ get_or-set_other out (2 * u + 1) (2 * v + 1) (get_or out (2 * u) 0) 0 (omega arith) ∙ F.faded v (omega arith)
+        let k : u < length out = let w = F.long in omega arith in
+        ap (λ (y : ℕ). (get_or (set out u x) y none).before) e
+        ∙ ap (λ (y : Strikes). y.before) (get_or-set_same out u x none k) ∙ ap (λ (y : Strikes). y.recent) (F.left u (omega arith)) ∙ ap (λ (y : ℕ). (get_or C y none).recent) (sym e)
+    pick v l (inr d) = ap (λ (y : Strikes). y.before) (get_or-set_other out u v x none d) ∙ F.faded v (omega arith)
 
--- and the sweep is not the first any more
-pub fades_last : (C out : List ℕ) (n u : ℕ) → n ≤ u → Fading C out u → (v : ℕ) → v < n → get_or (set out (2 * n) 1) (2 * v + 1) 0 ≡ get_or C (2 * v) 0
-fades_last C out n u h F v l = get_or-set_other out (2 * n) (2 * v + 1) 1 0 (omega arith) ∙ F.faded v (omega arith)
+-- as words
+pub fades_words : (n : ℕ) (C out : List Strikes) (b d : Bool) (u : ℕ) → n ≤ length C → n ≤ u → Fading C out u → (v : ℕ) → v < n → get_or (words n out d) (2 * v + 1) 0 ≡ get_or (words n C b) (2 * v) 0
+fades_words n C out b d u k h F v l = let z = F.long in before_at n out d v l (omega arith) ∙ F.faded v (omega arith) ∙ sym (recent_at n C b v l k)
+
+pub fades_length : (n : ℕ) (C out : List Strikes) (b d : Bool) (u : ℕ) → n ≤ length C → Fading C out u → length (words n out d) ≡ length (words n C b)
+fades_length n C out b d u k F = let z = F.long in words_length n out d (omega arith) ∙ sym (words_length n C b k)
 
 -- ---- after a turn without a strike
 

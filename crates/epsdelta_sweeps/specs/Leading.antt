@@ -15,6 +15,7 @@ use Rattle.flow_links.proofs.RowsRead.{Fitting, entries}
 use Rattle.flow_links.specs.declared.rows.Rows.{Rows}
 use Rattle.flow_core.specs.declared.Flow.{Flow}
 use Rattle.flow_direct.specs.Reaches.{at_least}
+use Rattle.epsdelta_sweeps.specs.Place.{words_of}
 use Rattle.epsdelta_sweeps.specs.declared.place.Place.{Place}
 use Rattle.epsdelta_sweeps.specs.declared.place.Asked.{Asked}
 use Rattle.epsdelta_sweeps.specs.declared.place.Terms.{Terms}
@@ -48,9 +49,9 @@ Enough rows need plenty = IfSome plenty (Plenty rows.states rows.starts.now rows
 
 -- ---- the memory
 
--- the words of strikes of so many states
+-- strikes for so many states
 abbrev pub Worded : ℕ → Memory → Type 0
-Worded states memory = (states ≤ 2000) × (2 * states < length memory.changed.now)
+Worded states memory = (states ≤ 2000) × (states ≤ length memory.strikes.now)
 
 -- how the flow test from s to t ended, against whatever relation the bytes are
 abbrev pub Tested : Terms → Memory → ℕ → ℕ → Bool → Type 0
@@ -71,7 +72,7 @@ Ample terms a answer = (x : Float) × (terms.plenty ≡ Some x) × (at_least x a
 
 -- what holds at a place, where it is the turn of its pair, or a flow test of it is asked for
 abbrev pub Holding : Terms → Memory → Place → Bool → Bool → Type 0
-Holding terms memory p back asks = Held terms.rows.states terms.rows.exits.now terms.rows.starts.now terms.rows.targets.now terms.rows.probs.now terms.need terms.plenty memory.relation.now memory.changed.now p.s p.t back asks
+Holding terms memory p back asks = Held terms.rows.states terms.rows.exits.now terms.rows.starts.now terms.rows.targets.now terms.rows.probs.now terms.need terms.plenty memory.relation.now (words_of terms.rows.states memory) p.s p.t back asks
 
 abbrev pub AtTurn : Terms → Memory → Place → Type 0
 AtTurn terms memory p = Holding terms memory p false false
@@ -91,7 +92,7 @@ left terms memory p back = weight terms.rows.states memory.relation.now p.s p.t 
 
 -- from a place to the pair (s, t), with less than w left
 abbrev pub Moving : Terms → Memory → Place → Bool → Bool → ℕ → Memory → ℕ → ℕ → Bool → Bool → Bool → Type 0
-Moving terms old p b asks w new s t c struck d = Moves terms.rows.states terms.rows.exits.now terms.rows.starts.now terms.rows.targets.now terms.rows.probs.now terms.need terms.plenty old.relation.now p.s p.t b p.struck asks w new.relation.now new.changed.now s t c struck d
+Moving terms old p b asks w new s t c struck d = Moves terms.rows.states terms.rows.exits.now terms.rows.starts.now terms.rows.targets.now terms.rows.probs.now terms.need terms.plenty old.relation.now p.s p.t b p.struck asks w new.relation.now (words_of terms.rows.states new) s t c struck d
 
 -- from the turn of its pair
 abbrev pub FromTurn : Terms → Memory → Place → Memory → ℕ → ℕ → Bool → Bool → Bool → Type 0

@@ -1,8 +1,18 @@
 -- Where sweeps stand, and what they write.
-use Rattle.std.specs.Prelude.{Bool, true, ◌&&◌, ◌≡◌, ⊤}
+use Rattle.std.specs.Prelude.{ℕ, zero, suc, Bool, true, cond, List, [], ◌∷◌, ◌&&◌, ◌≡◌, ⊤}
 use Rattle.flow_direct.specs.declared.reach.Ways.{Ways}
 use Rattle.flow_direct.specs.declared.reach.Ways.TheVariants as ways
 use Rattle.epsdelta_sweeps.specs.declared.changes.Memory.{Memory}
+use Rattle.epsdelta_sweeps.specs.declared.changes.Strikes.{Strikes}
+
+-- the strikes of n states as words: two of each state, and behind them one that is 0 in the first sweep alone
+unfoldable pub words : ℕ → List Strikes → Bool → List ℕ
+words zero l again = cond again 1 0 ∷ []
+words (suc n) [] again = []
+words (suc n) (x ∷ l) again = x.recent ∷ x.before ∷ words n l again
+
+abbrev pub words_of : ℕ → Memory → List ℕ
+words_of n memory = words n memory.strikes.now memory.again
 
 -- the same lent bytes of a relation
 abbrev pub Same : Memory → Memory → Type 0

@@ -1,9 +1,9 @@
 // Strikes that are noted, so that flow tests that would pass again need no run.
-// Bit v % 64 of word 2 u of `changed` is set after a strike of u and v in this sweep, that of word 2 u + 1 after one in the sweep before. States v that are 64 apart share a bit. The word behind those of all states is 0 in the first sweep alone.
+// Bit v % 64 of `recent` of state u is set after a strike of u and v in this sweep, that of `before` after one in the sweep before. States v that are 64 apart share a bit.
 ghost use Rattle.std.specs.Prelude.{◌≡◌, ℕ, ◌≤◌, ◌<◌, ◌+◌, ◌*◌, ◌%◌, true, false, length, get_or, IfSome};
 ghost use Rattle.numbers.specs.Bits.{bit_at, cleared};
 ghost use Rattle.epsdelta_theory.proofs.Unchanged.{Off, Told, Missed, QuietAt, Quiet, noted};
-ghost use Rattle.epsdelta_sweeps.specs.Place.{Same};
+ghost use Rattle.epsdelta_sweeps.specs.Place.{Same, words_of};
 ghost use Rattle.epsdelta_sweeps.specs.Leading.{Worded};
 ghost use Rattle.flow_links.proofs.RowsRead.{Fitting};
 
@@ -11,11 +11,26 @@ use crate::rows::row;
 use flow_links::rows::Rows;
 use numbers::{bit, clear_bit};
 
-// What sweeps write: the bytes of the relation, and the words of the strikes.
+// The strikes of some states: the bits of those with any of them, in this sweep, and in the sweep before with one that is not below another.
+#[derive(Clone, Copy)]
+pub struct Strikes {
+    pub recent: u64,
+    pub before: u64,
+}
+
+impl Strikes {
+    pub(crate) const NONE: Strikes = Strikes {
+        recent: 0,
+        before: 0,
+    };
+}
+
+// What sweeps write: the bytes of the relation, the strikes of each state, and whether there was a sweep before.
 #[derive(Drop)]
 pub(crate) struct Memory<'a> {
     pub(crate) relation: &'a mut [u8],
-    pub(crate) changed: &'a mut [u64],
+    pub(crate) strikes: &'a mut [Strikes],
+    pub(crate) again: bool,
 }
 
 impl Memory<'_> {
@@ -30,20 +45,13 @@ impl Memory<'_> {
     // Strikes (s, t): both orders are cleared, and the strike is noted.
     pub(crate) fn strike(&mut self, states: usize, s: usize, t: usize)
         requires { Worded states self.old × (s < states) × (t < states) }
-        ensures { (self.new.relation.now ≡ cleared (cleared self.old.relation.now (s * states + t)) (t * states + s)) × (self.new.changed.now ≡ noted self.old.changed.now s t) × Same self.old self.new }
+        ensures { (self.new.relation.now ≡ cleared (cleared self.old.relation.now (s * states + t)) (t * states + s)) × (words_of states self.new ≡ noted (words_of states self.old) s t) × Same self.old self.new }
     {
         clear_bit(self.relation, s * states + t);
         clear_bit(self.relation, t * states + s);
-        self.changed[2 * s] |= 1 << (t % 64);
-        self.changed[2 * t] |= 1 << (s % 64);
+        self.strikes[s].recent |= 1 << (t % 64);
+        self.strikes[t].recent |= 1 << (s % 64);
     }
-}
-
-// The strikes of some states: the bits of those with any of them, in this sweep, and in the sweep before with one that is not below another.
-#[derive(Clone, Copy)]
-pub struct Strikes {
-    pub recent: u64,
-    pub before: u64,
 }
 
 // A word where s is not above u.
@@ -59,7 +67,7 @@ fn not_below(u: usize, s: usize, word: u64) -> u64
 // The strikes of these targets, if all of them are states.
 fn strikes_of(row: &[u32], states: usize, memory: &Memory, s: usize) -> Option<Strikes>
     requires { Worded states memory.now }
-    ensures { IfSome result (λ m. (i : ℕ) → i < length row.now → Told states memory.now.changed.now s (get_or row.now i 0) m.recent m.before) }
+    ensures { IfSome result (λ m. (i : ℕ) → i < length row.now → Told states (words_of states memory.now) s (get_or row.now i 0) m.recent m.before) }
 {
     let mut recent = 0;
     let mut before = 0;
@@ -68,8 +76,8 @@ fn strikes_of(row: &[u32], states: usize, memory: &Memory, s: usize) -> Option<S
         if states <= u {
             return None;
         }
-        recent |= memory.changed[2 * u];
-        before |= not_below(u, s, memory.changed[2 * u + 1]);
+        recent |= memory.strikes[u].recent;
+        before |= not_below(u, s, memory.strikes[u].before);
     }
     Some(Strikes { recent, before })
 }
@@ -97,12 +105,12 @@ fn untouched(row: &[u32], states: usize, m: Strikes, s: usize) -> bool
 
 // True only if s and t have targets, and no entry that their flow tests read was struck since their turn in the sweep before.
 pub(crate) fn unchanged(rows: &Rows, memory: &Memory, s: usize, t: usize) -> bool
-    requires { Fitting rows.now × (2 * rows.now.states < length memory.now.changed.now) × (s < rows.now.states) × (t < rows.now.states) }
-    ensures { result ≡ true → Quiet rows.now.starts.now rows.now.targets.now (QuietAt rows.now.states memory.now.changed.now s) s t }
+    requires { Fitting rows.now × (rows.now.states ≤ length memory.now.strikes.now) × (s < rows.now.states) × (t < rows.now.states) }
+    ensures { result ≡ true → Quiet rows.now.starts.now rows.now.targets.now (QuietAt rows.now.states (words_of rows.now.states memory.now) s) s t }
 {
     let us = row(rows, s).targets;
     let vs = row(rows, t).targets;
-    if memory.changed[2 * rows.states] == 0 || us.is_empty() || vs.is_empty() {
+    if !memory.again || us.is_empty() || vs.is_empty() {
         return false;
     }
     match strikes_of(us, rows.states, memory, s) {
@@ -114,11 +122,13 @@ pub(crate) fn unchanged(rows: &Rows, memory: &Memory, s: usize, t: usize) -> boo
 // A sweep is over: its strikes are those of the sweep before.
 pub(crate) fn fade(states: usize, memory: &mut Memory)
     requires { Worded states memory.old }
-    ensures { ((u : ℕ) → u < states → get_or memory.new.changed.now (2 * u + 1) 0 ≡ get_or memory.old.changed.now (2 * u) 0) × (length memory.new.changed.now ≡ length memory.old.changed.now) × (memory.new.relation.now ≡ memory.old.relation.now) × Same memory.old memory.new }
+    ensures { ((u : ℕ) → u < states → get_or (words_of states memory.new) (2 * u + 1) 0 ≡ get_or (words_of states memory.old) (2 * u) 0) × (length (words_of states memory.new) ≡ length (words_of states memory.old)) × (memory.new.relation.now ≡ memory.old.relation.now) × Same memory.old memory.new }
 {
     for u in 0..states {
-        memory.changed[2 * u + 1] = memory.changed[2 * u];
-        memory.changed[2 * u] = 0;
+        memory.strikes[u] = Strikes {
+            recent: 0,
+            before: memory.strikes[u].recent,
+        };
     }
-    memory.changed[2 * states] = 1;
+    memory.again = true;
 }

@@ -5,4 +5,4 @@ use Rattle.epsdelta_sweeps.proofs.Noting.{Fading}
 use Rattle.epsdelta_sweeps.proofs.changes.fade.Given as goal
 
 abbrev pub invariant-loop-u : goal.invariant-loop-u
-invariant-loop-u l = Fading l.initial.memory.changed.now l.memory.changed.now l.u × (l.memory.relation.now ≡ l.initial.memory.relation.now) × Same l.initial.memory l.memory
+invariant-loop-u l = Fading l.initial.memory.strikes.now l.memory.strikes.now l.u × (l.memory.relation.now ≡ l.initial.memory.relation.now) × Same l.initial.memory l.memory

@@ -9,7 +9,7 @@ use Rattle.epsdelta_sweeps.proofs.run.run_in.Goals as goal
 pub advance-requires : goal.advance-requires
 advance-requires g c =
     let p = c.requires in
-    let (w, z) = first_words c.args.terms.now.rows.states g.row.N p.words.0 in
+    let (w, z) = first_words c.args.terms.now.rows.states g.row.N p.room.0 in
     (p.rows_fit.0, omega arith, omega arith, (λ k. omega arith), held_start p.relation_value p.rows_fit.1 p.rows_fit.2 w z)
 
 pub returns-in-Err : goal.returns-in-Err

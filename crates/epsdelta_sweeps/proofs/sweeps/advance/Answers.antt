@@ -3,6 +3,8 @@ use mathlib.Core.Bool.{Bool}
 use native.Mathlib.Omega.{arith}
 use Rattle.numbers.proofs.Bools.{one_if}
 use Rattle.epsdelta_sweeps.specs.Leading.{FromTurn, Past, ToEnd}
+use Rattle.epsdelta_sweeps.specs.Place.{words_of}
+use Rattle.epsdelta_sweeps.proofs.Words.{words_long}
 use Rattle.epsdelta_sweeps.proofs.Resuming.{handed, sweep_again, sweep_ends, sweep_falls}
 use Rattle.epsdelta_sweeps.proofs.sweeps.advance.Goals as goal
 
@@ -10,7 +12,7 @@ pub loop-struck-init : goal.loop-struck-init
 loop-struck-init c = c.in_ok-struck.ensures
 
 pub fade-requires : goal.fade-requires
-fade-requires c = (c.requires.0.0.few, c.loop-struck.invariant.0.4.held.noted.long)
+fade-requires c = (c.requires.0.0.few, words_long _ _ _ c.loop-struck.invariant.0.4.held.noted.long)
 
 pub sweep-requires-in-loop-struck : goal.sweep-requires-in-loop-struck
 sweep-requires-in-loop-struck c =
@@ -24,7 +26,7 @@ returns-in_err-struck-2 c =
     let l = i.0 in
     let N = rw c.fade.ensures.2 at c.in_err-struck-2.ensures.0 in (
       handed (ToEnd (FromTurn a.terms.now a.memory.now a.at c.sweep-in-loop-struck.new.memory) a.terms.now.rows.states) _ c.from_residual-in_err-struck-2.ensures.1
-          (sweep_again c.requires.0.0 c.fade.new.memory.changed.now l.4 l.2 l.3 c.loop-struck-test.true c.fade.ensures.1 c.fade.ensures.0 N),
+          (sweep_again c.requires.0.0 (words_of c.args.terms.now.rows.states c.fade.new.memory) l.4 l.2 l.3 c.loop-struck-test.true c.fade.ensures.1 c.fade.ensures.0 N),
       c.sweep-in-loop-struck.ensures.1 ∙ c.fade.ensures.3 ∙ i.1,
     )
 
@@ -41,7 +43,7 @@ loop-struck-preserved c =
     let l = i.0 in
     let P = c.in_ok-struck-2.ensures.0 in
     let N = rw c.fade.ensures.2 at P.4 in
-    ((P.0, P.1, P.2, P.3, sweep_again c.requires.0.0 c.fade.new.memory.changed.now l.4 l.2 l.3 c.loop-struck-test.true c.fade.ensures.1 c.fade.ensures.0 N), c.sweep-in-loop-struck.ensures.1 ∙ c.fade.ensures.3 ∙ i.1)
+    ((P.0, P.1, P.2, P.3, sweep_again c.requires.0.0 (words_of c.args.terms.now.rows.states c.fade.new.memory) l.4 l.2 l.3 c.loop-struck-test.true c.fade.ensures.1 c.fade.ensures.0 N), c.sweep-in-loop-struck.ensures.1 ∙ c.fade.ensures.3 ∙ i.1)
 
 pub returns : goal.returns
 returns c =

@@ -20,9 +20,11 @@ returns-then-asked c =
     let w = c.args.terms.now in
     let m = c.args.memory.now in
     let q = place_of c.args.asked in
-    let b = c.if-asked.true in
-    (subst⁻¹ (λ (x : Bool). Holding w m q x true → FromTest w m q x m q.s (q.t + 1) false q.struck false) b
-        (λ H. back_passes p.0.0 q.struck H (λ R e. (p.3 w.need R e).1 b ∙ sym c.enough.ensures ∙ c.if-not-enough.false)) p.2, refl)
+    let b = c.if-asked.true in (
+      subst⁻¹ (λ (x : Bool). Holding w m q x true → FromTest w m q x m q.s (q.t + 1) false q.struck false) b
+          (λ H. back_passes p.0.0 q.struck H (λ R e. (p.3 w.need R e).1 b ∙ sym c.enough.ensures ∙ c.if-not-enough.false)) p.2,
+      refl,
+    )
 
 pub returns-then-ample : goal.returns-then-ample
 returns-then-ample c =
@@ -31,9 +33,11 @@ returns-then-ample c =
     let m = c.args.memory.now in
     let q = place_of c.args.asked in
     let b = c.if-asked.false in
-    let (x, i, l, g, h) = c.ample.ensures c.if-ample.true in
-    (subst⁻¹ (λ (x : Bool). Holding w m q x true → FromTest w m q x m q.s (q.t + 1) false q.struck false) b
-        (λ H. both_pass p.0.0 q.struck H (λ R e. ample_in p.0.0 w.need w.plenty p.2.enough m.relation.now R e p.2.even q.s q.t p.0.1 p.0.2 x i g h ((p.3 x R e).0 b ∙ l))) p.2, refl)
+    let (x, i, l, g, h) = c.ample.ensures c.if-ample.true in (
+      subst⁻¹ (λ (x : Bool). Holding w m q x true → FromTest w m q x m q.s (q.t + 1) false q.struck false) b
+          (λ H. both_pass p.0.0 q.struck H (λ R e. ample_in p.0.0 w.need w.plenty p.2.enough m.relation.now R e p.2.even q.s q.t p.0.1 p.0.2 x i g h ((p.3 x R e).0 b ∙ l))) p.2,
+      refl,
+    )
 
 pub returns : goal.returns
 returns c =

@@ -4,8 +4,23 @@ use mathlib.Core.Bool.{true, false, false≢true}
 use native.Mathlib.Omega.{arith}
 use Rattle.numbers.proofs.Bools.{and_t}
 use Rattle.epsdelta_theory.proofs.Unchanged.{still_passes}
+use Rattle.epsdelta_sweeps.proofs.Words.{words_long}
 use Rattle.epsdelta_sweeps.proofs.Resuming.{turn_absent, turn_no_exit, turn_quiet, turn_waits, turn_fails}
 use Rattle.epsdelta_sweeps.proofs.sweeps.turn.Goals as goal
+
+pub unchanged-requires : goal.unchanged-requires
+unchanged-requires c =
+    let p = c.requires in
+    let l = p.1 in
+    let k = p.2 in
+    (p.0.0, words_long _ _ _ p.3.noted.long, omega arith, k)
+
+pub strike-requires : goal.strike-requires
+strike-requires c =
+    let p = c.requires in
+    let l = p.1 in
+    let k = p.2 in
+    ((p.0.0.few, words_long _ _ _ p.3.noted.long), omega arith, k)
 
 pub returns-then-not-holds : goal.returns-then-not-holds
 returns-then-not-holds c =
