@@ -10,6 +10,7 @@ use crate::place::Terms;
 use crate::plenty::plenty_of;
 use crate::rows::{all_stand, long_enough};
 use crate::run::run;
+use epsdelta_theory::relation_bytes;
 use flow_links::rows::Rows;
 use numbers::{ONE, SLACK};
 
@@ -52,7 +53,7 @@ pub fn relate(rows: &Rows, classes: &[u32], epsilon: f64, rho: f64, relation: &m
     if !long_enough(rows, classes.len(), relation.len()) || !all_stand(rows) {
         return false;
     }
-    let bytes = (rows.states * rows.states).div_ceil(8);
+    let bytes = relation_bytes(rows.states);
     make(rows, classes, epsilon, rho, &mut relation[..bytes]);
     true
 }

@@ -5,6 +5,7 @@ ghost use Rattle.epsdelta_theory.specs.Relation.{relation_bytes};
 ghost use Rattle.flow_links.proofs.RowsRead.{Fitting, entries, row_stands};
 
 use crate::changes::Memory;
+use epsdelta_theory::relation_bytes;
 use flow_links::rows::{Row, Rows, Test};
 
 // The entries of state s, from its start up to the next.
@@ -72,5 +73,5 @@ pub(crate) fn long_enough(rows: &Rows, classes: usize, bytes: usize) -> bool
         && rows.states <= classes
         && rows.states <= rows.exits.len()
         && rows.states < rows.starts.len()
-        && (rows.states * rows.states).div_ceil(8) <= bytes
+        && relation_bytes(rows.states) <= bytes
 }

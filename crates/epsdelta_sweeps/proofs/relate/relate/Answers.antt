@@ -11,5 +11,5 @@ pub make-requires : goal.make-requires
 make-requires c =
     let a = c.args in
     let k = lengths_known a.rows.now.states (length a.classes.now) (length a.rows.now.exits.now) (length a.rows.now.starts.now) (length a.relation.now) (sym c.long_enough.ensures ∙ c.if-not-long_enough.false) in
-    let e : c.div_ceil-bytes.result ≡ relation_bytes a.rows.now.states = omega (arith, c.div_ceil-bytes.ensures) in
+    let e : c.relation_bytes-bytes.result ≡ relation_bytes a.rows.now.states = c.relation_bytes-bytes.ensures (omega arith) in
     (rows_known a.rows.now.states a.rows.now.starts.now a.rows.now.targets.now a.rows.now.probs.now k.0 k.3 (sym c.all_stand.ensures ∙ c.if-not-all_stand.false), k.2, k.1, length-take-le _ _ (omega arith) ∙ e)
