@@ -1,9 +1,7 @@
 // Shares of couplings in two lists, places of pairs and masses.
 ghost use Rattle.std.specs.Prelude.{◌≡◌, ◌≤◌, length};
-ghost use Rattle.std.proofs.Math.Seq.{slice};
 ghost use Rattle.numbers.specs.Lists.{over};
 ghost use Rattle.distance_theory.specs.Pairs.{pair};
-ghost use Rattle.distance_theory.specs.Couplings.{expected, shares_of};
 ghost use Rattle.distance_theory.specs.Lent.{SameShares};
 ghost use Rattle.distance_theory.proofs.Index.{look_up};
 ghost use Rattle.distance_theory.proofs.Bests.{ats, parts, laid_as, lay_if};
@@ -13,18 +11,6 @@ use bisim_core::ids::StateId;
 use chain_theory::Row;
 use distance_pairs::index::place_of;
 use distance_theory::lent::{Rows, SharesMut};
-use distance_theory::value_at;
-
-// Σ mass × value of the shares from..to.
-pub fn expected_part(values: &[f64], places: &[u32], masses: &[f64], from: usize, to: usize) -> f64
-    ensures { result ≡ expected values.now (shares_of (slice from to places.now) (slice from to masses.now)) }
-{
-    let mut total = 0.0;
-    for i in from..to.min(places.len()).min(masses.len()) {
-        total += masses[i] * value_at(values, places[i] as usize);
-    }
-    total
-}
 
 // The place of a pair, as it is stored.
 pub(crate) fn place(codes: &[u64], x: u32, y: u32) -> u32
