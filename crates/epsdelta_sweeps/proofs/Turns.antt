@@ -9,7 +9,7 @@ use lib.Ieee.{Float, nan}
 use lib.ListN.{length, get_or, take, drop}
 use lib.Seq.{get_or-take, get_or-drop, take-nil, slice, length-slice}
 use borrow.Author.Tests.{le-leb, eq-eqb}
-use Rattle.std.specs.Prelude.{Option, Some, None, IfSome, IsSomeAnd, MatchOption, unwrap_or, Result, Ok, Err}
+use Rattle.std.specs.Prelude.{Option, Some, None, IfSome, IsSomeAnd, MatchOption, unwrap_or, Result, Ok}
 use Rattle.numbers.specs.Bits.{packed}
 use Rattle.numbers.proofs.Bools.{and_second}
 use Rattle.epsdelta_theory.specs.Jumps.{jumps_of}
