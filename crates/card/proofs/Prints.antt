@@ -1,24 +1,28 @@
 -- What is printed, by what the reader answered.
-use mathlib.Core.Path.{◌≡◌, refl, subst, ◌∙◌}
+use mathlib.Core.Path.{◌≡◌, refl, subst, ap, ◌∙◌}
 use mathlib.Core.List.{List}
 use Prim.Native.Nat.{ℕ, ◌≤◌}
 use native.Mathlib.Omega.{arith}
 use lib.Ieee.{Float}
 use lib.ListN.{length, replicate, length-replicate}
 use Rattle.numbers.specs.Real.{nought}
+use Rattle.bisim_core.specs.Data as models
+use Rattle.bisim_build.specs.Build.{Outcome}
 use Rattle.card_layout.specs.Card.{Card, Reading, card, refused, read, Within}
 use Rattle.card_layout.specs.Lists as answers
 use Rattle.card_reader.specs.Answer.{Answered}
 use Rattle.std.specs.Prelude.{Result, Ok, Err}
 use Rattle.numbers.specs.declared.refusal.Refusal.{Refusal}
 use Rattle.numbers.specs.Refuse.{number, numbered}
+use Rattle.card_reader.specs.declared.reader.Head.{Head}
 use Rattle.card_reader.specs.declared.reader.Heads.{Heads}
 use Rattle.card_layout.proofs.Cards.{layout_read}
 use Rattle.card_reader.proofs.Lists.{Long, Found, answered_refused, answered_card}
 use Rattle.card_report.specs.Report.{refusal_line, most_report}
 use Rattle.card_relation.proofs.Relates.{line_fits}
 use Rattle.card_models.specs.Models.{card_text}
-use Rattle.card_models.proofs.Handing.{Room, heads_text}
+use Rattle.card_models.specs.Sides.{side_ends}
+use Rattle.card_models.proofs.Handing.{blank, Room, heads_text}
 use Rattle.card_models.proofs.Answers.{card_fits}
 use Rattle.card_models.proofs.Builds.{listed_text, card_room}
 use Rattle.card.specs.Printing.{reading_text, printed}
@@ -58,6 +62,11 @@ module _ {bs : List ℕ} {k : answers.Columns} (r : Result Heads Refusal) (A : A
 
   pub was_printed : {h : Heads} → r ≡ Ok h → heads_text h k ≡ printed bs
   was_printed {h} e = let F = was_card e in listed_text F.the_card h k F.within F.long F.lists ∙ printed_card bs F.the_card F.reads
+
+-- ---- a model built in lists that hold what they held at first
+
+pub from_blank : (h : Head) (m : ℕ) (C : models.Transitions) {M : models.Columns} {o : Outcome} → o ≡ side_ends h m C M → M ≡ blank → o ≡ side_ends h m C blank
+from_blank h m C e f = e ∙ ap (side_ends h m C) f
 
 -- ---- how long a text is
 

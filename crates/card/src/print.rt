@@ -1,16 +1,19 @@
 // The relation of a card's models, and the report.
-ghost use Rattle.std.specs.Prelude.{◌+◌, ◌≤◌, length};
+ghost use Rattle.std.specs.Prelude.{◌≡◌, ◌+◌, ◌≤◌, length};
 ghost use Rattle.numbers.specs.Refuse.{numbered};
-ghost use Rattle.build_theory.specs.Lent.{columns_in};
+ghost use Rattle.bisim_core.specs.Data.{columns, transitions};
+ghost use Rattle.bisim_build.specs.Build.{ends};
+ghost use Rattle.build_theory.specs.Lent.{columns_in, kept};
 ghost use Rattle.card_reader.specs.Lent.{columns_of};
 ghost use Rattle.card_report.specs.Report.{Printed, store_fault, most_report};
 ghost use Rattle.card.specs.Printing.{printed};
-ghost use Rattle.card_models.proofs.Handing.{Room, Few, FewBoth, lists_text, right_text, heads_text};
+ghost use Rattle.card_models.specs.Sides.{side_ends};
+ghost use Rattle.card_models.proofs.Handing.{blank, Room, Few, FewBoth, lists_text, right_text, heads_text};
 
 use bisim_core::wlts::{Shape, Wlts};
 use build_theory::lent::Store;
 use card_models::{CardTransitions, both_models, build_side};
-use card_reader::{CardLists, Heads, read_card};
+use card_reader::{CardLists, Head, Heads, read_card};
 use card_relation::{in_parts, relation_text};
 use card_report::{MOST_REPORT, refusal_text};
 use epsdelta::asked::{Side, Sides};
@@ -31,7 +34,7 @@ fn print_both(
     let middle = heads.left.states as usize;
     let end = middle + heads.right.states as usize;
     match models {
-        Err(refusal) => refusal_text(refusal.number(), out),
+        Err(refusal) => refusal_text(refusal, out),
         Ok((a, b)) => {
             let left_model = Wlts {
                 shape: a,
@@ -64,6 +67,68 @@ fn print_both(
     }
 }
 
+// Room for the columns of a model of 32 states and 200 transitions.
+#[derive(Drop)]
+struct Arrays {
+    label_values: [u32; 200],
+    offsets: [u32; 33],
+    edge_labels: [u32; 200],
+    edge_targets: [u32; 200],
+    edge_weights: [f64; 200],
+}
+
+impl Arrays {
+    fn new() -> Arrays
+        ensures { columns result.label_values result.offsets result.edge_labels result.edge_targets result.edge_weights ≡ blank }
+    {
+        Arrays {
+            label_values: [0; 200],
+            offsets: [0; 33],
+            edge_labels: [0; 200],
+            edge_targets: [0; 200],
+            edge_weights: [0.0; 200],
+        }
+    }
+
+    fn lend<'a>(&'a mut self) -> Store<'a>
+        ensures { columns_in result ≡ columns self.old.label_values self.old.offsets self.old.edge_labels self.old.edge_targets self.old.edge_weights }
+    {
+        let Arrays {
+            label_values,
+            offsets,
+            edge_labels,
+            edge_targets,
+            edge_weights,
+        } = self;
+        Store {
+            label_values,
+            offsets,
+            edge_labels,
+            edge_targets,
+            edge_weights,
+        }
+    }
+}
+
+// Builds the model of that head, its transitions being those from `from` on in the lists.
+fn build_listed(
+    head: Head,
+    from: usize,
+    lists: &CardLists,
+    store: &mut Store,
+) -> Result<Shape, Refusal>
+    ensures built { ends (numbered result) (columns_in store.new) ≡ side_ends head from (transitions lists.now.sources.now lists.now.labels.now lists.now.targets.now lists.now.weights.now) (columns_in store.old) }
+    ensures same { kept store.old store.new }
+{
+    let of = CardTransitions {
+        sources: lists.sources,
+        labels: lists.labels,
+        targets: lists.targets,
+        weights: lists.weights,
+    };
+    build_side(head, from, &of, store)
+}
+
 // Builds the right model of the card that the lists hold; the left one is built, and stands in its store.
 fn print_right(
     left: Result<Shape, Refusal>,
@@ -75,28 +140,12 @@ fn print_right(
     requires { Few (numbered left) × Room heads (columns_of lists.now) × (most_report ≤ length out.old) }
     ensures { Printed 0 (right_text (numbered left) (columns_in left_store.now) heads (columns_of lists.now)) out.old (numbered result) out.new }
 {
-    let mut label_values = [0u32; 200];
-    let mut offsets = [0u32; 33];
-    let mut edge_labels = [0u32; 200];
-    let mut edge_targets = [0u32; 200];
-    let mut edge_weights = [0.0f64; 200];
-    let mut store = Store {
-        label_values: &mut label_values,
-        offsets: &mut offsets,
-        edge_labels: &mut edge_labels,
-        edge_targets: &mut edge_targets,
-        edge_weights: &mut edge_weights,
-    };
-    let of = CardTransitions {
-        sources: lists.sources,
-        labels: lists.labels,
-        targets: lists.targets,
-        weights: lists.weights,
-    };
-    let right = build_side(
+    let mut arrays = Arrays::new();
+    let mut store = arrays.lend();
+    let right = build_listed(
         heads.right,
         heads.left.transitions as usize,
-        &of,
+        lists,
         &mut store,
     );
     print_both(
@@ -114,25 +163,9 @@ fn print_card(heads: Heads, lists: &CardLists, out: &mut [u8]) -> Result<usize, 
     requires { Room heads (columns_of lists.now) × (most_report ≤ length out.old) }
     ensures { Printed 0 (heads_text heads (columns_of lists.now)) out.old (numbered result) out.new }
 {
-    let mut label_values = [0u32; 200];
-    let mut offsets = [0u32; 33];
-    let mut edge_labels = [0u32; 200];
-    let mut edge_targets = [0u32; 200];
-    let mut edge_weights = [0.0f64; 200];
-    let mut store = Store {
-        label_values: &mut label_values,
-        offsets: &mut offsets,
-        edge_labels: &mut edge_labels,
-        edge_targets: &mut edge_targets,
-        edge_weights: &mut edge_weights,
-    };
-    let of = CardTransitions {
-        sources: lists.sources,
-        labels: lists.labels,
-        targets: lists.targets,
-        weights: lists.weights,
-    };
-    let left = build_side(heads.left, 0, &of, &mut store);
+    let mut arrays = Arrays::new();
+    let mut store = arrays.lend();
+    let left = build_listed(heads.left, 0, lists, &mut store);
     print_right(left, &store, heads, lists, out)
 }
 
@@ -156,7 +189,7 @@ pub fn report(card: &[u8], out: &mut [u8]) -> Result<usize, Refusal>
         weights: &mut weights,
     };
     match read_card(card, &mut lists) {
-        Err(refusal) => refusal_text(refusal.number(), out),
+        Err(refusal) => refusal_text(refusal, out),
         Ok(heads) => print_card(heads, &lists, out),
     }
 }

@@ -1,6 +1,6 @@
 // The report's text in a lent store.
 ghost use Rattle.std.specs.Prelude.{◌≡◌, ◌+◌, ◌*◌, ◌≤◌, ◌<◌, length};
-ghost use Rattle.numbers.specs.Refuse.{numbered};
+ghost use Rattle.numbers.specs.Refuse.{number, numbered};
 ghost use Rattle.epsdelta_theory.specs.Relation;
 ghost use Rattle.card_layout.proofs.Writes.{PairsPut};
 ghost use Rattle.card_report.specs.Report;
@@ -85,12 +85,12 @@ pub fn report_text(left: u32, right: u32, relation: &[u8], out: &mut [u8]) -> Re
 }
 
 // Writes a refusal's line, and gives its length; 7 where the store is short for a report.
-pub fn refusal_text(number: u32, out: &mut [u8]) -> Result<usize, Refusal>
-    ensures { Printed (Report.store_fault (length out.old)) (refusal_line number) out.old (numbered result) out.new }
+pub fn refusal_text(refusal: Refusal, out: &mut [u8]) -> Result<usize, Refusal>
+    ensures { Printed (Report.store_fault (length out.old)) (refusal_line (number refusal)) out.old (numbered result) out.new }
 {
     if out.len() < MOST_REPORT {
         return Err(Refusal::Store);
     }
-    put_line(out, 0, &[number]);
+    put_line(out, 0, &[refusal.number()]);
     Ok(7)
 }

@@ -1,6 +1,5 @@
 -- `print::print_both` meets its contract: the arm says which models there are, and the classes are cut out of their list.
 use mathlib.Core.Path.{ap, subst, ◌∙◌}
-use Rattle.card_report.specs.Report.{refusal_line}
 use Rattle.std.specs.Prelude.{Result}
 use Rattle.numbers.specs.declared.refusal.Refusal.{Refusal}
 use Rattle.numbers.specs.Refuse.{numbered}
@@ -15,7 +14,7 @@ pub returns-in-Err : goal.returns-in-Err
 returns-in-Err c =
     let p = c.requires in
     let a = c.args in
-    retold (ap refusal_line c.number.ensures ∙ lists_refused (columns_in a.left.now) (columns_in a.right.now) a.heads a.classes.now (numbered a.models) _ (ap numbered c.in-Err.is))
+    retold (lists_refused (columns_in a.left.now) (columns_in a.right.now) a.heads a.classes.now (numbered a.models) _ (ap numbered c.in-Err.is))
     (with_room _ a.out.now _ _ p.2 c.refusal_text.ensures)
 
 pub returns-in-Ok : goal.returns-in-Ok

@@ -1,8 +1,8 @@
 -- The arm says what `epsdelta` answered, and Relates turns it into the text.
 use mathlib.Core.Path.{sym, ap, ◌∙◌}
-use Rattle.std.specs.Prelude.{ℕ, Result, Err}
+use Rattle.std.specs.Prelude.{Result}
 use Rattle.numbers.specs.declared.refusal.Refusal.{Refusal}
-use Rattle.numbers.specs.Refuse.{numbered}
+use Rattle.numbers.specs.Refuse.{number, numbered}
 use Rattle.epsdelta.specs.Outcome.{ends}
 use Rattle.card_relation.proofs.Relates.{finish_related, finish_refused}
 use Rattle.card_relation.proofs.relating.finish.Goals as goal
@@ -17,5 +17,5 @@ pub returns-in-Err : goal.returns-in-Err
 returns-in-Err c =
     let p = c.requires in
     let a = c.args in
-    λ n store R e k. finish_refused a.sides.now.left.model.shape.states a.sides.now.right.model.shape.states n a.relation.now store R a.out.now _ _ c.number.result p.room.1
-    (ap (λ (m : ℕ). ends (Err m) a.relation.now) c.number.ensures ∙ ap (λ (x : Result (Unit {0}) Refusal). ends (numbered x) a.relation.now) (sym c.in-Err.is) ∙ e) c.refusal_text.ensures
+    λ n store R e k. finish_refused a.sides.now.left.model.shape.states a.sides.now.right.model.shape.states n a.relation.now store R a.out.now _ _ (number c.in-Err.refusal) p.room.1
+    (ap (λ (x : Result (Unit {0}) Refusal). ends (numbered x) a.relation.now) (sym c.in-Err.is) ∙ e) c.refusal_text.ensures
