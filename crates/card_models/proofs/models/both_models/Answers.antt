@@ -1,10 +1,8 @@
--- By the case of the left model.
-use mathlib.Core.Path.{ap}
-use Rattle.std.specs.Prelude.{Err}
+-- By the cases of both models (Cases).
+use Rattle.card_models.proofs.Cases.{same_code, both_refused}
 use Rattle.card_models.proofs.models.both_models.Goals as goal
 
-pub returns-in-Ok : goal.returns-in-Ok
-returns-in-Ok c = rw c.in-Ok.is c.with_left.ensures
-
-pub returns-in-Err : goal.returns-in-Err
-returns-in-Err c = rw c.in-Err.is (ap Err c.lower.ensures)
+pub returns-in_err-earlier : goal.returns-in_err-earlier
+returns-in_err-earlier c =
+    let a = c.args in
+    both_refused a.left a.right _ _ (same_code _ a.left _ c.map.ensures.cases) (same_code _ a.right _ c.map-2.ensures.cases) c.from_residual.result _ c.from_residual.ensures.1 c.in_err-earlier.ensures
