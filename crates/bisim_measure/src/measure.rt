@@ -5,16 +5,15 @@ ghost use Rattle.bisim_core.specs.Data.{columns_of};
 ghost use Rattle.chain_theory.specs.Lent.{of_chain, of_store, SameLists};
 ghost use Rattle.distance_theory.specs.Lent.{SameScratch};
 ghost use Rattle.distance_theory.specs.Outcome.{blank};
-ghost use Rattle.distance_words.specs.Told.{ran_as};
-ghost use Rattle.distance_words.proofs.Run.{ran_of};
+ghost use Rattle.distance_run.specs.Asked.{ran_in, ran_with};
 ghost use Rattle.bisim_measure.specs.Measure.{measuring, bisim_measure};
 
 use bisim_chains::make::make_chains;
 use bisim_checks::rest::Rest;
 use chain_theory::{Chain, ChainShape, ChainStore};
 use chains::observed::Observed;
+use distance_run::question::Question;
 use distance_run::run::run;
-use distance_run::scratch::{clear_masses, clear_states};
 use distance_theory::Goal;
 use distance_theory::lent::Scratch;
 use distance_words::told::Answer;
@@ -25,10 +24,10 @@ fn clear_chain(chain: &mut ChainStore)
     ensures same_lists { SameLists chain.old chain.new }
     ensures cleared { of_store chain.new ≡ blank (of_store chain.old) }
 {
-    clear_states(chain.offsets);
-    clear_states(chain.targets);
-    clear_masses(chain.probs);
-    clear_masses(chain.observations);
+    chain.offsets.fill(0);
+    chain.targets.fill(0);
+    chain.probs.fill(0.0);
+    chain.observations.fill(0.0);
 }
 
 // The chain of this shape in the lists that are lent.
@@ -55,14 +54,14 @@ fn run_chains(
 ) -> Result<Answer, Refusal>
     ensures same_lists { SameLists left_chain.old left_chain.new × SameLists right_chain.old right_chain.new }
     ensures lists { SameScratch scratch.old scratch.new }
-    ensures measured { measuring (ran_as (numbered result) scratch.new.lefts.now scratch.new.rights.now scratch.new.codes.now scratch.new.places.now scratch.new.masses.now) (of_store left_chain.new) (of_store right_chain.new) ≡ measuring (ran_of left (of_store left_chain.old) right (of_store right_chain.old) goal.gamma goal.options scratch.old.lefts.now scratch.old.rights.now scratch.old.codes.now scratch.old.places.now scratch.old.masses.now) (blank (of_store left_chain.old)) (blank (of_store right_chain.old)) }
+    ensures measured { measuring (ran_in (numbered result) scratch.new) (of_store left_chain.new) (of_store right_chain.new) ≡ measuring (ran_with left (of_store left_chain.old) right (of_store right_chain.old) goal scratch.old) (blank (of_store left_chain.old)) (blank (of_store right_chain.old)) }
 {
-    let told = run(
-        &chain_in(left, left_chain),
-        &chain_in(right, right_chain),
+    let of = Question {
+        left: chain_in(left, left_chain),
+        right: chain_in(right, right_chain),
         goal,
-        scratch,
-    );
+    };
+    let told = run(&of, scratch);
     clear_chain(left_chain);
     clear_chain(right_chain);
     told
@@ -81,15 +80,9 @@ pub fn measure(
 ) -> Result<Answer, Refusal>
     ensures same_lists { SameLists left_chain.old left_chain.new × SameLists right_chain.old right_chain.new }
     ensures lists { SameScratch scratch.old scratch.new }
-    ensures measured { measuring (ran_as (numbered result) scratch.new.lefts.now scratch.new.rights.now scratch.new.codes.now scratch.new.places.now scratch.new.masses.now) (of_store left_chain.new) (of_store right_chain.new) ≡ bisim_measure left.now.model.shape (columns_of left.now.model) left.now.state.0 left.now.observations.now (of_store left_chain.old) right.now.model.shape (columns_of right.now.model) right.now.state.0 right.now.observations.now (of_store right_chain.old) goal.gamma goal.options scratch.old.lefts.now scratch.old.rights.now scratch.old.codes.now scratch.old.places.now scratch.old.masses.now records }
+    ensures measured { measuring (ran_in (numbered result) scratch.new) (of_store left_chain.new) (of_store right_chain.new) ≡ bisim_measure left.now.model.shape (columns_of left.now.model) left.now.state.0 left.now.observations.now (of_store left_chain.old) right.now.model.shape (columns_of right.now.model) right.now.state.0 right.now.observations.now (of_store right_chain.old) goal.gamma goal.options scratch.old.lefts.now scratch.old.rights.now scratch.old.codes.now scratch.old.places.now scratch.old.masses.now records }
 {
-    let rest = Rest {
-        goal,
-        lefts: scratch.lefts.len(),
-        rights: scratch.rights.len(),
-        codes: scratch.codes.len(),
-        records,
-    };
+    let rest = Rest::new(goal, scratch, records);
     let (first, second) = make_chains(left, left_chain, right, right_chain, rest)?;
     run_chains(first, left_chain, second, right_chain, goal, scratch)
 }

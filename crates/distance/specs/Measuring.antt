@@ -2,11 +2,14 @@
 use Rattle.std.specs.Prelude.{ℕ, zero, suc, min, List, [], ◌∷◌, length, Float, Ok, Err}
 use Rattle.chain_theory.specs.Columns.{ChainColumns, chain_of}
 use Rattle.chain_theory.specs.declared.ChainShape.{ChainShape}
+use Rattle.chain_theory.specs.Lent.{of_chain}
 use Rattle.distance_theory.specs.Refusal.{distance_refusal}
 use Rattle.distance_theory.specs.Outcome.{run, zeros, noughts, Lent, lent, Measured}
 use Rattle.distance_theory.specs.declared.MetricOptions.{MetricOptions}
 use Rattle.distance_theory.specs.declared.PairContribution.{PairContribution}
+use Rattle.distance_theory.specs.declared.lent.Scratch.{Scratch}
 use Rattle.distance_contributions.specs.Row.{written}
+use Rattle.distance_run.specs.declared.question.Question.{Question}
 use Rattle.distance_words.specs.Told.{Told, told_of, Ran, ran_as}
 
 -- the run, and the lists all zero; a refusal of the arguments leaves them as they were
@@ -18,6 +21,11 @@ measured_if (suc k) t l r c p m = ran_as (Err (suc k)) l r c p m
 abbrev pub measured_of : ChainShape → ChainColumns → ChainShape → ChainColumns → Float → MetricOptions → List ℕ → List ℕ → List ℕ → List ℕ → List Float → ℕ → Ran
 measured_of HL CL HR CR γ o l r c p m records =
     measured_if (distance_refusal HL CL HR CR γ o (length l ∷ length r ∷ length c ∷ []) records) (told_of (run (chain_of HL CL) (chain_of HR CR) γ o (min (length p) (length m)))) l r c p m
+
+-- of chains and lists that are lent
+abbrev pub measured_on : Question → Scratch → ℕ → Ran
+measured_on q s records =
+    measured_of q.left.shape (of_chain q.left) q.right.shape (of_chain q.right) q.goal.gamma q.goal.options s.lefts.now s.rights.now s.codes.now s.places.now s.masses.now records
 
 -- what is told, as the answer
 abbrev pub answer_of : Told → Measured

@@ -7,7 +7,7 @@ ghost use Rattle.distance_theory.specs.Refusal.{distance_refusal as refusal_of};
 
 use bisim_checks::rest::{Rest, rest_refusal};
 use chain_check::check::chain_refusal;
-use chain_theory::Chain;
+use distance_run::question::Question;
 use numbers::ONE;
 use numbers::bounds::Bounds;
 use numbers::refusal::Refusal;
@@ -20,10 +20,10 @@ const OBSERVATIONS: Bounds = Bounds {
 };
 
 // The first check that fails: of either chain by itself, or of the rest.
-pub(crate) fn distance_refusal(left: &Chain, right: &Chain, rest: Rest) -> Result<(), Refusal>
-    ensures { code result ≡ of_rest (refusal_of left.now.shape (of_chain left.now) right.now.shape (of_chain right.now)) rest }
+pub(crate) fn distance_refusal(of: &Question, rest: Rest) -> Result<(), Refusal>
+    ensures { code result ≡ of_rest (refusal_of of.now.left.shape (of_chain of.now.left) of.now.right.shape (of_chain of.now.right)) rest }
 {
-    let of_left = chain_refusal(left, OBSERVATIONS);
-    let of_right = chain_refusal(right, OBSERVATIONS);
+    let of_left = chain_refusal(&of.left, OBSERVATIONS);
+    let of_right = chain_refusal(&of.right, OBSERVATIONS);
     earlier(earlier(of_left, of_right), rest_refusal(rest))
 }

@@ -10,6 +10,7 @@ ghost use Rattle.distance.specs.Measuring.{handed, hand_out, memory};
 use crate::measure::measure;
 use chain_theory::Chain;
 use distance_contributions::row::write_contributions;
+use distance_run::question::Question;
 use distance_theory::lent::Scratch;
 use distance_theory::{Distance, Goal, PairContribution};
 use distance_words::told::Answer;
@@ -22,13 +23,9 @@ pub fn hand_out(
 ) -> Result<Distance, Refusal>
     ensures { handed (numbered result) records.new ≡ hand_out (numbered told) records.old }
 {
-    match told {
-        Ok(answer) => {
-            write_contributions(records, &answer.records, answer.distance.contributions).ok();
-            Ok(answer.distance)
-        }
-        Err(refusal) => Err(refusal),
-    }
+    let answer = told?;
+    write_contributions(records, &answer.records, answer.distance.contributions).ok();
+    Ok(answer.distance)
 }
 
 // The distance of two chains, and its contributions; or the first check that fails.
@@ -42,6 +39,11 @@ pub fn distance(
     ensures lists { SameScratch scratch.old scratch.new }
     ensures ends { ends (numbered result) (memory scratch.new.lefts.now scratch.new.rights.now scratch.new.codes.now scratch.new.places.now scratch.new.masses.now records.new) ≡ Outcome.distance left.now.shape (of_chain left.now) right.now.shape (of_chain right.now) goal.gamma goal.options (memory scratch.old.lefts.now scratch.old.rights.now scratch.old.codes.now scratch.old.places.now scratch.old.masses.now records.old) }
 {
-    let told = measure(left, right, goal, scratch, records.len());
+    let of = Question {
+        left: *left,
+        right: *right,
+        goal,
+    };
+    let told = measure(&of, scratch, records.len());
     hand_out(records, told)
 }

@@ -7,8 +7,7 @@ ghost use Rattle.chain_theory.specs.Lent.{of_chain};
 ghost use Rattle.distance_theory.specs.Lent.{SamePairs, SameScratch};
 ghost use Rattle.distance_theory.specs.Outcome;
 ghost use Rattle.distance_run.specs.Asked.{ran_in, ran_on, runnable_in};
-ghost use Rattle.distance_words.specs.Told.{told_of, ran_as};
-ghost use Rattle.distance_words.proofs.Run.{ran_of};
+ghost use Rattle.distance_words.specs.Told.{told_of};
 ghost use Rattle.distance_words.proofs.Run;
 
 use crate::found::run_found;
@@ -18,7 +17,7 @@ use chain_check::shape::misshapen;
 use chain_theory::Chain;
 use distance_pairs::discover::discover_from;
 use distance_theory::lent::{Pairs, PairsMut, Scratch};
-use distance_theory::{Goal, long};
+use distance_theory::long;
 use distance_words::told::Answer;
 use numbers::refusal::Refusal;
 
@@ -115,8 +114,8 @@ fn run_pairs(
     run_found(&first(pairs, n), &observed(of), places, masses)
 }
 
-// The same as `run`, of what is asked.
-fn run_asked(of: &Question, scratch: &mut Scratch) -> Result<Answer, Refusal>
+// The run of two chains: refusals 17, 18, 16 and 19, or the distance and its contributions. 4 where they can't be run; the lists are then as they were, else all zero.
+pub fn run(of: &Question, scratch: &mut Scratch) -> Result<Answer, Refusal>
     ensures lists { SameScratch scratch.old scratch.new }
     ensures ran { ran_in (numbered result) scratch.new ≡ ran_on of.now scratch.old }
 {
@@ -132,22 +131,4 @@ fn run_asked(of: &Question, scratch: &mut Scratch) -> Result<Answer, Refusal>
     let told = run_pairs(of, &mut pairs, &mut *scratch.places, &mut *scratch.masses);
     clear(scratch);
     told
-}
-
-// The run of two chains: refusals 17, 18, 16 and 19, or the distance and its contributions. 4 where they can't be run; the lists are then as they were, else all zero.
-pub fn run(
-    left: &Chain,
-    right: &Chain,
-    goal: Goal,
-    scratch: &mut Scratch,
-) -> Result<Answer, Refusal>
-    ensures lists { SameScratch scratch.old scratch.new }
-    ensures ran { ran_as (numbered result) scratch.new.lefts.now scratch.new.rights.now scratch.new.codes.now scratch.new.places.now scratch.new.masses.now ≡ ran_of left.now.shape (of_chain left.now) right.now.shape (of_chain right.now) goal.gamma goal.options scratch.old.lefts.now scratch.old.rights.now scratch.old.codes.now scratch.old.places.now scratch.old.masses.now }
-{
-    let of = Question {
-        left: *left,
-        right: *right,
-        goal,
-    };
-    run_asked(&of, scratch)
 }

@@ -1,5 +1,6 @@
 // The kind `distance`: two chains and a goal; the answer, its contributions, and whether scratch is zero or as it was.
 use distance::measure::measure;
+use distance_run::question::Question;
 use replay_measures::chains::Store;
 use replay_measures::scratch::Lists;
 use replay_measures::{answer, asked, scratch};
@@ -14,13 +15,12 @@ pub fn run(r: &mut Reader) {
     let goal = asked::read(r);
     let rooms = asked::read_rooms(r);
     let mut lists = Lists::new();
-    let told = measure(
-        &left.chain(),
-        &right.chain(),
+    let of = Question {
+        left: left.chain(),
+        right: right.chain(),
         goal,
-        &mut lists.lend(rooms),
-        rooms.records,
-    );
+    };
+    let told = measure(&of, &mut lists.lend(rooms), rooms.records);
     answer::expect(r, &told);
     scratch::expect_lists(r, 6);
     lists.expect(r, rooms);

@@ -10,4 +10,4 @@ equal_columns : {O O' T T' : List ℕ} {P P' W W' : List Float} → O ≡ O' →
 equal_columns o t p w = rw (o, t, p, w)
 
 pub returns-clause-cleared : goal.returns-clause-cleared
-returns-clause-cleared c = equal_columns c.clear_states.ensures c.clear_states-2.ensures c.clear_masses.ensures c.clear_masses-2.ensures
+returns-clause-cleared c = equal_columns (c.fill.ensures.after (λ y e. e)) (c.fill-2.ensures.after (λ y e. e)) (c.fill-3.ensures.after (λ y e. e)) (c.fill-4.ensures.after (λ y e. e))

@@ -7,5 +7,6 @@ use Rattle.distance.proofs.check.distance_refusal.Goals as goal
 pub returns : goal.returns
 returns c =
     let a = c.args in
-    total a.left.now.shape (of_chain a.left.now) a.right.now.shape (of_chain a.right.now) a.rest.goal.gamma a.rest.goal.options (a.rest.lefts ∷ a.rest.rights ∷ a.rest.codes ∷ []) a.rest.records
+    let q = a.of.now in
+    total q.left.shape (of_chain q.left) q.right.shape (of_chain q.right) a.rest.goal.gamma a.rest.goal.options (a.rest.lefts ∷ a.rest.rights ∷ a.rest.codes ∷ []) a.rest.records
     c.chain_refusal-of_left.ensures c.chain_refusal-of_right.ensures c.rest_refusal.ensures c.earlier.ensures c.earlier-2.ensures
