@@ -8,7 +8,7 @@ use crate::best::best_coupling;
 use distance_theory::lent::{Best, SharesMut, Task};
 
 // The cheapest coupling of a task's pair k over the front of two lists. None where there is no such pair, a row can't be read or has over 32 entries, there are over 4,096 codes, or a list is short: the lists are then as they were.
-// Stays: the two lists are apart; of a `SharesMut` of two arrays the caller would cut the fields after the call, and the check forgets what a field holds that is lent in part. The same was tried in `move_masses`, with the columns of a plan.
+// Stays: the two lists are apart; of a `SharesMut` of two arrays it was tried, and `improve_each` didn't close: past the call the check knows the arrays as `js-in-loop-k-1.given.0`, and what was laid in them is lost.
 pub fn best_pair(
     task: &Task,
     k: usize,

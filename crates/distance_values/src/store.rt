@@ -1,4 +1,4 @@
-// Whether the couplings in rows of numbers can be read: each in the store, and of pairs that are there.
+// Whether the couplings in rows of numbers can be read: each in the store, and of pairs that are there. And the coupling of a pair.
 ghost use Rattle.std.specs.Prelude.{◌≡◌, ◌+◌, ◌≤◌, ◌<◌, length, get_or};
 ghost use Rattle.std.proofs.Math.Seq.{slice};
 ghost use Rattle.numbers.specs.Lists.{all};

@@ -1,4 +1,4 @@
-// Words of the contracts among the parts of `distance` (proofs/): what the lists that they lend each other hold. And what a run answers.
+// Words of the contracts among the parts of `distance` (specs/, proofs/): what the lists that they lend each other hold. And what a run answers.
 #![tactic(auto)]
 
 pub mod told; // told.rt: what a run and its parts answer

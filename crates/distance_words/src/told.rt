@@ -36,6 +36,7 @@ pub struct Accounted {
 }
 
 // The distance, and 64 records, the contributions first.
+// Stays: how many of the records are meant stands in the distance (`contributions`); no heap.
 #[derive(Clone, Copy, Debug)]
 pub struct Answer {
     pub distance: Distance,
