@@ -1,8 +1,8 @@
-// A distance as numbers, for the exported functions: 0, with what it holds put behind the references; or a refusal's number, the references left as they were.
+// A distance as numbers, for the exported functions: what it holds is put behind the references; a refusal is handed on, and leaves them as they were.
 #![tactic(auto)]
 
 ghost use Rattle.std.specs.Prelude.{◌≡◌};
-ghost use Rattle.numbers.specs.Refuse.{numbered};
+ghost use Rattle.numbers.specs.Refuse.{code, numbered};
 ghost use Rattle.distance_replies.specs.Distances.{replied, of_measured};
 
 use distance_theory::Distance;
@@ -16,20 +16,16 @@ pub fn put_distance(
     pairs_explored: &mut usize,
     contributions: &mut usize,
     rounds: &mut usize,
-) -> u32
-    ensures { replied result value.new error_bound.new discount.new pairs_explored.new contributions.new rounds.new
+) -> Result<(), Refusal>
+    ensures { replied (code result) value.new error_bound.new discount.new pairs_explored.new contributions.new rounds.new
         ≡ of_measured (numbered answer) value.old error_bound.old discount.old pairs_explored.old contributions.old rounds.old }
 {
-    match answer {
-        Ok(d) => {
-            *value = d.value;
-            *error_bound = d.error_bound;
-            *discount = d.gamma;
-            *pairs_explored = d.pairs_explored;
-            *contributions = d.contributions;
-            *rounds = d.rounds;
-            0
-        }
-        Err(refusal) => refusal.number(),
-    }
+    let d = answer?;
+    *value = d.value;
+    *error_bound = d.error_bound;
+    *discount = d.gamma;
+    *pairs_explored = d.pairs_explored;
+    *contributions = d.contributions;
+    *rounds = d.rounds;
+    Ok(())
 }

@@ -5,7 +5,8 @@ ghost use Rattle.card.specs.Printing.{printed};
 ghost use Rattle.replies.specs.Texts.{of_text};
 
 use card::report;
-use replies::texts;
+use numbers::refusal::code;
+use replies::answers;
 
 // Writes what is printed for the bytes of a card, and says how many bytes that is; 7 where the store is under 13,331 bytes.
 #[unsafe(no_mangle)]
@@ -14,5 +15,5 @@ pub extern "C" fn tanqesha_report(card: &[u8], out: &mut [u8], written: &mut usi
     ensures out_after { out.new ≡ text_stored (store_fault (length out.old)) (printed card.now) out.old }
 {
     let answer = report(card, out);
-    texts::put_text(answer, written)
+    code(&answers::put(answer, written))
 }

@@ -10,7 +10,8 @@ use distance::entry::distance;
 use distance_replies::put_distance;
 use distance_theory::lent::Scratch;
 use distance_theory::{Goal, MetricOptions, PairContribution};
-use replies::chain_answers::chain_of;
+use numbers::refusal::code;
+use replies::shapes::chain_of;
 
 pub fn metric_options(tolerance: f64, max_rounds: usize, top: usize) -> MetricOptions
     ensures { result ≡ options tolerance max_rounds top }
@@ -87,5 +88,5 @@ pub extern "C" fn tanqesha_distance(
         masses,
     };
     let answer = distance(&left, &right, goal, &mut scratch, records);
-    put_distance(answer, value, error_bound, discount, pairs, listed, rounds)
+    code(&put_distance(answer, value, error_bound, discount, pairs, listed, rounds))
 }

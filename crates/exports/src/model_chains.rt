@@ -11,8 +11,9 @@ ghost use Rattle.replies.specs.Chains.{told, of_rated, makes, made, leaves, scal
 use bisim_core::wlts::Wlts;
 use chain_theory::{ChainMut, ChainStore};
 use chains::chain;
-use replies::chain_answers;
-use replies::shapes::shape_of;
+use numbers::refusal::code;
+use replies::answers;
+use replies::shapes::{chain_of, shape_of};
 
 // The rate that covers two models: their greatest exit rate, or 1 if nothing moves.
 #[unsafe(no_mangle)]
@@ -74,7 +75,7 @@ pub extern "C" fn tanqesha_common_rate(
         edge_weights: right_edge_weights,
     };
     let answer = chain::common_rate(&left, &right);
-    chain_answers::put_real(answer, rate)
+    code(&answers::put(answer, rate))
 }
 
 // The chain of a model at a rate, with an observation of each state: where the entries of each state begin, their targets and probabilities, and the observations, over the front of the lists lent.
@@ -119,7 +120,7 @@ pub extern "C" fn tanqesha_uniformise(
         observations: chain_observations,
     };
     let answer = chain::uniformise(&model, rate, observations, &mut store);
-    chain_answers::put_chain(answer, entries)
+    code(&answers::put_chain(answer, entries))
 }
 
 // The observations of two chains mapped to 0 to 1, by one least and one greatest over both; behind the reference, by how much they differ.
@@ -149,19 +150,19 @@ pub extern "C" fn tanqesha_normalise(
         (chain_columns right_offsets.now right_targets.now right_probabilities.now right_observations.old)) scale.old }
 {
     let mut left = ChainMut {
-        shape: chain_answers::chain_of(left_states, left_entries, left_initial),
+        shape: chain_of(left_states, left_entries, left_initial),
         offsets: left_offsets,
         targets: left_targets,
         probs: left_probabilities,
         observations: left_observations,
     };
     let mut right = ChainMut {
-        shape: chain_answers::chain_of(right_states, right_entries, right_initial),
+        shape: chain_of(right_states, right_entries, right_initial),
         offsets: right_offsets,
         targets: right_targets,
         probs: right_probabilities,
         observations: right_observations,
     };
     let answer = normalise::normalise(&mut left, &mut right);
-    chain_answers::put_real(answer, scale)
+    code(&answers::put(answer, scale))
 }

@@ -18,6 +18,7 @@ use chains::observed::Observed;
 use distance_replies::put_distance;
 use distance_theory::lent::Scratch;
 use distance_theory::{Goal, PairContribution};
+use numbers::refusal::code;
 use replies::shapes::shape_of;
 
 fn state(number: u32) -> StateId
@@ -161,5 +162,5 @@ pub extern "C" fn tanqesha_bisim_distance(
         &mut scratch,
         records,
     );
-    put_distance(answer, value, error_bound, discount, pairs, listed, rounds)
+    code(&put_distance(answer, value, error_bound, discount, pairs, listed, rounds))
 }

@@ -51,7 +51,7 @@ pub extern "C" fn tanqesha_intern(
     ensures labels_after { labels.new ≡ (Ids.interning labels.old count value).labels }
 {
     let answer = ids::intern(labels, count, value);
-    answers::put_interned(answer, id, total)
+    code(&answers::put_interned(answer, id, total))
 }
 
 #[unsafe(no_mangle)]
@@ -65,7 +65,7 @@ pub extern "C" fn tanqesha_get(
     ensures { result ∷ present.new ∷ id.new ∷ [] ≡ of_found (Ids.get labels.now count value) present.old id.old }
 {
     let answer = Interner { labels, count }.get(value);
-    answers::put_found(answer, present, id)
+    code(&answers::put_option(answer.map(|found| found.map(|x| x.0)), present, id))
 }
 
 #[unsafe(no_mangle)]
@@ -73,7 +73,7 @@ pub extern "C" fn tanqesha_resolve(labels: &[u32], count: usize, id: u32, value:
     ensures { result ∷ value.new ∷ [] ≡ of_resolved (Ids.resolve labels.now count id) value.old }
 {
     let answer = Interner { labels, count }.resolve(LabelId(id));
-    answers::put_resolved(answer, value)
+    code(&answers::put(answer, value))
 }
 
 #[unsafe(no_mangle)]
@@ -119,7 +119,7 @@ pub extern "C" fn tanqesha_build(
         edge_weights,
     };
     let answer = build(&draft, &mut store);
-    answers::put_built(answer, edges, distinct)
+    code(&answers::put_built(answer, edges, distinct))
 }
 
 // The number of the check that a model fails, 0 if it is accepted.
@@ -178,7 +178,7 @@ pub extern "C" fn tanqesha_num_states(
         edge_weights,
     };
     let answer = reader::num_states(&model);
-    answers::put_counted(answer, count)
+    code(&answers::put(answer, count))
 }
 
 // How many edges.
@@ -209,7 +209,7 @@ pub extern "C" fn tanqesha_num_transitions(
         edge_weights,
     };
     let answer = reader::num_transitions(&model);
-    answers::put_counted(answer, count)
+    code(&answers::put(answer, count))
 }
 
 // How many labels.
@@ -240,7 +240,7 @@ pub extern "C" fn tanqesha_num_labels(
         edge_weights,
     };
     let answer = reader::num_labels(&model);
-    answers::put_counted(answer, count)
+    code(&answers::put(answer, count))
 }
 
 // The initial state, if there is one.
@@ -272,7 +272,7 @@ pub extern "C" fn tanqesha_initial(
         edge_weights,
     };
     let answer = reader::initial(&model);
-    answers::put_start(answer, found, state)
+    code(&answers::put_option(answer.map(|found| found.map(|x| x.0)), found, state))
 }
 
 // The edges of state s: from where, and up to where.
@@ -305,7 +305,7 @@ pub extern "C" fn tanqesha_successors(
         edge_weights,
     };
     let answer = reader::successors(&model, StateId(s));
-    answers::put_successors(answer, from, to)
+    code(&answers::put_successors(answer, from, to))
 }
 
 // The value of a label id.
@@ -337,7 +337,7 @@ pub extern "C" fn tanqesha_label(
         edge_weights,
     };
     let answer = reader::label(&model, LabelId(id));
-    answers::put_resolved(answer, value)
+    code(&answers::put(answer, value))
 }
 
 // The id of a label value, if it has one.
@@ -370,5 +370,5 @@ pub extern "C" fn tanqesha_label_id(
         edge_weights,
     };
     let answer = reader::label_id(&model, value);
-    answers::put_found(answer, found, id)
+    code(&answers::put_option(answer.map(|found| found.map(|x| x.0)), found, id))
 }

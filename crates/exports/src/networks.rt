@@ -1,6 +1,7 @@
 // Networks of links and their maximum flow for C and Rust: over rows of numbers, and on a network that is lent, laid out as C has it.
-ghost use Rattle.std.specs.Prelude.{◌≡◌, length};
+ghost use Rattle.std.specs.Prelude.{◌≡◌, length, IfOk, eqb};
 ghost use Rattle.numbers.specs.Refuse.{numbered, code};
+ghost use Rattle.flow_check.specs.Refusal.{refused_unless};
 ghost use Rattle.flow_core.specs.Outcome;
 ghost use Rattle.flow_core.specs.Outcome.{Claimed};
 ghost use Rattle.flow.specs.Network;
@@ -9,18 +10,12 @@ ghost use Rattle.replies.specs.Flows.{told, of_flow};
 ghost use Rattle.exports.specs.Networks.{flow_rows, network_refusal, kept};
 
 use flow::network::FlowNetwork;
-use flow_check::{Edge, Ends};
+use flow_check::{Edge, Ends, Network};
 use flow_core::{Flow, rows};
 use numbers::refusal::{Refusal, code};
 use replies::answers;
 
-// The number of starts in a network's rows.
-const STARTS: usize = 67;
-
-// A network that is turned back.
-const NETWORK: Refusal = Refusal::NetworkOrMasses;
-
-// A network in rows of numbers, its capacities beside it.
+// A network in rows as C lends them: the starts are a list of any length.
 #[derive(Clone, Copy)]
 struct Rows<'a> {
     heads: &'a [u32],
@@ -30,51 +25,38 @@ struct Rows<'a> {
     nodes: usize,
 }
 
-// The starts as an array.
-fn starts_of(from: &[u32]) -> [u32; 67]
-    requires { length from.now ≡ 67 }
-    ensures { result ≡ from.now }
-{
-    let mut starts = [0u32; 67];
-    starts.copy_from_slice(from);
-    starts
+impl<'a> Rows<'a> {
+    // The network, where there are 67 starts.
+    fn network(&self) -> Result<Network<'a>, Refusal>
+        ensures number { code result ≡ refused_unless (eqb (length self.now.starts.now) 67) }
+        ensures rows { IfOk result (λ net. (net.heads.now ≡ self.now.heads.now) × (net.costs.now ≡ self.now.costs.now) × (net.starts.now ≡ self.now.starts.now) × (net.list.now ≡ self.now.list.now) × (net.nodes ≡ self.now.nodes)) }
+    {
+        Ok(Network {
+            heads: self.heads,
+            costs: self.costs,
+            starts: self.starts.as_array().ok_or(Refusal::NetworkOrMasses)?,
+            list: self.list,
+            nodes: self.nodes,
+        })
+    }
 }
 
 fn flow_rows(lent: &Rows, caps: &mut [f64], ends: Ends) -> Result<Flow, Refusal>
     ensures { Outcome.ends (numbered result) caps.new ≡ flow_rows lent.now.heads.now caps.old lent.now.costs.now lent.now.starts.now lent.now.list.now lent.now.nodes ends.source ends.sink }
 {
-    if lent.starts.len() == STARTS {
-        let own = starts_of(lent.starts);
-        let net = flow_check::Network {
-            heads: lent.heads,
-            costs: lent.costs,
-            starts: &own,
-            list: lent.list,
-            nodes: lent.nodes,
-        };
-        return rows::max_flow_rows(&net, caps, ends);
-    }
-    Err(NETWORK)
+    let net = lent.network()?;
+    rows::max_flow_rows(&net, caps, ends)
 }
 
 // Whether a network is accepted with these capacities, source and sink.
 fn check_rows(lent: &Rows, caps: &[f64], ends: Ends) -> Result<(), Refusal>
     ensures { code result ≡ network_refusal lent.now.heads.now caps.now lent.now.costs.now lent.now.starts.now lent.now.list.now lent.now.nodes ends.source ends.sink }
 {
-    if lent.starts.len() == STARTS {
-        let own = starts_of(lent.starts);
-        let net = flow_check::Network {
-            heads: lent.heads,
-            costs: lent.costs,
-            starts: &own,
-            list: lent.list,
-            nodes: lent.nodes,
-        };
-        if net.accepts(caps, ends) {
-            return Ok(());
-        }
+    if lent.network()?.accepts(caps, ends) {
+        Ok(())
+    } else {
+        Err(Refusal::NetworkOrMasses)
     }
-    Err(NETWORK)
 }
 
 // The maximum flow from source to sink; the capacities are left as the run leaves them.
@@ -106,7 +88,7 @@ pub extern "C" fn tanqesha_max_flow_rows(
         nodes,
     };
     let answer = flow_rows(&lent, caps, Ends { source, sink });
-    answers::put_flow(answer, flow, phases, pushes)
+    code(&answers::put_flow(answer, flow, phases, pushes))
 }
 
 // The number of the check that a network fails, 0 if it is accepted.
@@ -185,5 +167,5 @@ pub extern "C" fn tanqesha_max_flow(
         × ClaimedOn net.old source sink }
 {
     let answer = net.max_flow(Ends { source, sink });
-    answers::put_flow(answer, flow, phases, pushes)
+    code(&answers::put_flow(answer, flow, phases, pushes))
 }

@@ -15,6 +15,7 @@ use bisimilar::related;
 use epsdelta::asked::{Side, Sides, Tolerances};
 use epsdelta::relation;
 use min_epsilon::least;
+use numbers::refusal::code;
 use replies::answers;
 use replies::shapes::shape_of;
 
@@ -90,7 +91,7 @@ pub extern "C" fn tanqesha_epsdelta(
     };
     let tolerances = Tolerances { epsilon, rho };
     let sides = Sides { left, right };
-    answers::number_of(relation::epsdelta(&sides, tolerances, relation))
+    code(&relation::epsdelta(&sides, tolerances, relation))
 }
 
 // Whether a relation holds a state of the left model with one of the right.
@@ -106,7 +107,7 @@ pub extern "C" fn tanqesha_related(
     ensures { result ∷ related.new ∷ [] ≡ of_verdict (related_outcome left_states right_states relation.now s t) related.old }
 {
     let answer = related::related(left_states, right_states, relation, StateId(s), StateId(t));
-    answers::put_verdict(answer, related)
+    code(&answers::put_verdict(answer, related))
 }
 
 // Whether the initial states of two models are related; the bytes are work space, zero at the end.
@@ -183,7 +184,7 @@ pub extern "C" fn tanqesha_epsdelta_bisimilar(
     let tolerances = Tolerances { epsilon, rho };
     let sides = Sides { left, right };
     let answer = epsdelta_bisimilar(&sides, tolerances, relation);
-    answers::put_verdict(answer, related)
+    code(&answers::put_verdict(answer, related))
 }
 
 // The least ε at which the initial states of two models are related, if there is one; the bytes are work space, zero at the end.
@@ -260,5 +261,5 @@ pub extern "C" fn tanqesha_min_epsilon(
     };
     let sides = Sides { left, right };
     let answer = least::min_epsilon(&sides, rho, relation);
-    answers::put_least(answer, present, epsilon)
+    code(&answers::put_option(answer, present, epsilon))
 }

@@ -4,6 +4,7 @@ ghost use Rattle.transport_theory.specs.Refusal.{costs_fit};
 ghost use Rattle.transport.specs.Outcome.{transport_on};
 ghost use Rattle.replies.specs.Transports.{told, leaves, planned};
 
+use numbers::refusal::code;
 use replies::transports;
 use transport::entry;
 use transport::plan::PlanRows;
@@ -36,5 +37,5 @@ pub extern "C" fn tanqesha_transport(
         masses: plan_masses,
     };
     let answer = entry::transport(&of, &mut plan);
-    transports::put_plan(answer, total, cells)
+    code(&transports::put_plan(answer, total, cells))
 }

@@ -18,6 +18,28 @@ initial present s = absent_if (eqb present 0) s
 abbrev pub shape : ℕ → ℕ → ℕ → Option StateId → Shape
 shape s e l i = record { states = s; edges = e; labels = l; initial = i }
 
+-- 0, or the refusal's number
+abbrev pub number_of : {A : Type 0} → Result A ℕ → ℕ
+number_of (Ok v) = 0
+number_of (Err k) = k
+
+-- what a reference then holds: the value, or after a refusal what it held before
+abbrev pub held : {A : Type 0} → Result A ℕ → A → A
+held (Ok v) x = v
+held (Err k) x = x
+
+-- whether there is a value: 1 or 0, or after a refusal what was held before
+abbrev pub present_of : {A : Type 0} → Result (Option A) ℕ → ℕ → ℕ
+present_of (Ok (Some v)) x = 1
+present_of (Ok None) x = 0
+present_of (Err k) x = x
+
+-- the value if there is one, else what was held before
+abbrev pub value_of : {A : Type 0} → Result (Option A) ℕ → A → A
+value_of (Ok (Some v)) x = v
+value_of (Ok None) x = x
+value_of (Err k) x = x
+
 -- id, and the number of labels then in use
 abbrev pub of_interned : Result (LabelId × ℕ) ℕ → ℕ → ℕ → List ℕ
 of_interned (Ok a) x y = 0 ∷ a.0.0 ∷ a.1 ∷ []
@@ -31,13 +53,11 @@ of_found (Err k) x y = k ∷ x ∷ y ∷ []
 
 -- label value
 abbrev pub of_resolved : Result ℕ ℕ → ℕ → List ℕ
-of_resolved (Ok v) x = 0 ∷ v ∷ []
-of_resolved (Err k) x = k ∷ x ∷ []
+of_resolved a x = number_of a ∷ held a x ∷ []
 
 -- count
 abbrev pub of_counted : Result ℕ ℕ → ℕ → List ℕ
-of_counted (Ok n) x = 0 ∷ n ∷ []
-of_counted (Err k) x = k ∷ x ∷ []
+of_counted a x = number_of a ∷ held a x ∷ []
 
 -- present, state
 abbrev pub of_start : Result (Option StateId) ℕ → ℕ → ℕ → List ℕ

@@ -4,6 +4,7 @@ use Rattle.chain_theory.specs.Columns.{ChainColumns}
 use Rattle.chain_theory.specs.declared.ChainShape.{ChainShape}
 use Rattle.chains.specs.Outcome as chains
 use Rattle.normalise.specs.Outcome as normalise
+use Rattle.replies.specs.Answers.{number_of, held}
 
 -- a chain's counts and initial state
 abbrev pub shape : ℕ → ℕ → ℕ → ChainShape
@@ -20,8 +21,7 @@ told k x = record { number = k; value = x }
 
 -- 0 and the number; or the refusal's number and what the reference held before
 abbrev pub of_real : Result Float ℕ → Float → Told
-of_real (Ok y) x = told 0 y
-of_real (Err k) x = told k x
+of_real a x = told (number_of a) (held a x)
 
 -- of the rate
 abbrev pub of_rated : Result Float ℕ → Float → Told

@@ -1,11 +1,11 @@
 -- What the exported functions on relations return, and what the bytes and references lent to them then hold.
 use Rattle.std.specs.Prelude.{ℕ, Bool, true, false, Option, Some, None, Result, Ok, Err, List, [], ◌∷◌, Float}
 use Rattle.epsdelta.specs.Outcome as epsdelta
+use Rattle.replies.specs.Answers.{number_of, present_of, value_of}
 
 -- 0, or the refusal's number
 abbrev pub of_ended : Result (Unit {0}) ℕ → ℕ
-of_ended (Ok x) = 0
-of_ended (Err k) = k
+of_ended a = number_of a
 
 -- the number returned, and what the reference then holds: 1 for related, 0 for not; a refusal keeps it
 abbrev pub of_verdict : Result Bool ℕ → ℕ → List ℕ
@@ -25,9 +25,7 @@ sought k p ε = record { number = k; present = p; epsilon = ε }
 
 -- where there is none, ε is kept; a refusal keeps both
 abbrev pub of_least : Result (Option Float) ℕ → ℕ → Float → Sought
-of_least (Ok (Some ε)) x y = sought 0 1 ε
-of_least (Ok None) x y = sought 0 0 y
-of_least (Err k) x y = sought k x y
+of_least a x y = sought (number_of a) (present_of a x) (value_of a y)
 
 -- what is told, and the bytes of the relation
 pub record Left (A : Type 0) : Type 0 where

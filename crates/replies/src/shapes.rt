@@ -1,9 +1,11 @@
-// A model's counts and initial state from numbers.
+// Counts and initial states of models and chains from numbers.
 ghost use Rattle.std.specs.Prelude.{◌≡◌};
 ghost use Rattle.replies.specs.Answers.{initial, shape};
+ghost use Rattle.replies.specs.Chains;
 
 use bisim_core::ids::StateId;
 use bisim_core::wlts::Shape;
+use chain_theory::ChainShape;
 
 // No initial state where `present` is 0.
 pub fn initial_of(present: u32, start: u32) -> Option<StateId>
@@ -17,21 +19,24 @@ pub fn initial_of(present: u32, start: u32) -> Option<StateId>
 }
 
 // A model's counts and initial state.
-pub fn shape_from(states: usize, edges: usize, labels: usize, initial: Option<StateId>) -> Shape
-    ensures { result ≡ shape states edges labels initial }
+pub fn shape_of(states: usize, edges: usize, labels: usize, present: u32, start: u32) -> Shape
+    ensures { result ≡ shape states edges labels (initial present start) }
 {
     Shape {
         states,
         edges,
         labels,
-        initial,
+        initial: initial_of(present, start),
     }
 }
 
-// The same, the initial state in numbers.
-pub fn shape_of(states: usize, edges: usize, labels: usize, present: u32, start: u32) -> Shape
-    ensures { result ≡ shape states edges labels (initial present start) }
+// A chain's counts and initial state.
+pub fn chain_of(states: usize, entries: usize, initial: u32) -> ChainShape
+    ensures { result ≡ Chains.shape states entries initial }
 {
-    let initial = initial_of(present, start);
-    shape_from(states, edges, labels, initial)
+    ChainShape {
+        states,
+        entries,
+        initial: StateId(initial),
+    }
 }

@@ -1,4 +1,4 @@
--- `put_real` ensures the numbers for the answer, with what the reference held before, and `common_rate` the answer.
+-- `code` ensures the number, `put_real` the numbers for the answer, with what the reference held before, and `common_rate` the answer.
 use Rattle.std.proofs.Common.{◌≡◌, ap, ◌∙◌, rules}
 use Rattle.bisim_core.specs.Data.{columns}
 use Rattle.std.specs.Prelude.{Result}
@@ -7,11 +7,11 @@ use lib.Ieee.{Float}
 use Rattle.numbers.specs.Refuse.{numbered}
 use Rattle.chains.specs.Outcome.{rated}
 use Rattle.replies.specs.Answers.{initial, shape}
-use Rattle.replies.specs.Chains.{of_rated}
+use Rattle.replies.specs.Chains.{told, of_rated}
 use Rattle.exports.proofs.model_chains.tanqesha_common_rate.Goals as goal
 
 pub returns : goal.returns
 returns c =
     let a = c.args in
     let answer : numbered c.common_rate-answer.result ≡ rated (shape a.left_states a.left_edges a.left_labels (initial a.left_present a.left_start)) (columns a.left_label_values.now a.left_offsets.now a.left_edge_labels.now a.left_edge_targets.now a.left_edge_weights.now) (shape a.right_states a.right_edges a.right_labels (initial a.right_present a.right_start)) (columns a.right_label_values.now a.right_offsets.now a.right_edge_labels.now a.right_edge_targets.now a.right_edge_weights.now) = search rules in
-    c.put_real.ensures ∙ ap (λ (x : Result Float ℕ). of_rated x a.rate.now) answer
+    ap (λ (k : ℕ). told k c.put_real.new.real) c.code.ensures ∙ c.put_real.ensures ∙ ap (λ (x : Result Float ℕ). of_rated x a.rate.now) answer
