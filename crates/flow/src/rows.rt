@@ -30,12 +30,7 @@ fn store_links(net: &mut FlowNetwork, heads: &[u32], caps: &[f64], nodes: usize)
 }
 
 // Fills the network with the links of the rows and their node lists; the network stays as it was where the rows make no network.
-fn fill(
-    net: &mut FlowNetwork,
-    heads: &[u32],
-    caps: &[f64],
-    nodes: usize,
-) -> Result<(), Refusal>
+fn fill(net: &mut FlowNetwork, heads: &[u32], caps: &[f64], nodes: usize) -> Result<(), Refusal>
     requires { length caps.now ≡ length heads.now }
     ensures fits { code result ≡ refused_unless (rows_fit heads.now (length heads.now) (length heads.now) (length heads.now) nodes) }
     ensures filled { net.new ≡ filled_if (rows_fit heads.now (length heads.now) (length heads.now) (length heads.now) nodes) net.old heads.now caps.now (length heads.now) nodes }
