@@ -10,7 +10,7 @@ ghost use Rattle.replies.specs.Flows.{told, of_flow};
 ghost use Rattle.exports.specs.Networks.{flow_rows, network_refusal, kept};
 
 use flow::network::FlowNetwork;
-use flow_check::{Edge, Ends, Network};
+use flow_check::{Edge, Ends};
 use flow_core::{Flow, rows};
 use numbers::refusal::{Refusal, code};
 use replies::answers;
@@ -27,11 +27,11 @@ struct Rows<'a> {
 
 impl<'a> Rows<'a> {
     // The network, where there are 67 starts.
-    fn network(&self) -> Result<Network<'a>, Refusal>
+    fn network(&self) -> Result<flow_check::Network<'a>, Refusal>
         ensures number { code result ≡ refused_unless (eqb (length self.now.starts.now) 67) }
         ensures rows { IfOk result (λ net. (net.heads.now ≡ self.now.heads.now) × (net.costs.now ≡ self.now.costs.now) × (net.starts.now ≡ self.now.starts.now) × (net.list.now ≡ self.now.list.now) × (net.nodes ≡ self.now.nodes)) }
     {
-        Ok(Network {
+        Ok(flow_check::Network {
             heads: self.heads,
             costs: self.costs,
             starts: self.starts.as_array().ok_or(Refusal::NetworkOrMasses)?,
