@@ -153,11 +153,12 @@ module _ (Z : Call) (few : Z.given ≤ 4096 → Z.given ≤ length Z.T) {s : Boo
     unfolding planned
     plan_is q f = f ∙ ap (λ (x : ℕ). outcome x (length (edges C given), length (labels_of C given)) S (laid rank (labels_of C given) (edges C given) S)) number_is
 
-    pub plan_refused : (r : ℕ) → ending (Err r) (lists L T W) ≡ planned rank states initial C given s S → ends (Err r) (columns L M.offsets M.edge_labels M.edge_targets W) ≡ build states initial C given M
+    pub plan_refused : (r : ℕ) → ending (Err r) (lists L T W) ≡ planned rank states initial C given s S
+        → {O EL ET : List ℕ} → O ≡ M.offsets → EL ≡ M.edge_labels → ET ≡ M.edge_targets → ends (Err r) (columns L O EL ET W) ≡ build states initial C given M
     unfolding build
-    plan_refused r f =
+    plan_refused r f o el et =
         let (x, y, z) = refused_ends number _ r S _ (lists L T W) (plan_is (Err r) f) in
-        same L W M.labels M.edge_weights (ap (λ (m : Lists). m.labels) z) (ap (λ (m : Lists). m.weights) z) ∙ refused_is r number M (made states initial C given M) x y
+        rw (o, el, et) (same L W M.labels M.edge_weights (ap (λ (m : Lists). m.labels) z) (ap (λ (m : Lists). m.weights) z) ∙ refused_is r number M (made states initial C given M) x y)
       where
         same : (l : List ℕ) (w : List Float) (l' : List ℕ) (w' : List Float) → l ≡ l' → w ≡ w'
             → ends (Err r) (columns l M.offsets M.edge_labels M.edge_targets w) ≡ ends (Err r) (columns l' M.offsets M.edge_labels M.edge_targets w')
@@ -198,8 +199,8 @@ module _ (Z : Call) (few : Z.given ≤ 4096 → Z.given ≤ length Z.T) {s : Boo
           omega arith
 
       -- what the columns are then written from
-      pub fillable : Writable (take m T) (length (take m T)) M.edge_labels M.edge_targets × (length (take m T) ≤ 4096) × (states ≤ 2000) × (states < length M.offsets) × Rising (take m T) (length (take m T))
-      fillable =
+      cut_fillable : Writable (take m T) (length (take m T)) M.edge_labels M.edge_targets × (length (take m T) ≤ 4096) × (states ≤ 2000) × (states < length M.offsets) × Rising (take m T) (length (take m T))
+      cut_fillable =
           let (a, b, c) = sizes passed.0 in
           let h = edges_few passed.0 in
           let q = ended.1 in
@@ -212,14 +213,18 @@ module _ (Z : Call) (few : Z.given ≤ 4096 → Z.given ≤ length Z.T) {s : Boo
             cut_rising T m within (subst (λ (l : List ℕ). Rising l m) (sym triples_are) (subst (Rising (over (map rank E) Z.T)) (sym q) (stored_rising E Z.T M.edge_weights (strict passed.0)))),
           )
 
+      pub fillable : {X : List ℕ} {n : ℕ} → X ≡ take m T → n ≡ length (take m T) → {O EL ET : List ℕ} → O ≡ M.offsets → EL ≡ M.edge_labels → ET ≡ M.edge_targets
+          → Writable X n EL ET × (n ≤ 4096) × (states ≤ 2000) × (states < length O) × Rising X n
+      fillable x k o el et = rw (x, k, o, el, et) cut_fillable
+
       cut_stored : edges_in (take m T) W (length (take m T)) ≡ E
       cut_stored = cut_edges T m within W ∙ stored
 
-      pub plan_passed : {L' O EL ET : List ℕ} {W' : List Float} → Written (take m T) (length (take m T)) M.edge_labels M.edge_targets EL ET
+      cut_passed : {L' O EL ET : List ℕ} {W' : List Float} → Written (take m T) (length (take m T)) M.edge_labels M.edge_targets EL ET
           → ((U : List Float) → O ≡ over (offsets states (edges_in (take m T) U (length (take m T)))) M.offsets) → L' ≡ L → W' ≡ W
           → ends (Ok (record { states = states; edges = m; labels = d; initial = initial })) (columns L' O EL ET W') ≡ build states initial C given M
       unfolding build
-      plan_passed {L'} {O} {EL} {ET} {W'} w o l v =
+      cut_passed {L'} {O} {EL} {ET} {W'} w o l v =
           put m d L' O EL ET W' _ _ _ _ _ _ _ ended.1 ended.2 (l ∙ ap (λ (x : Lists). x.labels) ended.3) (o W ∙ ap (λ (x : List Edge). over (offsets states x) M.offsets) cut_stored)
           (w.labels W ∙ ap (λ (x : List Edge). over (map (λ (a : Edge). a.label) x) M.edge_labels) cut_stored)
           (w.targets W ∙ ap (λ (x : List Edge). over (map (λ (a : Edge). a.target) x) M.edge_targets) cut_stored) (v ∙ ap (λ (x : Lists). x.weights) ended.3)
@@ -230,3 +235,8 @@ module _ (Z : Call) (few : Z.given ≤ 4096 → Z.given ≤ length Z.T) {s : Boo
               → ends (Ok (record { states = states; edges = m; labels = c; initial = initial })) (columns l o el et ew)
               ≡ ends (Ok (record { states = states; edges = m'; labels = c'; initial = initial })) (columns l' o' el' et' ew')
           put m c l o el et ew m' c' l' o' el' et' ew' p q r s t u v = cc
+
+      pub plan_passed : {X : List ℕ} {n : ℕ} → X ≡ take m T → n ≡ length (take m T) → {O₁ EL₁ ET₁ : List ℕ} → O₁ ≡ M.offsets → EL₁ ≡ M.edge_labels → ET₁ ≡ M.edge_targets
+          → {L' O EL ET : List ℕ} {W' : List Float} → Written X n EL₁ ET₁ EL ET → ((U : List Float) → O ≡ over (offsets states (edges_in X U n)) O₁) → L' ≡ L → W' ≡ W
+          → ends (Ok (record { states = states; edges = m; labels = d; initial = initial })) (columns L' O EL ET W') ≡ build states initial C given M
+      plan_passed x k o el et = rw (x, k, o, el, et) cut_passed

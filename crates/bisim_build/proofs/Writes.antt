@@ -1,12 +1,12 @@
--- The turns of `write_edges`: one more entry in each of the two columns; and what `position` finds for `first_from`.
+-- The turns of `write_edges`: one more entry in each of the two columns; and what `find` finds for `first_from`.
 use mathlib.Core.Path.{◌≡◌, refl, sym, ap, ◌∙◌}
-use Prim.Native.Nat.{ℕ, ◌+◌, ◌-◌, ◌/◌, ◌%◌, ◌≤◌, ◌<◌}
+use Prim.Native.Nat.{ℕ, ◌+◌, ◌*◌, ◌/◌, ◌%◌, ◌≤◌, ◌<◌}
 use mathlib.Core.List.{List, map}
 use native.Mathlib.Omega.{arith}
 use lib.Ieee.{Float}
-use lib.ListN.{length, get_or, take, drop, set, length-set}
-use Rattle.std.specs.List.{AllWithin, HoldsAt}
-use Rattle.std.proofs.lemmas.List.Edits.{length-between, get_or-between}
+use lib.ListN.{length, get_or, set, length-set}
+use Rattle.std.specs.Prelude.{Option, Some, None, unwrap_or}
+use Rattle.std.specs.Option.{MatchOption}
 use Rattle.numbers.proofs.Over.{over, over_next, over_done}
 use Rattle.bisim_core.specs.Data.{Edge}
 use Rattle.build_theory.proofs.Steps.{edges_in, FirstFrom, Writable, Written}
@@ -49,37 +49,10 @@ module _ {T : List ℕ} {m : ℕ} {L₀ G₀ L G : List ℕ} {i : ℕ} (P : Writ
         targets = λ U. over_done (map target_of (edges_in T U m)) G₀ G i (I.targets U) (e ∙ sym (column_length target_of T U m));
       }
 
--- ---- the first number of T[p..m] that is not below b
+-- ---- the first triple from p on whose source is not below s
 
-module _ (T : List ℕ) (m p b : ℕ) (h : p ≤ m) (g : m ≤ length T) where
-  abbrev part : List ℕ
-  part = take (m - p) (drop p T)
-
-  part_length : length part ≡ m - p
-  part_length = length-between T p m g
-
-  passed : (k : ℕ) → AllWithin (λ x. x < b) part 0 k → p + k ≤ m → (j : ℕ) → p ≤ j → j < p + k → get_or T j 0 < b
-  passed k a l j x y =
-      let e : p + (j - p) ≡ j = omega arith in
-      let v : get_or part (j - p) 0 ≡ get_or T j 0 = get_or-between T p m (j - p) 0 (omega arith) ∙ ap (λ (i : ℕ). get_or T i 0) e in
-      omega (arith, a (j - p) 0 (omega arith) (omega arith))
-
-  pub found_first : (k : ℕ) → (k < length part) × HoldsAt (λ x. b ≤ x) part k × AllWithin (λ x. x < b) part 0 k → FirstFrom T m p b (p + k)
-  found_first k (l, at, before) =
-      let n = part_length in
-      record {
-        from = omega arith;
-        within = omega arith;
-        low = passed k before (omega arith);
-        high = λ z. omega (arith, at 0, get_or-between T p m k 0 z);
-      }
-
-  pub found_none : AllWithin (λ x. x < b) part 0 (length part) → FirstFrom T m p b m
-  found_none before =
-      let n = part_length in
-      record {
-        from = h;
-        within = omega arith;
-        low = λ j x y. passed (length part) before (omega arith) j x (omega arith);
-        high = λ z. absurd (omega arith);
-      }
+pub first : (T : List ℕ) (m p s : ℕ) → p ≤ m → (r : Option ℕ)
+    → MatchOption r ((k : ℕ) → p ≤ k → k < m → get_or T k 0 / 524288 < s) (λ i. (p ≤ i) × (i < m) × (s ≤ get_or T i 0 / 524288) × ((k : ℕ) → p ≤ k → k < i → get_or T k 0 / 524288 < s))
+    → FirstFrom T m p (s * 524288) (unwrap_or r m)
+first T m p s h (Some i) (a, b, y, before) = record { from = a; within = omega arith; low = λ j x z. let l = before j x z in omega arith; high = λ z. omega arith }
+first T m p s h None t = record { from = h; within = omega arith; low = λ j x z. let l = t j x z in omega arith; high = λ z. absurd (omega arith) }

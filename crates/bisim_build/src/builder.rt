@@ -1,31 +1,28 @@
 // `build`: a model from transitions in columns.
-ghost use Rattle.std.specs.Prelude.{◌≡◌, ◌≤◌, length};
-ghost use Rattle.numbers.specs.Refuse.{numbered};
-ghost use Rattle.build_theory.specs.Lent.{transitions_of, columns_in, kept};
-ghost use Rattle.bisim_build.specs.Build;
-ghost use Rattle.bisim_build.specs.Build.{ends};
+ghost use Rattle.std.specs.Prelude.{◌≤◌, length};
+ghost use Rattle.build_theory.specs.Lent.{kept};
+ghost use Rattle.bisim_build.specs.Lent.{Built};
 
 use crate::write;
 use bisim_core::wlts::Shape;
-use bisim_edges::planner::plan;
+use bisim_edges::planner::{PlanLists, plan};
+use build_theory::keys::Triple;
 use build_theory::lent::{Draft, Store};
 use numbers::refusal::Refusal;
 
 // `build`, with work space for the transitions given, if they are not too many.
-fn build_in(draft: &Draft, store: &mut Store, triples: &mut [u64]) -> Result<Shape, Refusal>
+fn build_in(draft: &Draft, store: &mut Store, triples: &mut [Triple]) -> Result<Shape, Refusal>
     requires { draft.now.given ≤ 4096 → draft.now.given ≤ length triples.old }
-    ensures outcome { ends (numbered result) (columns_in store.new)
-        ≡ Build.build draft.now.states draft.now.initial (transitions_of draft.now) draft.now.given (columns_in store.old) }
+    ensures outcome { Built draft.now result store.old store.new }
     ensures same_lists { kept store.old store.new }
 {
     let short = write::short(draft, store);
-    let (edges, labels) = plan(
-        draft,
-        short,
-        store.label_values,
-        triples,
-        store.edge_weights,
-    )?;
+    let mut lists = PlanLists {
+        label_values: &mut *store.label_values,
+        triples: &mut *triples,
+        edge_weights: &mut *store.edge_weights,
+    };
+    let (edges, labels) = plan(draft, short, &mut lists)?;
     write::fill(&triples[..edges], draft.states, store);
     Ok(Shape {
         states: draft.states,
@@ -38,18 +35,16 @@ fn build_in(draft: &Draft, store: &mut Store, triples: &mut [u64]) -> Result<Sha
 // `build`, with work space for N transitions: as many as are given, if they are not too many.
 fn build_with<const N: usize>(draft: &Draft, store: &mut Store) -> Result<Shape, Refusal>
     requires { (N ≤ 4096) × (draft.now.given ≤ 4096 → draft.now.given ≤ N) }
-    ensures outcome { ends (numbered result) (columns_in store.new)
-        ≡ Build.build draft.now.states draft.now.initial (transitions_of draft.now) draft.now.given (columns_in store.old) }
+    ensures outcome { Built draft.now result store.old store.new }
     ensures same_lists { kept store.old store.new }
 {
-    let mut triples = [0u64; N];
+    let mut triples = [Triple(0); N];
     build_in(draft, store, &mut triples)
 }
 
 // The model of a draft, its columns in the store. Turned back with the first check that fails: then the store is left as it was.
 pub fn build(draft: &Draft, store: &mut Store) -> Result<Shape, Refusal>
-    ensures outcome { ends (numbered result) (columns_in store.new)
-        ≡ Build.build draft.now.states draft.now.initial (transitions_of draft.now) draft.now.given (columns_in store.old) }
+    ensures outcome { Built draft.now result store.old store.new }
     ensures same_lists { kept store.old store.new }
 {
     if draft.given <= 256 {

@@ -4,55 +4,10 @@ ghost use Rattle.numbers.specs.Lists.{over};
 ghost use Rattle.build_theory.specs.Edges;
 ghost use Rattle.build_theory.specs.Lent.{kept};
 ghost use Rattle.build_theory.proofs.Steps.{Rising, edges_in, FirstFrom, Writable, Written};
+ghost use Rattle.bisim_edges.specs.Lent.{numbers};
 
 use build_theory::keys::Triple;
 use build_theory::lent::{Draft, Store};
-
-// The first of triples[p..] whose source is not below s.
-fn first_from(triples: &[u64], p: usize, s: u64) -> usize
-    requires { p ≤ length triples.now }
-    ensures { FirstFrom triples.now (length triples.now) p (s * 524288) result }
-{
-    match triples[p..].iter().position(|x| Triple(*x).source() >= s) {
-        Some(k) => p + k,
-        None => triples.len(),
-    }
-}
-
-fn write_offsets(triples: &[u64], states: usize, offsets: &mut [u32])
-    requires { (length triples.now ≤ 4096) × (states ≤ 2000) × (states < length offsets.old) × Rising triples.now (length triples.now) }
-    ensures { (U : List Float) → offsets.new ≡ over (Edges.offsets states (edges_in triples.now U (length triples.now))) offsets.old }
-{
-    let mut p = 0;
-    for s in 0..=states {
-        p = first_from(triples, p, s as u64);
-        offsets[s] = p as u32;
-    }
-}
-
-fn write_edges(triples: &[u64], labels: &mut [u32], targets: &mut [u32])
-    requires { Writable triples.now (length triples.now) labels.old targets.old }
-    ensures { Written triples.now (length triples.now) labels.old targets.old labels.new targets.new }
-{
-    for (i, number) in triples.iter().enumerate() {
-        let triple = Triple(*number);
-        labels[i] = triple.label();
-        targets[i] = triple.target();
-    }
-}
-
-// Offsets, label ids and targets of triples.
-pub(crate) fn fill(triples: &[u64], states: usize, store: &mut Store)
-    requires { Writable triples.now (length triples.now) store.old.edge_labels.now store.old.edge_targets.now × (length triples.now ≤ 4096) × (states ≤ 2000) × (states < length store.old.offsets.now) × Rising triples.now (length triples.now) }
-    ensures edges { Written triples.now (length triples.now) store.old.edge_labels.now store.old.edge_targets.now store.new.edge_labels.now store.new.edge_targets.now }
-    ensures offsets { (U : List Float) → store.new.offsets.now ≡ over (Edges.offsets states (edges_in triples.now U (length triples.now))) store.old.offsets.now }
-    ensures labels { store.new.label_values.now ≡ store.old.label_values.now }
-    ensures weights { store.new.edge_weights.now ≡ store.old.edge_weights.now }
-    ensures same_lists { kept store.old store.new }
-{
-    write_offsets(triples, states, store.offsets);
-    write_edges(triples, store.edge_labels, store.edge_targets);
-}
 
 // 7, by the lengths of the lists that a plan does not fill.
 pub(crate) fn short(draft: &Draft, store: &Store) -> bool
@@ -62,4 +17,48 @@ pub(crate) fn short(draft: &Draft, store: &Store) -> bool
     store.offsets.len() <= draft.states
         || store.edge_labels.len() < given
         || store.edge_targets.len() < given
+}
+
+// The first of triples[p..] whose source is not below s.
+fn first_from(triples: &[Triple], p: usize, s: u64) -> usize
+    requires { p ≤ length triples.now }
+    ensures { FirstFrom (numbers triples.now) (length triples.now) p (s * 524288) result }
+{
+    let n = triples.len();
+    (p..n).find(|k| triples[*k].source() >= s).unwrap_or(n)
+}
+
+// Stays: over `offsets[..=states].iter_mut().enumerate()` the loop is as long, and its law, which is of the whole list, would be of a part of it.
+fn write_offsets(triples: &[Triple], states: usize, offsets: &mut [u32])
+    requires { (length triples.now ≤ 4096) × (states ≤ 2000) × (states < length offsets.old) × Rising (numbers triples.now) (length triples.now) }
+    ensures { (U : List Float) → offsets.new ≡ over (Edges.offsets states (edges_in (numbers triples.now) U (length triples.now))) offsets.old }
+{
+    let mut p = 0;
+    for s in 0..=states {
+        p = first_from(triples, p, s as u64);
+        offsets[s] = p as u32;
+    }
+}
+
+fn write_edges(triples: &[Triple], labels: &mut [u32], targets: &mut [u32])
+    requires { Writable (numbers triples.now) (length triples.now) labels.old targets.old }
+    ensures { Written (numbers triples.now) (length triples.now) labels.old targets.old labels.new targets.new }
+{
+    for (i, triple) in triples.iter().enumerate() {
+        labels[i] = triple.label();
+        targets[i] = triple.target();
+    }
+}
+
+// Offsets, label ids and targets of triples.
+pub(crate) fn fill(triples: &[Triple], states: usize, store: &mut Store)
+    requires { Writable (numbers triples.now) (length triples.now) store.old.edge_labels.now store.old.edge_targets.now × (length triples.now ≤ 4096) × (states ≤ 2000) × (states < length store.old.offsets.now) × Rising (numbers triples.now) (length triples.now) }
+    ensures edges { Written (numbers triples.now) (length triples.now) store.old.edge_labels.now store.old.edge_targets.now store.new.edge_labels.now store.new.edge_targets.now }
+    ensures offsets { (U : List Float) → store.new.offsets.now ≡ over (Edges.offsets states (edges_in (numbers triples.now) U (length triples.now))) store.old.offsets.now }
+    ensures labels { store.new.label_values.now ≡ store.old.label_values.now }
+    ensures weights { store.new.edge_weights.now ≡ store.old.edge_weights.now }
+    ensures same_lists { kept store.old store.new }
+{
+    write_offsets(triples, states, store.offsets);
+    write_edges(triples, store.edge_labels, store.edge_targets);
 }

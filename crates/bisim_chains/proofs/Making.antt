@@ -1,22 +1,19 @@
 -- What `lay_chains` leaves is the chains of the definition: laid at the common rate, and their observations scaled together.
 use mathlib.Core.Path.{◌≡◌, refl, sym, ap, ◌∙◌}
-use mathlib.Core.Bool.{Bool, true, not, true≢false}
+use mathlib.Core.Bool.{true≢false}
 use Prim.Native.Nat.{ℕ, zero, suc, ◌-◌, ◌≤◌}
-use mathlib.Core.List.{List, ◌++◌}
+use mathlib.Core.List.{List, [], ◌∷◌, ◌++◌}
 use native.Mathlib.Omega.{arith}
 use lib.Ieee.{Float}
 use lib.ListN.{length, take, drop, length-map, length-append}
 use lib.Seq.{take_at, drop_at, take_all, length-take-le}
-use borrow.Author.Tests.{eq-eqb}
-use Rattle.std.specs.Prelude.{Option, Some, None, Result, Ok, Err}
-use Rattle.std.specs.Option.{is_some}
+use Rattle.std.specs.Prelude.{Result, Ok, Err}
 use Rattle.std.specs.Result.{IsErrAnd, is_ok}
 use Rattle.numbers.specs.Lists.{over}
 use Rattle.numbers.specs.Refuse
 use Rattle.numbers.specs.Refuse.{numbered, answered}
 use Rattle.numbers.specs.declared.refusal.Refusal.{Refusal}
 use Rattle.numbers.proofs.Refuses.{number_positive}
-use Rattle.numbers.proofs.Bools.{and_second}
 use Rattle.bisim_core.specs.Data.{Edge, Columns}
 use Rattle.bisim_core.specs.declared.wlts.Shape.{Shape}
 use Rattle.bisim_core.specs.Model.{model}
@@ -26,13 +23,19 @@ use Rattle.chain_theory.specs.declared.ChainShape.{ChainShape}
 use Rattle.chain_theory.specs.Chain.{Chain, common_rate, uniformise, Scaled, normalise}
 use Rattle.chain_theory.specs.Columns.{ChainColumns, chain_columns, shape_of, columns_of}
 use Rattle.chain_theory.proofs.Chains.{rows_length}
-use Rattle.chains.specs.Outcome.{rated, laid, Laying, laying, layable, lay_if, lay_chain, LaidOut}
-use Rattle.chains.proofs.Answers.{ready}
+use Rattle.chains.specs.Outcome.{Outcome, rated, ends, laid, settled, lay_refusal, lay_chain, LaidOut}
+use Rattle.chains.proofs.Answers.{ready, lay_fit}
 use Rattle.normalise.specs.Outcome.{scaling}
-use Rattle.bisim_checks.proofs.Passed.{Side, passed}
+use Rattle.bisim_core.specs.Data
+use Rattle.chain_theory.specs.Lent.{of_store}
+use Rattle.chain_theory.specs.declared.ChainStore.{ChainStore}
+use Rattle.chains.specs.Observing.{of_both}
+use Rattle.chains.specs.declared.observed.Observed.{Observed}
+use Rattle.bisim_checks.specs.Rest.{of_rest}
+use Rattle.bisim_checks.specs.declared.rest.Rest.{Rest}
+use Rattle.bisim_checks.proofs.Passed.{Side, SideOf, passed}
 use Rattle.distance_theory.specs.Refusal.{bisim_refusal}
-use Rattle.distance_theory.specs.declared.MetricOptions.{MetricOptions}
-use Rattle.bisim_chains.specs.Made.{Made, made, made_of, made_if, bisim_made}
+use Rattle.bisim_chains.specs.Made.{Made, made, made_of, models_made, made_if, bisim_made}
 
 -- ---- a list over another
 
@@ -67,28 +70,28 @@ or_that x (Err n) = x
 
 -- ---- one side
 
-abbrev or_this : ChainShape → Option ChainShape → ChainShape
-or_this H (Some K) = K
-or_this H None = H
+abbrev or_this : ChainShape → Result ChainShape ℕ → ChainShape
+or_this H (Ok K) = K
+or_this H (Err n) = H
 
 module _ {S : Shape} {M : Columns} {s : ℕ} {seen : List Float} {C : ChainColumns} (P : Side S M s seen C) where
-  lays : layable S M seen C ≡ true
-  lays = sym (and_second _ _ true (eq-eqb _ _ P.model_passes) (sym (ap not P.roomy)))
+  lays : 0 ≡ lay_refusal S M seen C
+  lays = lay_fit S M seen C refl P.model_passes P.roomy
 
-  laid_so : (q : Float) → lay_chain S M q seen s C ≡ laying (Some (shape_of (uniformise (model S M) q seen s))) (laid (columns_of (uniformise (model S M) q seen s)) C)
+  laid_so : (q : Float) → lay_chain S M q seen s C ≡ ends (Ok (shape_of (uniformise (model S M) q seen s))) (laid (columns_of (uniformise (model S M) q seen s)) C)
   unfolding lay_chain
-  laid_so q = ap (λ (b : Bool). lay_if b (uniformise (model S M) q seen s) C) lays
+  laid_so q = ap (λ (k : ℕ). settled k (uniformise (model S M) q seen s) C) (sym lays)
 
-  module _ (q x : Float) (e : x ≡ q) (r : Option ChainShape) (D : ChainColumns) (f : laying r D ≡ lay_chain S M x seen s C) where
-    is_laid : laying r D ≡ laying (Some (shape_of (uniformise (model S M) q seen s))) (laid (columns_of (uniformise (model S M) q seen s)) C)
+  module _ (q x : Float) (e : x ≡ q) (r : Result ChainShape ℕ) (D : ChainColumns) (f : ends r D ≡ lay_chain S M x seen s C) where
+    is_laid : ends r D ≡ ends (Ok (shape_of (uniformise (model S M) q seen s))) (laid (columns_of (uniformise (model S M) q seen s)) C)
     is_laid = f ∙ ap (λ (z : Float). lay_chain S M z seen s C) e ∙ laid_so q
 
     -- a chain is made
-    pub not_none : r ≡ None → ⊥
-    not_none h = true≢false (ap is_some (sym (ap (λ (X : Laying). X.shape) is_laid) ∙ h))
+    pub not_turned_back : (n : ℕ) → r ≡ Err n → ⊥
+    not_turned_back n h = true≢false (ap is_ok (sym (ap (λ (X : Outcome). X.answer) is_laid) ∙ h))
 
-    pub first_laid : (H : ChainShape) → r ≡ Some H → LaidOut (uniformise (model S M) q seen s) H C D
-    first_laid H h = record { shape_is = ap (or_this H) (sym h ∙ ap (λ (X : Laying). X.shape) is_laid); lists_are = ap (λ (X : Laying). X.lists) is_laid }
+    first_laid : (H : ChainShape) → r ≡ Ok H → LaidOut (uniformise (model S M) q seen s) H C D
+    first_laid H h = record { shape_is = ap (or_this H) (sym h ∙ ap (λ (X : Outcome). X.answer) is_laid); lists_are = ap (λ (X : Outcome). X.lists) is_laid }
 
   pub seen_size : length (take (length (model S M)) seen) ≡ length (model S M)
   seen_size = length-take-le (length (model S M)) seen (let h = (ready S seen C P.roomy).seen_long in let e = model_length S M in omega arith)
@@ -147,7 +150,14 @@ module _ {SL : Shape} {ML : Columns} {s : ℕ} {seenL : List Float} {CL : ChainC
       ap (λ (l : List Float). made (Ok (shape_of A, shape_of B)) (observed (laid (columns_of A) CL) (over l CL.observations)) (observed (laid (columns_of B) CR) (over N.right CR.observations))) c
       ∙ ap (λ (l : List Float). made (Ok (shape_of A, shape_of B)) (observed (laid (columns_of A) CL) (over (take (length L) N.left) CL.observations)) (observed (laid (columns_of B) CR) (over l CR.observations))) d
 
-  module _ (H K : ChainShape) (D E : ChainColumns) (X : LaidOut A H CL D) (Y : LaidOut B K CR E) where
+  -- both are laid at that rate
+  module _ {y : Float} (z : Ok y ≡ rated SL ML SR MR) {H K : ChainShape} {D E : ChainColumns} (f : ends (Ok H) D ≡ lay_chain SL ML y seenL s CL) (g : ends (Ok K) E ≡ lay_chain SR MR y seenR t CR) where
+    X : LaidOut A H CL D
+    X = first_laid P q y (rate_is y z) _ _ f H refl
+
+    Y : LaidOut B K CR E
+    Y = first_laid Q q y (rate_is y z) _ _ g K refl
+
     left_long : length a ≡ H.states
     unfolding uniformise shape_of
     left_long = seen_size P ∙ sym (rows_length q 0 L) ∙ ap (λ (G : ChainShape). G.states) (sym X.shape_is)
@@ -197,25 +207,27 @@ module _ {SL : Shape} {ML : Columns} {s : ℕ} {seenL : List Float} {CL : ChainC
 
 -- ---- with the checks before
 
-module _ (SL : Shape) (ML : Columns) (s : ℕ) (seenL : List Float) (CL : ChainColumns) (SR : Shape) (MR : Columns) (t : ℕ) (seenR : List Float) (CR : ChainColumns) (γ : Float) (o : MetricOptions) (lists : List ℕ) (records : ℕ) where
+module _ (l : Observed) (c : ChainStore) (k : Observed) (d : ChainStore) (rest : Rest) where
   abbrev refusal : ℕ
-  refusal = bisim_refusal SL ML s seenL CL SR MR t seenR CR γ o lists records
+  refusal = of_rest (of_both bisim_refusal l c k d) rest
 
   abbrev whole : Made
-  whole = made_of (model SL ML) s seenL CL (model SR MR) t seenR CR
+  whole = of_both models_made l c k d
 
-  none_made : (a : Result (ChainShape × ChainShape) Refusal) (r : Refusal) (n : ℕ) → IsErrAnd a (λ e. e ≡ r) → Refuse.number r ≡ n → made (numbered a) CL CR ≡ made_if n whole CL CR
+  none_made : (a : Result (ChainShape × ChainShape) Refusal) (r : Refusal) (n : ℕ) → IsErrAnd a (λ e. e ≡ r) → Refuse.number r ≡ n → made (numbered a) (of_store c) (of_store d) ≡ made_if n whole (of_store c) (of_store d)
   none_made (Ok p) r n h e = absurd h
   none_made (Err x) r zero h e = absurd (number_positive r e)
-  none_made (Err x) r (suc n) h e = ap (λ (k : ℕ). made (Err k) CL CR) (ap Refuse.number h ∙ e)
+  none_made (Err x) r (suc n) h e = ap (λ (k : ℕ). made (Err k) (of_store c) (of_store d)) (ap Refuse.number h ∙ e)
 
-  pub unmade : (a : Result (ChainShape × ChainShape) Refusal) (r : Refusal) → IsErrAnd a (λ e. e ≡ r) → Refuse.number r ≡ refusal → made (numbered a) CL CR ≡ bisim_made SL ML s seenL CL SR MR t seenR CR γ o lists records
+  pub unmade : (a : Result (ChainShape × ChainShape) Refusal) (r : Refusal) → IsErrAnd a (λ e. e ≡ r) → Refuse.number r ≡ refusal → made (numbered a) (of_store c) (of_store d) ≡ of_rest (of_both bisim_made l c k d) rest
   unfolding bisim_made
   unmade a r h e = none_made a r _ h e
 
-  pub sides : (n : ℕ) → n ≡ refusal → n ≡ 0 → Side SL ML s seenL CL × Side SR MR t seenR CR
-  sides n e z = let P = passed SL ML s seenL CL SR MR t seenR CR γ o lists records (sym e ∙ z) in (P.left, P.right)
+  pub sides : 0 ≡ refusal → SideOf l c × SideOf k d
+  sides e =
+      let P = passed l.model.shape (Data.columns_of l.model) l.state.0 l.observations.now (of_store c) k.model.shape (Data.columns_of k.model) k.state.0 k.observations.now (of_store d) rest.goal.gamma rest.goal.options (rest.lefts ∷ rest.rights ∷ rest.codes ∷ []) rest.records (sym e) in
+      (P.left, P.right)
 
-  pub as_made : (n : ℕ) (X : Made) → n ≡ refusal → n ≡ 0 → X ≡ whole → X ≡ bisim_made SL ML s seenL CL SR MR t seenR CR γ o lists records
+  pub as_made : 0 ≡ refusal → (X : Made) → X ≡ whole → X ≡ of_rest (of_both bisim_made l c k d) rest
   unfolding bisim_made
-  as_made n X e z f = f ∙ ap (λ (k : ℕ). made_if k whole CL CR) (sym z ∙ e)
+  as_made e X f = f ∙ ap (λ (k : ℕ). made_if k whole (of_store c) (of_store d)) e

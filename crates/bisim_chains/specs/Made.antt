@@ -35,6 +35,10 @@ made_of L s seenL C R t seenR D =
     let B = right_of L seenL R t seenR in
     made (Ok (shape_of A, shape_of B)) (laid (columns_of A) C) (laid (columns_of B) D)
 
+-- of two models by their columns
+abbrev pub models_made : Shape → Columns → ℕ → List Float → ChainColumns → Shape → Columns → ℕ → List Float → ChainColumns → Made
+models_made SL ML s seenL C SR MR t seenR D = made_of (model SL ML) s seenL C (model SR MR) t seenR D
+
 -- where a check fails its number, and the lists as they were
 abbrev pub made_if : ℕ → Made → ChainColumns → ChainColumns → Made
 made_if zero X C D = X

@@ -1,12 +1,11 @@
 // The checks of all arguments, and the chains of both models, made in the lists that are lent for them.
 ghost use Rattle.std.specs.Prelude.{◌≡◌};
 ghost use Rattle.numbers.specs.Refuse.{numbered};
-ghost use Rattle.bisim_core.specs.Data.{columns_of};
-ghost use Rattle.bisim_core.specs.Model.{model};
 ghost use Rattle.chain_theory.specs.Lent.{of_store, SameLists};
+ghost use Rattle.chains.specs.Observing.{of_both};
 ghost use Rattle.bisim_checks.specs.Rest.{of_rest};
-ghost use Rattle.bisim_checks.proofs.Passed.{Side};
-ghost use Rattle.bisim_chains.specs.Made.{made, made_of, bisim_made};
+ghost use Rattle.bisim_checks.proofs.Passed.{SideOf};
+ghost use Rattle.bisim_chains.specs.Made.{made, models_made, bisim_made};
 
 use bisim_checks::rest::Rest;
 use bisim_checks::sides::bisim_refusal;
@@ -24,14 +23,14 @@ fn lay_chains(
     right: &Observed,
     right_store: &mut ChainStore,
 ) -> Result<(ChainShape, ChainShape), Refusal>
-    requires left_side { Side left.now.model.shape (columns_of left.now.model) left.now.state.0 left.now.observations.now (of_store left_store.old) }
-    requires right_side { Side right.now.model.shape (columns_of right.now.model) right.now.state.0 right.now.observations.now (of_store right_store.old) }
-    ensures outcome { made (numbered result) (of_store left_store.new) (of_store right_store.new) ≡ made_of (model left.now.model.shape (columns_of left.now.model)) left.now.state.0 left.now.observations.now (of_store left_store.old) (model right.now.model.shape (columns_of right.now.model)) right.now.state.0 right.now.observations.now (of_store right_store.old) }
+    requires left_side { SideOf left.now left_store.old }
+    requires right_side { SideOf right.now right_store.old }
+    ensures outcome { made (numbered result) (of_store left_store.new) (of_store right_store.new) ≡ of_both models_made left.now left_store.old right.now right_store.old }
     ensures same_lists { SameLists left_store.old left_store.new × SameLists right_store.old right_store.new }
 {
     let rate = common_rate(&left.model, &right.model)?;
-    let first = lay_chain(left, rate, left_store).ok_or(Refusal::Store)?;
-    let second = lay_chain(right, rate, right_store).ok_or(Refusal::Store)?;
+    let first = lay_chain(left, rate, left_store)?;
+    let second = lay_chain(right, rate, right_store)?;
     scale_together(
         &mut left_store.observations[0..first.states],
         &mut right_store.observations[0..second.states],
@@ -48,7 +47,7 @@ pub fn make_chains(
     right_store: &mut ChainStore,
     rest: Rest,
 ) -> Result<(ChainShape, ChainShape), Refusal>
-    ensures outcome { made (numbered result) (of_store left_store.new) (of_store right_store.new) ≡ of_rest (bisim_made left.now.model.shape (columns_of left.now.model) left.now.state.0 left.now.observations.now (of_store left_store.old) right.now.model.shape (columns_of right.now.model) right.now.state.0 right.now.observations.now (of_store right_store.old)) rest }
+    ensures outcome { made (numbered result) (of_store left_store.new) (of_store right_store.new) ≡ of_rest (of_both bisim_made left.now left_store.old right.now right_store.old) rest }
     ensures same_lists { SameLists left_store.old left_store.new × SameLists right_store.old right_store.new }
 {
     bisim_refusal(left, left_store, right, right_store, rest)?;

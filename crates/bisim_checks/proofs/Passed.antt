@@ -11,11 +11,14 @@ use Rattle.numbers.specs.Real.{least_observation, greatest_weight}
 use Rattle.numbers.specs.Lists.{all}
 use Rattle.numbers.proofs.Bools.{or_f}
 use Rattle.numbers.proofs.Refuses.{check_none, check_skip}
-use Rattle.bisim_core.specs.Data.{Columns}
+use Rattle.bisim_core.specs.Data.{Columns, columns_of}
 use Rattle.bisim_core.specs.declared.wlts.Shape.{Shape}
 use Rattle.bisim_core.specs.Model.{large, unfit, weights_outside, crowded, model_refusal}
 use Rattle.epsdelta_theory.specs.Refusal.{absent}
 use Rattle.chain_theory.specs.Columns.{ChainColumns}
+use Rattle.chain_theory.specs.Lent.{of_store}
+use Rattle.chain_theory.specs.declared.ChainStore.{ChainStore}
+use Rattle.chains.specs.declared.observed.Observed.{Observed}
 use Rattle.chain_theory.specs.Check.{discount_outside, unfitting, cramped}
 use Rattle.distance_theory.specs.Pairs.{most}
 use Rattle.distance_theory.specs.Refusal.{short, excessive, bisim_refusal}
@@ -26,6 +29,10 @@ pub record Side (S : Shape) (M : Columns) (s : ℕ) (seen : List Float) (C : Cha
   pub model_passes : model_refusal S M ≡ 0
   pub state_in : s < S.states
   pub roomy : cramped S.states S.edges (length seen) C ≡ false
+
+-- of one that is lent
+abbrev pub SideOf : Observed → ChainStore → Type 0
+SideOf o d = Side o.model.shape (columns_of o.model) o.state.0 o.observations.now (of_store d)
 
 model_none : (S : Shape) (M : Columns) → large S ≡ false → unfit S M ≡ false → weights_outside S M ≡ false → crowded S M ≡ false → model_refusal S M ≡ 0
 unfolding model_refusal

@@ -1,14 +1,13 @@
 // The checks of a model with what comes with it, and of all arguments together.
 ghost use Rattle.std.specs.Prelude.{◌≡◌};
 ghost use Rattle.numbers.specs.Refuse.{code};
-ghost use Rattle.bisim_core.specs.Data.{columns_of};
 ghost use Rattle.chain_theory.specs.Lent.{of_store};
 ghost use Rattle.distance_theory.specs.Refusal.{bisim_refusal};
+ghost use Rattle.chains.specs.Observing.{of_observed, of_both};
 ghost use Rattle.bisim_checks.specs.Rest.{of_rest};
 ghost use Rattle.bisim_checks.specs.Sides.{beside_refusal, side_refusal};
 
 use crate::rest::{Rest, rest_refusal};
-use bisim_core::wlts::Shape;
 use chain_theory::{ChainStore, OBSERVATIONS};
 use chains::checks::cramped;
 use chains::observed::Observed;
@@ -16,16 +15,17 @@ use numbers::refusal::Refusal;
 use parts::refusals::earlier;
 
 // Turned back with the first check that fails of what is lent beside a model, of its initial state and of its observations.
-fn beside_refusal(shape: Shape, observations: &[f64], store: &ChainStore) -> Result<(), Refusal>
-    ensures { code result ≡ beside_refusal shape observations.now (of_store store.now) }
+fn beside_refusal(side: &Observed, store: &ChainStore) -> Result<(), Refusal>
+    ensures { code result ≡ beside_refusal side.now.model.shape side.now.observations.now (of_store store.now) }
 {
-    if cramped(shape, observations, store) {
+    let shape = side.model.shape;
+    if cramped(shape, side.observations, store) {
         return Err(Refusal::Store);
     }
     if shape.initial.is_none() {
         return Err(Refusal::NoInitialState);
     }
-    if !OBSERVATIONS.hold_all(&observations[..shape.states]) {
+    if !OBSERVATIONS.hold_all(&side.observations[..shape.states]) {
         return Err(Refusal::Observation);
     }
     Ok(())
@@ -33,12 +33,11 @@ fn beside_refusal(shape: Shape, observations: &[f64], store: &ChainStore) -> Res
 
 // The same of a model, a state of it, its observations and the lists lent for its chain.
 pub fn side_refusal(side: &Observed, store: &ChainStore) -> Result<(), Refusal>
-    ensures { code result ≡ side_refusal side.now.model.shape (columns_of side.now.model) side.now.state.0 side.now.observations.now (of_store store.now) }
+    ensures { code result ≡ of_observed side_refusal side.now store.now }
 {
-    let shape = side.model.shape;
-    side.model
-        .check_with(shape.states <= side.state.0 as usize)?;
-    beside_refusal(shape, side.observations, store)
+    let model = side.model;
+    model.check_with(model.shape.states <= side.state.0 as usize)?;
+    beside_refusal(side, store)
 }
 
 // The same of the arguments of `bisim_distance`, over both models and the rest.
@@ -50,7 +49,7 @@ pub fn bisim_refusal(
     right_store: &ChainStore,
     rest: Rest,
 ) -> Result<(), Refusal>
-    ensures { code result ≡ of_rest (bisim_refusal left.now.model.shape (columns_of left.now.model) left.now.state.0 left.now.observations.now (of_store left_store.now) right.now.model.shape (columns_of right.now.model) right.now.state.0 right.now.observations.now (of_store right_store.now)) rest }
+    ensures { code result ≡ of_rest (of_both bisim_refusal left.now left_store.now right.now right_store.now) rest }
 {
     let of_left = side_refusal(left, left_store);
     let of_right = side_refusal(right, right_store);

@@ -1,5 +1,5 @@
 -- The records that the definitions of models speak of.
-use Rattle.std.specs.Prelude.{ℕ, List, Float}
+use Rattle.std.specs.Prelude.{ℕ, ◌+◌, ◌≤◌, ◌<◌, List, length, get_or, Float}
 use Rattle.bisim_core.specs.declared.wlts.Wlts.{Wlts}
 
 -- a transition whose label has its id
@@ -34,3 +34,11 @@ columns l o el et ew = record { labels = l; offsets = o; edge_labels = el; edge_
 -- those that a model lends
 abbrev pub columns_of : Wlts → Columns
 columns_of M = columns M.label_values.now M.offsets.now M.edge_labels.now M.edge_targets.now M.edge_weights.now
+
+-- it has an offset for each state and one more
+abbrev pub HasOffsets : Wlts → Type 0
+HasOffsets M = M.shape.states < length M.offsets.now
+
+-- and they do not fall
+abbrev pub NeverFalls : Wlts → Type 0
+NeverFalls M = (s : ℕ) → s < M.shape.states → get_or M.offsets.now s 0 ≤ get_or M.offsets.now (s + 1) 0

@@ -1,11 +1,10 @@
 // The tests that a built model has to pass, each made where those before it passed.
-ghost use Rattle.std.specs.Prelude.{◌≡◌, true, false, ◌&&◌, ◌||◌, not, List, [], map, ℕ, ◌+◌, ◌-◌, ◌≤◌, ◌<◌, length, get_or, take, eqb, ltb, leb, Float};
-ghost use Rattle.std.specs.Float.{nan};
-ghost use Rattle.numbers.specs.Lists.{span, every};
+ghost use Rattle.std.specs.Prelude.{◌≡◌, ◌&&◌, not, ℕ, ◌+◌, ◌≤◌, ◌<◌, length, get_or, ltb};
+ghost use Rattle.numbers.specs.Lists.{every};
 ghost use Rattle.numbers.specs.Real.{is_zero};
-ghost use Rattle.bisim_core.specs.Data.{columns, columns_of};
+ghost use Rattle.bisim_core.specs.Data.{columns_of, HasOffsets, NeverFalls};
 ghost use Rattle.bisim_core.specs.Ids.{distinct};
-ghost use Rattle.bisim_core.specs.Edges.{others, crowded_in};
+ghost use Rattle.bisim_core.specs.Edges.{others};
 ghost use Rattle.bisim_core.specs.Model;
 ghost use Rattle.bisim_core.specs.Model.{edge_at, begins, rises, row};
 
@@ -19,7 +18,7 @@ use numbers::{GREATEST_JOINED, LEAST_WEIGHT};
 pub(crate) fn large(shape: Shape) -> bool
     ensures { result ≡ Model.large shape }
 {
-    shape.states > 2000 || (shape.edges > 4096 || shape.labels > 256)
+    shape.states > 2000 || shape.edges > 4096 || shape.labels > 256
 }
 
 // ---- check 4
@@ -29,22 +28,19 @@ fn thin(model: &Wlts) -> bool
 {
     let shape = model.shape;
     model.offsets.len() <= shape.states
-        || (model.edge_labels.len() < shape.edges
-            || (model.edge_targets.len() < shape.edges
-                || (model.edge_weights.len() < shape.edges
-                    || model.label_values.len() < shape.labels)))
+        || model.edge_labels.len() < shape.edges
+        || model.edge_targets.len() < shape.edges
+        || model.edge_weights.len() < shape.edges
+        || model.label_values.len() < shape.labels
 }
 
 fn steady(model: &Wlts) -> bool
-    requires { model.now.shape.states < length model.now.offsets.now }
+    requires { HasOffsets model.now }
     ensures { result ≡ Model.steady model.now.shape (columns_of model.now) }
 {
     let states = model.shape.states;
     let offsets = &model.offsets[..=states];
-    if offsets[0] != 0 || offsets[states] as usize != model.shape.edges {
-        return false;
-    }
-    offsets.is_sorted()
+    offsets[0] == 0 && offsets[states] as usize == model.shape.edges && offsets.is_sorted()
 }
 
 // The edges of state s rise strictly: by label id, then target.
@@ -60,7 +56,7 @@ fn row_rises(model: &Wlts, s: usize) -> bool
 }
 
 fn rows_rise(model: &Wlts) -> bool
-    requires { (model.now.shape.states < length model.now.offsets.now) × (((s : ℕ) → s < model.now.shape.states → get_or model.now.offsets.now s 0 ≤ get_or model.now.offsets.now (s + 1) 0)) × (get_or model.now.offsets.now model.now.shape.states 0 ≤ length model.now.edge_labels.now) × (get_or model.now.offsets.now model.now.shape.states 0 ≤ length model.now.edge_targets.now) }
+    requires { HasOffsets model.now × NeverFalls model.now × (get_or model.now.offsets.now model.now.shape.states 0 ≤ length model.now.edge_labels.now) × (get_or model.now.offsets.now model.now.shape.states 0 ≤ length model.now.edge_targets.now) }
     ensures { result ≡ every (λ s. rises (row (columns_of model.now) s)) model.now.shape.states }
 {
     (0..model.shape.states).all(|s| row_rises(model, s))
@@ -70,7 +66,7 @@ fn rows_rise(model: &Wlts) -> bool
 fn sound(shape: Shape, label: u32, target: u32, weight: f64) -> bool
     ensures { result ≡ (ltb target shape.states && (ltb label shape.labels && not (is_zero weight))) }
 {
-    (target as usize) < shape.states && ((label as usize) < shape.labels && !(weight == 0.0))
+    (target as usize) < shape.states && (label as usize) < shape.labels && weight != 0.0
 }
 
 fn sound_edges(model: &Wlts) -> bool
@@ -88,6 +84,7 @@ fn sound_edges(model: &Wlts) -> bool
     })
 }
 
+// Stays: as one `||` each of these calls would have what the tests before it say through joined branches alone, a case more for each test; after an `if` it has it as it is.
 pub(crate) fn unfit(model: &Wlts) -> bool
     ensures { result ≡ Model.unfit model.now.shape (columns_of model.now) }
 {
@@ -146,7 +143,7 @@ fn count_others(model: &Wlts, s: usize, marks: &mut [u32]) -> usize
 }
 
 pub(crate) fn crowded(model: &Wlts) -> bool
-    requires { (model.now.shape.states ≤ 2000) × (model.now.shape.states < length model.now.offsets.now) × (((s : ℕ) → s < model.now.shape.states → get_or model.now.offsets.now s 0 ≤ get_or model.now.offsets.now (s + 1) 0)) × (get_or model.now.offsets.now model.now.shape.states 0 ≤ length model.now.edge_targets.now) × (((i : ℕ) → i < get_or model.now.offsets.now model.now.shape.states 0 → get_or model.now.edge_targets.now i 0 < model.now.shape.states)) }
+    requires { (model.now.shape.states ≤ 2000) × HasOffsets model.now × NeverFalls model.now × (get_or model.now.offsets.now model.now.shape.states 0 ≤ length model.now.edge_targets.now) × (((i : ℕ) → i < get_or model.now.offsets.now model.now.shape.states 0 → get_or model.now.edge_targets.now i 0 < model.now.shape.states)) }
     ensures { result ≡ Model.crowded model.now.shape (columns_of model.now) }
 {
     let mut marks = [0u32; 2000];

@@ -1,8 +1,8 @@
 // Ids of states and labels, and label values interned by first appearance.
-ghost use Rattle.std.specs.Prelude.{◌≡◌, ◌≤◌, ◌&&◌, ◌||◌, not, length, take, eqb, ltb, is_some};
+ghost use Rattle.std.specs.Prelude.{◌≡◌, ◌&&◌, ◌||◌, not, take, eqb, ltb, is_some};
 ghost use Rattle.numbers.specs.Refuse.{code, numbered};
 ghost use Rattle.bisim_core.specs.Ids;
-ghost use Rattle.bisim_core.specs.Ids.{ends, listed};
+ghost use Rattle.bisim_core.specs.Ids.{ends};
 
 use numbers::refusal::Refusal;
 use numbers::seek;
@@ -23,6 +23,7 @@ pub struct Interner<'a> {
 }
 
 // No value is listed twice: each is found where it stands.
+// Stays: `labels.iter().enumerate().all(..)` over pairs (i, x) is no plainer, and its proof takes these pairs apart by one law more.
 pub(crate) fn single(labels: &[u32]) -> bool
     ensures { result ≡ Ids.single labels.now }
 {

@@ -39,6 +39,7 @@ pub fn starts_outside(initial: Option<StateId>, states: usize) -> bool
 
 impl Wlts<'_> {
     // Turned back with the first check that the model fails; check 4 fails too where a number handed in beside it is `stray`, not below its count.
+    // Stays: `stray` is no switch but a fact of the number beside the model, which check 4 is told in its turn.
     pub fn check_with(&self, stray: bool) -> Result<(), Refusal>
         ensures { code result ≡ refusal_with stray self.now.shape (columns_of self.now) }
     {

@@ -1,11 +1,11 @@
 // `bisim_distance`, with the row of contribution records that is lent to it.
 ghost use Rattle.std.specs.Prelude.{◌≡◌};
 ghost use Rattle.numbers.specs.Refuse.{numbered};
-ghost use Rattle.bisim_core.specs.Data.{columns_of};
 ghost use Rattle.chain_theory.specs.Lent.{of_store, SameLists};
+ghost use Rattle.chains.specs.Observing.{of_both};
 ghost use Rattle.distance_theory.specs.Lent.{SameScratch};
 ghost use Rattle.distance_theory.specs.Outcome.{ends, chains_end, bisim_distance};
-ghost use Rattle.distance.specs.Measuring.{memory};
+ghost use Rattle.distance.specs.Measuring.{memory_of};
 
 use bisim_measure::measure::measure;
 use chain_theory::ChainStore;
@@ -28,7 +28,7 @@ pub fn bisim_distance(
 ) -> Result<Distance, Refusal>
     ensures same_lists { SameLists left_chain.old left_chain.new × SameLists right_chain.old right_chain.new }
     ensures lists { SameScratch scratch.old scratch.new }
-    ensures ends { chains_end (ends (numbered result) (memory scratch.new.lefts.now scratch.new.rights.now scratch.new.codes.now scratch.new.places.now scratch.new.masses.now records.new)) (of_store left_chain.new) (of_store right_chain.new) ≡ bisim_distance left.now.model.shape (columns_of left.now.model) left.now.state.0 left.now.observations.now (of_store left_chain.old) right.now.model.shape (columns_of right.now.model) right.now.state.0 right.now.observations.now (of_store right_chain.old) goal.gamma goal.options (memory scratch.old.lefts.now scratch.old.rights.now scratch.old.codes.now scratch.old.places.now scratch.old.masses.now records.old) }
+    ensures ends { chains_end (ends (numbered result) (memory_of scratch.new records.new)) (of_store left_chain.new) (of_store right_chain.new) ≡ of_both bisim_distance left.now left_chain.old right.now right_chain.old goal.gamma goal.options (memory_of scratch.old records.old) }
 {
     let told = measure(
         left,

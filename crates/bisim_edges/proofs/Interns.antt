@@ -7,9 +7,10 @@ use native.Mathlib.Omega.{arith}
 use native.Mathlib.Numerals.{add-one}
 use lib.ListN.{length, get_or, take, set, length-set, length-append}
 use lib.Seq.{slice, slice-cons, slice_empty, take_all, take-suc-set, length-take-le, get_or-set_same, get_or-set_other}
-use Rattle.std.specs.Prelude.{Option, unwrap_or}
+use Rattle.std.specs.Prelude.{Some, None}
+use borrow.Author.Tests.{ltb-true, ltb-false}
 use Rattle.numbers.specs.Search.{seek, place}
-use Rattle.numbers.proofs.Loops.{place_or_length}
+use Rattle.bisim_core.proofs.Interning.{placed_at, unplaced}
 use Rattle.bisim_core.specs.Ids.{intern, distinct}
 use Rattle.build_theory.proofs.Steps.{Interned}
 use Rattle.numbers.proofs.Bools.{eq_or_ne}
@@ -51,9 +52,21 @@ module _ {values : List ℕ} {n : ℕ} {store₀ ids₀ store ids : List ℕ} {i
   next_rest : (k j : ℕ) → n ≤ j → get_or (set ids i k) j 0 ≡ get_or ids₀ j 0
   next_rest k j l = get_or-set_other ids i j k 0 (λ e. omega arith) ∙ I.rest j l
 
-  -- the place of the value, and the count if it is new
-  pub id_is : {k : Option ℕ} {r : ℕ} → k ≡ place x (take count store) → r ≡ unwrap_or k count → r ≡ seek x (take count store)
-  id_is e f = f ∙ ap (λ o. unwrap_or o count) e ∙ ap (unwrap_or (place x (take count store))) (sym known_length) ∙ place_or_length x (take count store)
+  -- the place of the value, if it is known
+  pub old_at : (k : ℕ) → Some k ≡ place x (take count store) → (k ≡ seek x (take count store)) × (k ≢ count)
+  old_at k e =
+      let p = placed_at x k (take count store) e in
+      let l = known_length in
+      let a = ltb-true _ _ p.0 in
+      (p.1, λ d. let b = p.1 in absurd (omega arith))
+
+  -- and the count, if it is new
+  pub new_at : None ≡ place x (take count store) → count ≡ seek x (take count store)
+  new_at e =
+      let l = known_length in
+      let z = seek_le x (take count store) in
+      let a = ltb-false _ _ (unplaced x (take count store) e) in
+      omega arith
 
   -- the value is known: its place is k
   pub turn_old : (k : ℕ) → n ≤ length ids₀ → k ≡ seek x (take count store) → k ≢ count

@@ -1,3 +1,4 @@
+pub mod Numbers
 pub mod Interns
 pub mod Notes
 pub mod Crowds

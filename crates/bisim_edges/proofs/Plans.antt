@@ -19,6 +19,9 @@ use Rattle.numbers.proofs.Bools.{lt_or_ge, or_f}
 use Rattle.numbers.proofs.Refuses.{check_hit, check_none, hit, none}
 use Rattle.bisim_core.specs.Data.{Edge, Transitions}
 use Rattle.build_theory.specs.declared.lent.Draft.{Draft}
+use Rattle.bisim_edges.specs.declared.planner.PlanLists.{PlanLists}
+use Rattle.bisim_edges.specs.Lent.{lists_in}
+use Rattle.bisim_edges.proofs.Numbers.{numbers_length}
 use Rattle.build_theory.specs.Lent.{transitions_of}
 use Rattle.build_theory.proofs.Fronts.{take_least}
 use Rattle.build_theory.specs.Edges.{join, nonzero, edges, numbered_at}
@@ -46,6 +49,10 @@ zeros given N m h = (
 alone : (a b d : Bool) → b ≡ false → d ≡ false → a ≡ (a || (b || d))
 alone true b d e f = refl
 alone false b d e f = sym (none b d e f)
+
+-- how much room there is
+pub room_is : (S : PlanLists) {m r : ℕ} → m ≡ min (length S.label_values.now) (length S.triples.now) → r ≡ min m (length S.edge_weights.now) → r ≡ shortest (lists_in S)
+room_is S e f = let l = numbers_length S.triples.now in omega arith
 
 -- a plan that is asked for
 pub record Asked : Type 0 where
@@ -129,10 +136,10 @@ module _ (Z : Asked) where
               omega arith
           pick j k (inr l) = let a = N.rest j l in let z = zeros j k in omega arith
 
-      module _ {full : Bool} {least_column least_list p : ℕ} (t : least_column ≡ min (length C.sources) (min (length C.labels) (min (length C.targets) (length C.weights)))) (o : least_list ≡ min (length M.labels) p) (q : p ≡ min (length M.numbers) (length M.weights))
+      module _ {full : Bool} {least_column least_list : ℕ} (t : least_column ≡ min (length C.sources) (min (length C.labels) (min (length C.targets) (length C.weights)))) (o : least_list ≡ shortest M)
           (w : full ≡ (ltb least_column given || (short || ltb least_list given))) {K : List ℕ} (kl : length K ≡ given) {r : ℕ} (A : Arranged states initial C given full I' K r) where
         f : full ≡ (missing C given || cramped)
-        f = w ∙ rw (t, o, q) refl
+        f = w ∙ rw (t, o) refl
 
         number_is : r ≡ number
         number_is =

@@ -1,13 +1,14 @@
 // From sorted transitions to edges: equal triples joined, zero weights dropped.
 ghost use Rattle.std.specs.Prelude.{◌≡◌, ◌+◌, ◌≤◌, ◌<◌, ◌∷◌, length};
 ghost use Rattle.build_theory.proofs.Steps.{Pushed, Keys, Joined};
+ghost use Rattle.bisim_edges.specs.Lent.{numbers};
 
 use build_theory::keys::{Key, Triple};
 
 // Edges: the first `len` of two lists that are lent, of triples and of the sum of weights of each.
 #[derive(Drop)]
 struct Edges<'a> {
-    triples: &'a mut [u64],
+    triples: &'a mut [Triple],
     sums: &'a mut [f64],
     len: usize,
 }
@@ -17,12 +18,12 @@ impl Edges<'_> {
     fn add(&mut self, run: Triple, sum: f64)
         requires { (self.old.len < length self.old.triples.now) × (self.old.len < length self.old.sums.now) }
         ensures lists { (self.new.triples.ghost_name ≡ self.old.triples.ghost_name) × (self.new.sums.ghost_name ≡ self.old.sums.ghost_name) }
-        ensures added { Pushed self.old.triples.now self.old.sums.now self.old.len run.0 sum self.new.triples.now self.new.sums.now self.new.len }
+        ensures added { Pushed (numbers self.old.triples.now) self.old.sums.now self.old.len run.0 sum (numbers self.new.triples.now) self.new.sums.now self.new.len }
     {
         if sum == 0.0 {
             return;
         }
-        self.triples[self.len] = run.0;
+        self.triples[self.len] = run;
         self.sums[self.len] = sum;
         self.len += 1;
     }
@@ -33,7 +34,7 @@ impl Edges<'_> {
         requires keys { Keys (first.0 ∷ rest.now) (length rest.now + 1) × (length rest.now < length weights.now) }
         requires room { (length rest.now < length self.old.triples.now) × (length rest.now < length self.old.sums.now) }
         ensures lists { (self.new.triples.ghost_name ≡ self.old.triples.ghost_name) × (self.new.sums.ghost_name ≡ self.old.sums.ghost_name) }
-        ensures joined { Joined (first.0 ∷ rest.now) (length rest.now + 1) weights.now self.old.triples.now self.old.sums.now self.new.triples.now self.new.sums.now self.new.len }
+        ensures joined { Joined (first.0 ∷ rest.now) (length rest.now + 1) weights.now (numbers self.old.triples.now) self.old.sums.now (numbers self.new.triples.now) self.new.sums.now self.new.len }
     {
         let mut run = first.triple();
         let mut sum = weights[first.at()];
@@ -56,11 +57,11 @@ impl Edges<'_> {
 pub(crate) fn join_runs(
     keys: &[u64],
     weights: &[f64],
-    triples: &mut [u64],
+    triples: &mut [Triple],
     sums: &mut [f64],
 ) -> usize
     requires { Keys keys.now (length keys.now) × (length keys.now ≤ length weights.now) × (length keys.now ≤ length triples.old) × (length keys.now ≤ length sums.old) }
-    ensures { Joined keys.now (length keys.now) weights.now triples.old sums.old triples.new sums.new result }
+    ensures { Joined keys.now (length keys.now) weights.now (numbers triples.old) sums.old (numbers triples.new) sums.new result }
 {
     let Some((first, rest)) = keys.split_first() else {
         return 0;

@@ -8,6 +8,7 @@ ghost use Rattle.build_theory.proofs.Steps.{Interned};
 use numbers::seek;
 
 // Where x stands among distinct values, if it does; a good guess spares the search.
+// Stays: `known.get(guess) == Some(&x)` compares two Options of references where two numbers are meant, and is no plainer.
 fn place(known: &[u32], guess: usize, x: u32) -> Option<usize>
     requires { Single known.now }
     ensures { result ≡ Search.place x known.now }
@@ -30,14 +31,18 @@ pub(crate) fn intern_all(values: &[u32], store: &mut [u32], ids: &mut [u64]) -> 
     for (i, value) in values.iter().enumerate() {
         let x = *value;
         let g = (x % 1024) as usize;
-        let k = place(&store[..count], guesses[g] as usize, x).unwrap_or(count);
-        if k == count {
-            if count == store.len() {
-                return None;
+        let k = match place(&store[..count], guesses[g] as usize, x) {
+            Some(at) => at,
+            None => {
+                let new = count;
+                if new == store.len() {
+                    return None;
+                }
+                store[new] = x;
+                count += 1;
+                new
             }
-            store[count] = x;
-            count += 1;
-        }
+        };
         guesses[g] = (k % 256) as u8;
         ids[i] = k as u64;
     }

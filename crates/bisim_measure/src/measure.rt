@@ -1,16 +1,15 @@
 // Two models measured: the run of their chains, and the lists that are lent all zero after it.
 ghost use Rattle.std.specs.Prelude.{◌≡◌};
 ghost use Rattle.numbers.specs.Refuse.{numbered};
-ghost use Rattle.bisim_core.specs.Data.{columns_of};
-ghost use Rattle.chain_theory.specs.Lent.{of_chain, of_store, SameLists};
+ghost use Rattle.chain_theory.specs.Lent.{of_store, SameLists};
 ghost use Rattle.distance_theory.specs.Lent.{SameScratch};
 ghost use Rattle.distance_theory.specs.Outcome.{blank};
-ghost use Rattle.distance_run.specs.Asked.{ran_in, ran_with};
-ghost use Rattle.bisim_measure.specs.Measure.{measuring, bisim_measure};
+ghost use Rattle.distance_run.specs.Asked.{ran_in};
+ghost use Rattle.bisim_measure.specs.Measure.{measuring, measured_on};
 
 use bisim_chains::make::make_chains;
 use bisim_checks::rest::Rest;
-use chain_theory::{Chain, ChainShape, ChainStore};
+use chain_theory::ChainStore;
 use chains::observed::Observed;
 use distance_run::question::Question;
 use distance_run::run::run;
@@ -30,43 +29,6 @@ fn clear_chain(chain: &mut ChainStore)
     chain.observations.fill(0.0);
 }
 
-// The chain of this shape in the lists that are lent.
-fn chain_in<'a>(shape: ChainShape, store: &'a ChainStore) -> Chain<'a>
-    ensures { (result.shape ≡ shape) × (of_chain result ≡ of_store store.now) }
-{
-    Chain {
-        shape,
-        offsets: store.offsets,
-        targets: store.targets,
-        probs: store.probs,
-        observations: store.observations,
-    }
-}
-
-// The run of two chains, and their lists all zero after it.
-fn run_chains(
-    left: ChainShape,
-    left_chain: &mut ChainStore,
-    right: ChainShape,
-    right_chain: &mut ChainStore,
-    goal: Goal,
-    scratch: &mut Scratch,
-) -> Result<Answer, Refusal>
-    ensures same_lists { SameLists left_chain.old left_chain.new × SameLists right_chain.old right_chain.new }
-    ensures lists { SameScratch scratch.old scratch.new }
-    ensures measured { measuring (ran_in (numbered result) scratch.new) (of_store left_chain.new) (of_store right_chain.new) ≡ measuring (ran_with left (of_store left_chain.old) right (of_store right_chain.old) goal scratch.old) (blank (of_store left_chain.old)) (blank (of_store right_chain.old)) }
-{
-    let of = Question {
-        left: chain_in(left, left_chain),
-        right: chain_in(right, right_chain),
-        goal,
-    };
-    let told = run(&of, scratch);
-    clear_chain(left_chain);
-    clear_chain(right_chain);
-    told
-}
-
 // Two models measured: a refusal of the arguments leaves all as it was; else the chains are made and run, and every list is all zero.
 // Stays: a side and the store for its chain as one struct is refused where exports makes it: 'a struct holds at one lifetime parameter two references at two lifetimes of the signature'.
 pub fn measure(
@@ -80,9 +42,17 @@ pub fn measure(
 ) -> Result<Answer, Refusal>
     ensures same_lists { SameLists left_chain.old left_chain.new × SameLists right_chain.old right_chain.new }
     ensures lists { SameScratch scratch.old scratch.new }
-    ensures measured { measuring (ran_in (numbered result) scratch.new) (of_store left_chain.new) (of_store right_chain.new) ≡ bisim_measure left.now.model.shape (columns_of left.now.model) left.now.state.0 left.now.observations.now (of_store left_chain.old) right.now.model.shape (columns_of right.now.model) right.now.state.0 right.now.observations.now (of_store right_chain.old) goal.gamma goal.options scratch.old.lefts.now scratch.old.rights.now scratch.old.codes.now scratch.old.places.now scratch.old.masses.now records }
+    ensures measured { measuring (ran_in (numbered result) scratch.new) (of_store left_chain.new) (of_store right_chain.new) ≡ measured_on left.now left_chain.old right.now right_chain.old goal scratch.old records }
 {
     let rest = Rest::new(goal, scratch, records);
     let (first, second) = make_chains(left, left_chain, right, right_chain, rest)?;
-    run_chains(first, left_chain, second, right_chain, goal, scratch)
+    let of = Question {
+        left: left_chain.chain(first),
+        right: right_chain.chain(second),
+        goal,
+    };
+    let told = run(&of, scratch);
+    clear_chain(left_chain);
+    clear_chain(right_chain);
+    told
 }

@@ -1,9 +1,9 @@
 // What a built model that is handed in answers, once it has passed its check.
-ghost use Rattle.std.specs.Prelude.{◌≡◌, leb, IfOk};
+ghost use Rattle.std.specs.Prelude.{◌≡◌, IfOk};
 ghost use Rattle.numbers.specs.Refuse.{code, numbered};
 ghost use Rattle.bisim_core.specs.Data.{columns_of};
 ghost use Rattle.bisim_core.specs.Model;
-ghost use Rattle.bisim_core.specs.Model.{model_refusal, num_states, num_transitions, num_labels, refusal_with, successors_of, label_id};
+ghost use Rattle.bisim_core.specs.Model.{model_refusal, num_states, num_transitions, num_labels, successors_of, label_id};
 
 use bisim_core::ids::{LabelId, StateId};
 use bisim_core::wlts::{Shape, Wlts};
@@ -50,6 +50,7 @@ pub fn initial(model: &Wlts) -> Result<Option<StateId>, Refusal>
 }
 
 // Where the edges of s are: out of range, 4.
+// Stays: a `Range` would be plainer here by its last two lines, but `successors_of` answers two numbers, as exports and replay do: `|r| (r.start, r.end)` would stand in the contract and in both callers.
 pub fn successors(model: &Wlts, s: StateId) -> Result<(usize, usize), Refusal>
     ensures { numbered result ≡ successors_of model.now.shape (columns_of model.now) s.0 }
 {
@@ -73,7 +74,7 @@ pub fn label(model: &Wlts, id: LabelId) -> Result<u32, Refusal>
 pub fn label_id(model: &Wlts, value: u32) -> Result<Option<LabelId>, Refusal>
     ensures { numbered result ≡ label_id model.now.shape (columns_of model.now) value }
 {
-    checked(model)?;
-    let place = seek(&model.label_values[..model.shape.labels], value);
+    let counts = checked(model)?;
+    let place = seek(&model.label_values[..counts.labels], value);
     Ok(place.map(|at| LabelId(at as u32)))
 }

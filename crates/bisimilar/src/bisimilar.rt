@@ -9,8 +9,9 @@ ghost use Rattle.bisimilar.specs.Outcome.{bisimilar_outcome};
 
 use crate::related::related;
 use bisim_core::ids::StateId;
-use epsdelta::asked::{Settings, Sides, Tolerances};
+use epsdelta::asked::{Settings, Sides};
 use epsdelta::relation::epsdelta_unless;
+use epsdelta_theory::tolerances::Tolerances;
 use numbers::refusal::Refusal;
 use parts::starts::start;
 
@@ -47,9 +48,10 @@ pub fn epsdelta_bisimilar(
     let first = sides.left.model.shape.initial;
     let second = sides.right.model.shape.initial;
     let settings = Settings {
-        absent: one_absent(first, second),
+        sides: &*sides,
         tolerances,
+        absent: one_absent(first, second),
     };
-    epsdelta_unless(settings, sides, relation)?;
+    epsdelta_unless(&settings, relation)?;
     conclude(sides, start(first), start(second), relation)
 }

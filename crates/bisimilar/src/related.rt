@@ -1,5 +1,5 @@
 // Whether a relation that is handed in holds a state of the left model with one of the right.
-ghost use Rattle.std.specs.Prelude.{◌≡◌, length};
+ghost use Rattle.std.specs.Prelude.{◌≡◌};
 ghost use Rattle.numbers.specs.Refuse.{code, numbered};
 ghost use Rattle.bisimilar.specs.Related.{related_refusal, related_outcome};
 

@@ -62,9 +62,6 @@ pub record Offsetting (T : List ℕ) (m states : ℕ) (off₀ off : List ℕ) (s
   pub low : (j : ℕ) → j < p → get_or T j 0 < s * 524288
   pub out : (U : List Float) → off ≡ over (offsets states (edges_in T U m)) s off₀
 
-pub offsetting : (T : List ℕ) (m states : ℕ) (off : List ℕ) → Offsetting T m states off off 0 0
-offsetting T m states off = record { s_in = omega arith; size = refl; p_in = omega arith; low = λ j h. absurd (omega arith); out = λ U. refl }
-
 module _ {T : List ℕ} {m states : ℕ} {off₀ off : List ℕ} {s p : ℕ} (I : Offsetting T m states off₀ off s p) (R : Rising T m) (w : states < length off₀) where
   offsets_length : (U : List Float) → length (offsets states (edges_in T U m)) ≡ states + 1
   offsets_length U = length-map (span 0 (suc states)) (λ x. below x (edges_in T U m)) ∙ span_length 0 (suc states) ∙ (let z : suc states ≡ states + 1 = omega arith in z)

@@ -25,11 +25,11 @@ edges_at T U (suc m) j d h = pick (λ l. edges_at T U m j d l) (eq_or_ne j m)
     a = edge_in (get_or T m 0) (get_or U m nan)
 
     pick : (j < m → get_or (edges_in T U m) j d ≡ edge_in (get_or T j 0) (get_or U j nan)) → (j ≡ m) ⊎ (j ≢ m)
-        → get_or (edges_in T U m ++ (edge_in (get_or T m 0) (get_or U m nan) ∷ [])) j d ≡ edge_in (get_or T j 0) (get_or U j nan)
-    pick ih (inl e) = subst (λ (x : ℕ). get_or (edges_in T U m ++ (edge_in (get_or T m 0) (get_or U m nan) ∷ [])) x d ≡ edge_in (get_or T x 0) (get_or U x nan)) (sym e)
-        (subst (λ (x : ℕ). get_or (edges_in T U m ++ (edge_in (get_or T m 0) (get_or U m nan) ∷ [])) x d ≡ edge_in (get_or T m 0) (get_or U m nan)) (edges_length T U m)
-        (get_or-append_seam (edges_in T U m) (edge_in (get_or T m 0) (get_or U m nan)) [] d))
-    pick ih (inr e) = get_or-append (edges_in T U m) (edge_in (get_or T m 0) (get_or U m nan) ∷ []) d j (let l = edges_length T U m in omega arith) ∙ ih (omega arith)
+        → get_or (edges_in T U m ++ (a ∷ [])) j d ≡ edge_in (get_or T j 0) (get_or U j nan)
+    pick ih (inl e) = subst (λ (x : ℕ). get_or (edges_in T U m ++ (a ∷ [])) x d ≡ edge_in (get_or T x 0) (get_or U x nan)) (sym e)
+        (subst (λ (x : ℕ). get_or (edges_in T U m ++ (a ∷ [])) x d ≡ a) (edges_length T U m)
+        (get_or-append_seam (edges_in T U m) a [] d))
+    pick ih (inr e) = get_or-append (edges_in T U m) (a ∷ []) d j (let l = edges_length T U m in omega arith) ∙ ih (omega arith)
 
 module _ {A : Type 0} (f : Edge → A) (T : List ℕ) (U : List Float) (m : ℕ) where
   pub column_length : length (map f (edges_in T U m)) ≡ m

@@ -10,7 +10,7 @@ ghost use Rattle.card.specs.Printing.{printed};
 ghost use Rattle.card_models.specs.Sides.{side_ends};
 ghost use Rattle.card_models.proofs.Handing.{blank, Room, Few, FewBoth, lists_text, right_text, heads_text};
 
-use bisim_core::wlts::{Shape, Wlts};
+use bisim_core::wlts::Shape;
 use build_theory::lent::Store;
 use card_models::{CardTransitions, both_models, build_side};
 use card_reader::{CardLists, Head, Heads, read_card};
@@ -36,29 +36,13 @@ fn print_both(
     match models {
         Err(refusal) => refusal_text(refusal, out),
         Ok((a, b)) => {
-            let left_model = Wlts {
-                shape: a,
-                label_values: left.label_values,
-                offsets: left.offsets,
-                edge_labels: left.edge_labels,
-                edge_targets: left.edge_targets,
-                edge_weights: left.edge_weights,
-            };
-            let right_model = Wlts {
-                shape: b,
-                label_values: right.label_values,
-                offsets: right.offsets,
-                edge_labels: right.edge_labels,
-                edge_targets: right.edge_targets,
-                edge_weights: right.edge_weights,
-            };
             let sides = Sides {
                 left: Side {
-                    model: left_model,
+                    model: left.model(a),
                     classes: &classes[0..middle],
                 },
                 right: Side {
-                    model: right_model,
+                    model: right.model(b),
                     classes: &classes[middle..end],
                 },
             };
@@ -111,6 +95,7 @@ impl Arrays {
 }
 
 // Builds the model of that head, its transitions being those from `from` on in the lists.
+// Stays: as `build_side`, which looks at `from`.
 fn build_listed(
     head: Head,
     from: usize,

@@ -2,33 +2,23 @@
 use mathlib.Core.Path.{◌≡◌, refl, sym, ap, ◌∙◌}
 use mathlib.Core.Bool.{Bool, true, false, ◌&&◌}
 use mathlib.Core.List.{List, [], ◌∷◌}
-use Prim.Native.Nat.{ℕ, zero, suc, ◌+◌, ◌*◌, ◌-◌, ◌/◌, ◌%◌, ◌≤◌, ◌<◌}
+use Prim.Native.Nat.{ℕ, suc, ◌+◌, ◌*◌, ◌-◌, ◌/◌, ◌%◌, ◌≤◌, ◌<◌}
 use native.Mathlib.Omega.{arith}
 use lib.Dec.{eqb}
-use lib.ListN.{length, get_or, take, drop, get_or-eq_default, drop_of_length-le, length-drop}
-use lib.Seq.{take_all, get_or-drop}
-use borrow.Author.Tests.{lt-ltb, le-ltb, ne_eqb}
-use mathlib.Core.Logic.{◌⊎◌, inl, inr}
+use lib.ListN.{length, get_or, take, drop, length-drop}
+use lib.Seq.{take_all}
+use borrow.Author.Tests.{lt-ltb, le-ltb}
 use Rattle.std.proofs.Common.{nat_eq}
 use Rattle.std.proofs.lemmas.Bool.Decides.{nat_tests}
 use Rattle.std.specs.List.{starts_with}
-use Rattle.numbers.proofs.Bools.{lt_or_ge}
 use Rattle.card_layout.specs.Layout.{place, column, line, lines, digit, value, numbers, rows, starts, laid}
-use Rattle.card_layout.proofs.Lines.{line_step, laid_step, starts_length, length_row, length_rows}
+use Rattle.card_layout.proofs.Lines.{line_step, laid_step, starts_length, length_column, length_row, length_rows}
 
 and_true : (b : Bool) → (b && true) ≡ b
 and_true true = refl
 and_true false = refl
 
 -- ---- a byte, a place, a number
-
-pub digit_at : (s : List ℕ) (i r : ℕ) → ((k : ℕ) → k < length s → get_or s k 0 < 256) → r ≡ get_or s i 0 - 48 → (r ≡ digit (get_or s i 0)) × (r ≤ 207)
-unfolding digit
-digit_at s i r f e = (e, pick (lt_or_ge i (length s)))
-  where
-    pick : (i < length s) ⊎ (length s ≤ i) → r ≤ 207
-    pick (inl h) = let b = f i h in omega arith
-    pick (inr h) = let b = get_or-eq_default s 0 h in omega arith
 
 pub place_space : (p n : ℕ) → n < p → 32 ≡ place p n
 unfolding place
@@ -38,23 +28,11 @@ pub place_digit : (p n : ℕ) → p ≤ n → 48 + n / p % 10 ≡ place p n
 unfolding place
 place_digit p n h = rw (le-ltb n p h)
 
-pub value_drop : (s : List ℕ) (at : ℕ)
-    → value (drop at s) ≡ 100000 * digit (get_or s at 0) + 10000 * digit (get_or s (at + 1) 0) + 1000 * digit (get_or s (at + 2) 0)
-    + 100 * digit (get_or s (at + 3) 0) + 10 * digit (get_or s (at + 4) 0) + digit (get_or s (at + 5) 0)
-unfolding value
-value_drop s at =
-    let e : at + 0 ≡ at = omega arith in
-    rw (get_or-drop at s 0 0, get_or-drop at s 1 0, get_or-drop at s 2 0, get_or-drop at s 3 0, get_or-drop at s 4 0, get_or-drop at s 5 0, e)
-
 -- the number of six digits
-pub number_of : (s : List ℕ) (at a b d e f g : ℕ) → a ≡ digit (get_or s at 0) → b ≡ digit (get_or s (at + 1) 0) → d ≡ digit (get_or s (at + 2) 0) → e ≡ digit (get_or s (at + 3) 0)
-    → f ≡ digit (get_or s (at + 4) 0) → g ≡ digit (get_or s (at + 5) 0) → 100000 * a + 10000 * b + 1000 * d + 100 * e + 10 * f + g ≡ value (drop at s)
-number_of s at a b d e f g p q r t u v = rw (p, q, r, t, u, v) (sym (value_drop s at))
-
--- past the end no number stands
-pub value_past : (s : List ℕ) (at : ℕ) → length s ≤ at → 0 ≡ value (drop at s)
-unfolding value digit
-value_past s at h = rw (drop_of_length-le s h)
+pub number_of : (s : List ℕ) (a b d e f g : ℕ) → a ≡ digit (get_or s 0 0) → b ≡ digit (get_or s 1 0) → d ≡ digit (get_or s 2 0) → e ≡ digit (get_or s 3 0)
+    → f ≡ digit (get_or s 4 0) → g ≡ digit (get_or s 5 0) → 100000 * a + 10000 * b + 1000 * d + 100 * e + 10 * f + g ≡ value s
+unfolding value
+number_of s a b d e f g p q r t u v = rw (p, q, r, t, u, v)
 
 -- ---- the bytes of a column, one by one
 
@@ -78,13 +56,19 @@ starts_is (x ∷ xs) (b ∷ bs) = rw (eqb_swap b x, starts_is xs bs)
 abbrev pub line_laid : ℕ → List ℕ → Bool
 line_laid k bs = starts (line (numbers k bs)) bs
 
--- what `starts` answers at a column that the bytes' number gives
-pub first_is : (bs c : List ℕ) (n : ℕ) (r b : Bool) → c ≡ column n → n ≡ value bs → r ≡ starts c bs → r ≡ b → starts (column (value bs)) bs ≡ b
-first_is bs c n r b p q t u = cc
+-- what std's test answers at a column that the bytes' number gives
+pub first_is : (bs c : List ℕ) (n : ℕ) (r b : Bool) → c ≡ column n → n ≡ value bs → r ≡ starts_with nat_eq bs c → r ≡ b → starts (column (value bs)) bs ≡ b
+first_is bs c n r b p q t u = let e = starts_is c bs in cc
+
+pub column_there : (bs : List ℕ) → starts (column (value bs)) bs ≡ true → 6 ≤ length bs
+column_there bs t = let l = starts_length (column (value bs)) bs t in omega (arith, length_column (value bs))
 
 -- `&bytes[n..]`
 pub rest_is : (n : ℕ) (bs : List ℕ) → take (length bs - n) (drop n bs) ≡ drop n bs
 rest_is n bs = take_all _ (drop n bs) (omega (arith, length-drop n bs))
+
+pub rest_length : (n : ℕ) (bs : List ℕ) → length (take (length bs - n) (drop n bs)) ≡ length bs - n
+rest_length n bs = ap length (rest_is n bs) ∙ length-drop n bs
 
 pub shorter : (n : ℕ) (bs : List ℕ) {m : ℕ} → length bs ≤ m → length (take (length bs - n) (drop n bs)) ≤ m
 shorter n bs h = rw (rest_is n bs) (omega (arith, length-drop n bs))
@@ -123,17 +107,5 @@ pub line_room : (k : ℕ) (bs : List ℕ) (r : Bool) → r ≡ line_laid k bs �
 line_room k bs r e t = let l = starts_length (line (numbers k bs)) bs (sym e ∙ t) in omega (arith, length_row k bs)
 
 -- lines that are as laid out are there
-pub laid_room : (s : List ℕ) (n k p : ℕ) → p ≤ length s → laid n k (drop p s) ≡ true → p + n * (6 * k + 1) ≤ length s
-laid_room s n k p h t =
-    let l = starts_length (lines (rows n k (drop p s))) (drop p s) t in
-    omega (arith, length_rows n k (drop p s), length-drop p s)
-
--- past the end no line is as laid out
-none_laid : (n k : ℕ) → eqb n 0 ≡ laid n k []
-unfolding lines rows line numbers column starts
-none_laid zero k = refl
-none_laid (suc n) zero = ne_eqb (suc n) 0 (λ e. omega arith)
-none_laid (suc n) (suc k) = ne_eqb (suc n) 0 (λ e. omega arith)
-
-pub laid_past : (s : List ℕ) (n k at : ℕ) → length s < at → eqb n 0 ≡ laid n k (drop at s)
-laid_past s n k at h = let g : length s ≤ at = omega arith in none_laid n k ∙ ap (laid n k) (sym (drop_of_length-le s g))
+pub laid_room : (n k : ℕ) (bs : List ℕ) → laid n k bs ≡ true → n * (6 * k + 1) ≤ length bs
+laid_room n k bs t = let l = starts_length (lines (rows n k bs)) bs t in omega (arith, length_rows n k bs)

@@ -1,5 +1,5 @@
 // Lines of numbers in columns of six.
-ghost use Rattle.std.specs.Prelude.{◌≡◌, true, ◌+◌, ◌*◌, ◌≤◌, ◌<◌, length, get_or, drop};
+ghost use Rattle.std.specs.Prelude.{◌≡◌, true, ◌+◌, ◌*◌, ◌≤◌, ◌<◌, length, get_or};
 ghost use Rattle.card_layout.specs.Layout;
 ghost use Rattle.card_layout.specs.Layout.{value};
 
@@ -35,23 +35,12 @@ fn digit(s: &[u8], i: usize) -> u32
     s.get(i).map_or(0, |b| u32::from(b.saturating_sub(b'0')))
 }
 
-// The number in the six bytes at `at`; 0 past the end.
-pub fn number(s: &[u8], at: usize) -> u32
-    ensures { (result ≡ value (drop at s.now)) × (result ≤ 22999977) }
+// The number in the first six bytes; what is not there counts 0.
+pub fn number(bytes: &[u8]) -> u32
+    ensures { (result ≡ value bytes.now) × (result ≤ 22999977) }
 {
-    if s.len() <= at {
-        return 0;
-    }
-    let high = 100000 * digit(s, at) + 10000 * digit(s, at + 1) + 1000 * digit(s, at + 2);
-    high + 100 * digit(s, at + 3) + 10 * digit(s, at + 4) + digit(s, at + 5)
-}
-
-// The bytes begin with the six of a column.
-fn starts(bytes: &[u8], c: &[u8; 6]) -> bool
-    ensures is { result ≡ Layout.starts c.now bytes.now }
-    ensures room { result ≡ true → 6 ≤ length bytes.now }
-{
-    bytes.starts_with(c)
+    let high = 100000 * digit(bytes, 0) + 10000 * digit(bytes, 1) + 1000 * digit(bytes, 2);
+    high + 100 * digit(bytes, 3) + 10 * digit(bytes, 4) + digit(bytes, 5)
 }
 
 // The line of k columns that the bytes begin with is as laid out.
@@ -61,7 +50,7 @@ fn line_laid(bytes: &[u8], k: usize) -> bool
 {
     let mut rest = bytes;
     for _ in 0..k {
-        if !starts(rest, &column(number(rest, 0))) {
+        if !rest.starts_with(&column(number(rest))) {
             return false;
         }
         rest = &rest[6..];
@@ -70,8 +59,9 @@ fn line_laid(bytes: &[u8], k: usize) -> bool
 }
 
 // The n lines of k columns that the bytes begin with are as laid out.
-fn lines_laid(bytes: &[u8], n: u32, k: usize) -> bool
-    ensures { result ≡ Layout.laid n k bytes.now }
+pub fn laid(bytes: &[u8], n: u32, k: usize) -> bool
+    ensures is { result ≡ Layout.laid n k bytes.now }
+    ensures room { result ≡ true → n * (6 * k + 1) ≤ length bytes.now }
 {
     let mut rest = bytes;
     for _ in 0..n {
@@ -81,14 +71,4 @@ fn lines_laid(bytes: &[u8], n: u32, k: usize) -> bool
         rest = &rest[6 * k + 1..];
     }
     true
-}
-
-// The n lines of k columns at `at` are as laid out; past the end no line is.
-pub fn laid(s: &[u8], at: usize, n: u32, k: usize) -> bool
-    ensures { result ≡ Layout.laid n k (drop at s.now) }
-{
-    if s.len() < at {
-        return n == 0;
-    }
-    lines_laid(&s[at..], n, k)
 }

@@ -200,6 +200,9 @@ only_nine SL ML SR MR cl cr ε ρ a b f g h k =
 -- ---- the card
 
 module _ (c : Card) (w : Within c) where
+  abbrev misfit : Bool
+  misfit = tolerances_outside (parts c.epsilon) (parts c.rho)
+
   abbrev ML : Columns
   ML = (built_of c.left).memory
 
@@ -214,7 +217,7 @@ module _ (c : Card) (w : Within c) where
 
   module _ (h : stray c.left ≡ false) (k : stray c.right ≡ false) where
     nine : epsdelta_refusal SL ML SR MR c.left.classes c.right.classes (parts c.epsilon) (parts c.rho) (relation_bytes (SL.states + SR.states))
-        ≡ check 9 (tolerances_outside (parts c.epsilon) (parts c.rho)) 0
+        ≡ check 9 misfit 0
     nine = only_nine SL ML SR MR c.left.classes c.right.classes (parts c.epsilon) (parts c.rho) (accepted c.left w.left_within h) (accepted c.right w.right_within k)
         w.left_within.few_states w.right_within.few_states (omega arith) (omega arith)
 
@@ -227,12 +230,12 @@ module _ (c : Card) (w : Within c) where
         ∙ ap (λ (l : List ℕ). given_rows (union (model_of c.left) (model_of c.right)) (c.left.classes ++ l) (parts c.epsilon) (parts c.rho)) (take-length c.right.classes)
 
     related : relation_text SL ML SR MR c.left.classes c.right.classes c.epsilon c.rho
-        ≡ text_of (check 9 (tolerances_outside (parts c.epsilon) (parts c.rho)) 0) (report (final (card_given c)) (length c.left.classes) (length c.right.classes))
+        ≡ text_of (check 9 misfit 0) (report (final (card_given c)) (length c.left.classes) (length c.right.classes))
     related =
         ap (λ (r : ℕ). text_of r (report (final (given SL ML SR MR c.left.classes c.right.classes (parts c.epsilon) (parts c.rho))) SL.states SR.states)) nine
-        ∙ ap (λ (G : Given). text_of (check 9 (tolerances_outside (parts c.epsilon) (parts c.rho)) 0) (report (final G) SL.states SR.states)) given_is
+        ∙ ap (λ (G : Given). text_of (check 9 misfit 0) (report (final G) SL.states SR.states)) given_is
 
-    pub run_sound : tolerances_outside (parts c.epsilon) (parts c.rho) ≡ false → Sound (card_given c)
+    pub run_sound : misfit ≡ false → Sound (card_given c)
     run_sound e = subst Sound given_is
         (epsdelta_sound SL ML SR MR c.left.classes c.right.classes (parts c.epsilon) (parts c.rho) (relation_bytes (SL.states + SR.states)) (nine ∙ ap (λ (b : Bool). check 9 b 0) e))
 
@@ -240,7 +243,7 @@ module _ (c : Card) (w : Within c) where
   printing x y = models_text (both x y) ML MR c.left.classes c.right.classes c.epsilon c.rho
 
   abbrev wanted : Bool → List ℕ
-  wanted b = text_of (check 4 b (check 9 (tolerances_outside (parts c.epsilon) (parts c.rho)) 0)) (report (final (card_given c)) (length c.left.classes) (length c.right.classes))
+  wanted b = text_of (check 4 b (check 9 misfit 0)) (report (final (card_given c)) (length c.left.classes) (length c.right.classes))
 
   -- what is printed for the models built is what the definition prints
   pub built_text_lem : built_text c ≡ card_text c
@@ -276,6 +279,6 @@ module _ (c : Card) (w : Within c) where
   unfolding card_refusal
   card_sound e =
       let a = check_none 3 (stray c.left || stray c.right) _ e in
-      let b = check_none 8 (tolerances_outside (parts c.epsilon) (parts c.rho)) 0 a.1 in
+      let b = check_none 8 misfit 0 a.1 in
       let d = or_f (stray c.left) (stray c.right) a.0 in
       run_sound d.0 d.1 b.0

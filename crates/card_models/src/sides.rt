@@ -24,6 +24,7 @@ pub struct CardTransitions<'a> {
 }
 
 // Builds the model of that head, its transitions being those from `from` on, into the lent lists; 7 where they are not there.
+// Stays: cut at `from` by the caller, the four columns would be tested there, once for each of the two models; here the test has one place, and its refusal.
 pub fn build_side(
     head: Head,
     from: usize,
@@ -40,10 +41,7 @@ pub fn build_side(
         of.targets.len(),
         of.weights.len(),
     );
-    if there < from {
-        return Err(Refusal::Store);
-    }
-    if there - from < given {
+    if there.checked_sub(from).is_none_or(|rest| rest < given) {
         return Err(Refusal::Store);
     }
     let end = from + given;

@@ -7,12 +7,12 @@ use native.Mathlib.Omega.{arith}
 use native.Mathlib.Numerals.{add-one}
 use lib.Dec.{leb}
 use lib.Ieee.{Float}
-use lib.ListN.{length, drop, set, length-drop, length-append}
+use lib.ListN.{length, take, drop, set, length-drop, length-append}
 use lib.Seq.{drop-drop, sets, length-sets}
 use borrow.Author.Tests.{lt-ltb, le-ltb, leb-true}
 use Rattle.numbers.proofs.Bools.{and_t}
 use Rattle.numbers.proofs.Refuses.{first, first_hit}
-use Rattle.card_layout.specs.Layout.{lines, value, rows, laid}
+use Rattle.card_layout.specs.Layout.{value, laid}
 use Rattle.std.specs.Prelude.{Result, Ok, Err}
 use Rattle.std.specs.Result.{IsErrAnd}
 use Rattle.numbers.specs.declared.refusal.Refusal.{Refusal}
@@ -23,138 +23,132 @@ use Rattle.card_reader.specs.declared.reader.Head.{Head}
 use Rattle.card_reader.specs.declared.reader.Heads.{Heads}
 use Rattle.card_layout.specs.Lists.{Columns, columns, source_of, label_of, target_of, weight_of, stored, filled, roomy, all_classes, all_transitions}
 use Rattle.card_layout.proofs.Filling.{enough}
-use Rattle.card_reader.specs.Answer.{Answered, head_of, heads_of}
+use Rattle.card_reader.specs.Answer.{Answered, HeadOf, head_of, heads_of}
 use Rattle.card_layout.proofs.Filling.{TransitionsStored, SideRoom}
-use Rattle.card_reader.proofs.Checks.{count_eq, class_part_lem, transition_part_lem}
-use Rattle.card_layout.proofs.Lines.{starts_length, length_rows}
+use Rattle.card_layout.proofs.Steps.{rest_is, laid_room}
 use Rattle.card_layout.proofs.Cards.{fault_parts, Passed, passed, passes, accepted, length_classes, length_transitions}
 
--- ---- where a model ends
-
-laid_fits : (n k : ℕ) (bs : List ℕ) → laid n k bs ≡ true → n * (6 * k + 1) ≤ length bs
-laid_fits n k bs t = let l = starts_length (lines (rows n k bs)) bs t in omega (arith, length_rows n k bs)
+-- ---- what follows in the bytes
 
 pub side_fits : (bs : List ℕ) → Passed bs → side_size bs ≤ length bs
 side_fits bs p =
-    let a = laid_fits 1 3 bs p.head_laid in
-    let b = laid_fits (states bs) 1 (class_part bs) p.classes_laid in
-    let d = laid_fits (count bs) 4 (transition_part bs) p.transitions_laid in
+    let a = laid_room 1 3 bs p.head_laid in
+    let b = laid_room (states bs) 1 (class_part bs) p.classes_laid in
+    let d = laid_room (count bs) 4 (transition_part bs) p.transitions_laid in
     omega (arith, length-drop 19 bs, length-drop (19 + 7 * states bs) bs)
 
-pub side_room : (s : List ℕ) (at : ℕ) → at ≤ length s → side_fault (drop at s) 0 ≡ 0 → at + side_size (drop at s) ≤ length s
-side_room s at h e = let f = side_fits (drop at s) (passed (drop at s) e) in omega (arith, length-drop at s)
+pub side_room : (s : List ℕ) → side_fault s 0 ≡ 0 → side_size s ≤ length s
+side_room s e = side_fits s (passed s e)
+
+-- the bytes after a model, by what its first line says
+pub after_is : (s : List ℕ) (n m : ℕ) → n ≡ states s → m ≡ count s → take (length s - (19 + 7 * n + 25 * m)) (drop (19 + 7 * n + 25 * m) s) ≡ after_side s
+after_is s n m p q = rest_is (19 + 7 * n + 25 * m) s ∙ rw (p, q)
 
 -- ---- the checks of a card, one by one
 
 pub left_off : (s : List ℕ) (f : ℕ) → f ≡ side_fault s 0 → (f ≡ 0 → ⊥) → f ≡ fault s
 left_off s f e h = e ∙ sym (fault_parts s ∙ first_hit (side_fault s 0) _ (λ z. h (e ∙ z)))
 
-module _ (s : List ℕ) (m l : ℕ) (em : m ≡ 0 + side_size s) (el : l ≡ m + side_size (drop m s)) (left : side_fault s 0 ≡ 0) where
-  -- the right model and the last line
-  pub middle : drop m s ≡ after_side s
-  middle = let e : m ≡ side_size s = omega arith in ap (λ (x : ℕ). drop x s) e
-
-  pub last : drop l s ≡ last_part s
-  last = ap (λ (x : ℕ). drop x s) el ∙ sym (drop-drop (side_size (drop m s)) m s) ∙ ap after_side middle
+module _ (s right last : List ℕ) (er : right ≡ after_side s) (el : last ≡ after_side right) (left : side_fault s 0 ≡ 0) where
+  last_is : last ≡ last_part s
+  last_is = el ∙ ap after_side er
 
   -- the checks after the left model
-  after_left : fault s ≡ first (side_fault (drop m s) 0) (last_fault (last_part s))
-  after_left = fault_parts s ∙ rw (left, ← middle)
+  after_left : fault s ≡ first (side_fault right 0) (last_fault (last_part s))
+  after_left = fault_parts s ∙ rw (left, ← er)
 
-  pub right_off : (f : ℕ) → f ≡ side_fault (drop m s) 0 → (f ≡ 0 → ⊥) → f ≡ fault s
-  right_off f e h = e ∙ sym (after_left ∙ first_hit (side_fault (drop m s) 0) _ (λ z. h (e ∙ z)))
+  pub right_off : (f : ℕ) → f ≡ side_fault right 0 → (f ≡ 0 → ⊥) → f ≡ fault s
+  right_off f e h = e ∙ sym (after_left ∙ first_hit (side_fault right 0) _ (λ z. h (e ∙ z)))
 
-  fault_last : side_fault (drop m s) 0 ≡ 0 → last_fault (drop l s) ≡ fault s
-  fault_last e = ap last_fault last ∙ sym (after_left ∙ rw e)
+  fault_last : side_fault right 0 ≡ 0 → last_fault last ≡ fault s
+  fault_last e = ap last_fault last_is ∙ sym (after_left ∙ rw e)
 
-  pub last_off : side_fault (drop m s) 0 ≡ 0 → laid 1 2 (drop l s) ≡ false → 1 ≡ fault s
+  pub last_off : side_fault right 0 ≡ 0 → laid 1 2 last ≡ false → 1 ≡ fault s
   unfolding last_fault
   last_off e t = rw (← fault_last e, t)
 
-  pub last_more : side_fault (drop m s) 0 ≡ 0 → laid 1 2 (drop l s) ≡ true → l + 13 < length s → 1 ≡ fault s
+  pub last_more : side_fault right 0 ≡ 0 → laid 1 2 last ≡ true → 13 < length last → 1 ≡ fault s
   unfolding last_fault
-  last_more e t h = let b = length-drop l s in rw (← fault_last e, t, lt-ltb 13 (length (drop l s)) (omega arith))
+  last_more e t h = rw (← fault_last e, t, lt-ltb 13 (length last) h)
 
-  pub no_fault : side_fault (drop m s) 0 ≡ 0 → laid 1 2 (drop l s) ≡ true → length s ≤ l + 13 → 0 ≡ fault s
+  pub no_fault : side_fault right 0 ≡ 0 → laid 1 2 last ≡ true → length last ≤ 13 → 0 ≡ fault s
   unfolding last_fault
-  no_fault e t h = let b = length-drop l s in rw (← fault_last e, t, le-ltb 13 (length (drop l s)) (omega arith))
+  no_fault e t h = rw (← fault_last e, t, le-ltb 13 (length last) h)
 
 -- ---- the columns, one entry at a time
 
--- n lines of w bytes at `at` are read by `taken` and stored from `from` on: l has the first i of them, and those still to come make it what it has to be
-abbrev pub Stored : {A : Type 0} → ℕ → (ℕ → List ℕ → List A) → List ℕ → ℕ → ℕ → ℕ → List A → List A → ℕ → Type 0
-Stored w taken s at n from l₀ l i = sets l (from + i) (taken (n - i) (drop (at + w * i) s)) ≡ sets l₀ from (taken n (drop at s))
+-- n lines of w bytes are read by `taken` and stored from `from` on: l has the first i of them, and those still to come make it what it has to be
+abbrev pub Stored : {A : Type 0} → ℕ → (ℕ → List ℕ → List A) → List ℕ → ℕ → ℕ → List A → List A → ℕ → Type 0
+Stored w taken s n from l₀ l i = sets l (from + i) (taken (n - i) (drop (w * i) s)) ≡ sets l₀ from (taken n s)
 
 module _ {A : Type 0} (w : ℕ) (taken : ℕ → List ℕ → List A) (one : List ℕ → A) (none : (bs : List ℕ) → taken 0 bs ≡ []) (more : (n : ℕ) (bs : List ℕ) → taken (suc n) bs ≡ one bs ∷ taken n (drop w bs))
-    (s : List ℕ) (at n from : ℕ) where
-  pub stored_next : (l₀ l : List A) (i : ℕ) (a : A) → a ≡ one (drop (at + w * i) s) → i < n → Stored w taken s at n from l₀ l i → Stored w taken s at n from l₀ (set l (from + i) a) (i + 1)
+    (s : List ℕ) (n from : ℕ) where
+  pub stored_next : (l₀ l : List A) (i : ℕ) (a : A) → a ≡ one (drop (w * i) s) → i < n → Stored w taken s n from l₀ l i → Stored w taken s n from l₀ (set l (from + i) a) (i + 1)
   stored_next l₀ l i a e h v =
       let k : n - i ≡ suc (n - (i + 1)) = omega arith in
-      let p : at + w * i + w ≡ at + w * (i + 1) = omega (arith, add-one i) in
-      let q : taken (n - i) (drop (at + w * i) s) ≡ a ∷ taken (n - (i + 1)) (drop (at + w * (i + 1)) s) =
-      ap (λ (x : ℕ). taken x (drop (at + w * i) s)) k ∙ more (n - (i + 1)) (drop (at + w * i) s) ∙ ap (λ (x : A). x ∷ taken (n - (i + 1)) (drop w (drop (at + w * i) s))) (sym e)
-      ∙ ap (λ (x : List ℕ). a ∷ taken (n - (i + 1)) x) (drop-drop w (at + w * i) s ∙ ap (λ (x : ℕ). drop x s) p) in
+      let p : w * i + w ≡ w * (i + 1) = omega (arith, add-one i) in
+      let q : taken (n - i) (drop (w * i) s) ≡ a ∷ taken (n - (i + 1)) (drop (w * (i + 1)) s) =
+      ap (λ (x : ℕ). taken x (drop (w * i) s)) k ∙ more (n - (i + 1)) (drop (w * i) s) ∙ ap (λ (x : A). x ∷ taken (n - (i + 1)) (drop w (drop (w * i) s))) (sym e)
+      ∙ ap (λ (x : List ℕ). a ∷ taken (n - (i + 1)) x) (drop-drop w (w * i) s ∙ ap (λ (x : ℕ). drop x s) p) in
       let f : from + (i + 1) ≡ suc (from + i) = omega arith in
       rw f (sym (ap (sets l (from + i)) q)) ∙ v
 
-  pub stored_last : (l₀ l : List A) (i : ℕ) → n ≤ i → Stored w taken s at n from l₀ l i → l ≡ sets l₀ from (taken n (drop at s))
-  stored_last l₀ l i h v = let e : n - i ≡ 0 = omega arith in sym (ap (λ (x : ℕ). sets l (from + i) (taken x (drop (at + w * i) s))) e ∙ ap (sets l (from + i)) (none (drop (at + w * i) s))) ∙ v
+  pub stored_last : (l₀ l : List A) (i : ℕ) → n ≤ i → Stored w taken s n from l₀ l i → l ≡ sets l₀ from (taken n s)
+  stored_last l₀ l i h v = let e : n - i ≡ 0 = omega arith in sym (ap (λ (x : ℕ). sets l (from + i) (taken x (drop (w * i) s))) e ∙ ap (sets l (from + i)) (none (drop (w * i) s))) ∙ v
 
--- what stands at the other columns of a transition's line
-pub at_label : (s : List ℕ) (p : ℕ) → value (drop (p + 6) s) ≡ (transition_in (drop p s)).label
-at_label s p = ap value (sym (drop-drop 6 p s))
-
-pub at_target : (s : List ℕ) (p : ℕ) → value (drop (p + 12) s) ≡ (transition_in (drop p s)).target
-at_target s p = ap value (sym (drop-drop 12 p s))
-
-pub at_weight : (s : List ℕ) (p : ℕ) → value (drop (p + 18) s) ≡ (transition_in (drop p s)).weight
-at_weight s p = ap value (sym (drop-drop 18 p s))
-
-module _ (s : List ℕ) (at n from : ℕ) (l₀ l : List ℕ) (i : ℕ) where
-  -- the classes
+module _ (s : List ℕ) (n : ℕ) (l₀ l : List ℕ) (i : ℕ) where
+  -- the classes, in the first entries
   abbrev pub Classes : Type 0
-  Classes = Stored 7 classes_in s at n from l₀ l i
+  Classes = sets l i (classes_in (n - i) (drop (7 * i) s)) ≡ sets l₀ 0 (classes_in n s)
 
-  pub classes_next : (a : ℕ) → a ≡ value (drop (at + 7 * i) s) → i < n → Classes → Stored 7 classes_in s at n from l₀ (set l (from + i) a) (i + 1)
-  unfolding classes_in
-  classes_next = stored_next 7 classes_in value (λ bs. refl) (λ m bs. refl) s at n from l₀ l i
+  same : 0 + i ≡ i
+  same = omega arith
 
-  pub classes_last : n ≤ i → Classes → l ≡ sets l₀ from (classes_in n (drop at s))
+  pub classes_next : (a : ℕ) → a ≡ value (take (length s - 7 * i) (drop (7 * i) s)) → i < n → Classes → sets (set l i a) (i + 1) (classes_in (n - (i + 1)) (drop (7 * (i + 1)) s)) ≡ sets l₀ 0 (classes_in n s)
   unfolding classes_in
-  classes_last = stored_last 7 classes_in value (λ bs. refl) (λ m bs. refl) s at n from l₀ l i
+  classes_next a e h v =
+      let o : 0 + (i + 1) ≡ i + 1 = omega arith in
+      rw (same, o) at (stored_next 7 classes_in value (λ bs. refl) (λ m bs. refl) s n 0 l₀ l i a (e ∙ ap value (rest_is (7 * i) s)) h (rw same v))
+
+  pub classes_last : n ≤ i → Classes → l ≡ sets l₀ 0 (classes_in n s)
+  unfolding classes_in
+  classes_last h v = stored_last 7 classes_in value (λ bs. refl) (λ m bs. refl) s n 0 l₀ l i h (rw same v)
+
+-- the number in another column of the line at p
+pub at_column : (n p : ℕ) (s : List ℕ) → value (take (length (take (length s - p) (drop p s)) - n) (drop n (take (length s - p) (drop p s)))) ≡ value (drop n (drop p s))
+at_column n p s = ap value (rest_is n _ ∙ ap (drop n) (rest_is p s))
 
 -- a column of the transitions
 abbrev pub column_in : {A : Type 0} → (Transition → A) → ℕ → List ℕ → List A
 column_in f n bs = map f (transitions_in n bs)
 
-module _ {A : Type 0} (f : Transition → A) (s : List ℕ) (at n from : ℕ) where
+module _ {A : Type 0} (f : Transition → A) (s : List ℕ) (n from : ℕ) where
   abbrev pub Col : List A → List A → ℕ → Type 0
-  Col = Stored 25 (column_in f) s at n from
+  Col = Stored 25 (column_in f) s n from
 
-  pub col_next : (l₀ l : List A) (i : ℕ) (a : A) → a ≡ f (transition_in (drop (at + 25 * i) s)) → i < n → Col l₀ l i → Col l₀ (set l (from + i) a) (i + 1)
+  pub col_next : (l₀ l : List A) (i : ℕ) (a : A) → a ≡ f (transition_in (drop (25 * i) s)) → i < n → Col l₀ l i → Col l₀ (set l (from + i) a) (i + 1)
   unfolding transitions_in
-  col_next = stored_next 25 (column_in f) (λ bs. f (transition_in bs)) (λ bs. refl) (λ m bs. refl) s at n from
+  col_next = stored_next 25 (column_in f) (λ bs. f (transition_in bs)) (λ bs. refl) (λ m bs. refl) s n from
 
   -- a column is as long as it was
   pub col_length : (l₀ l : List A) (i : ℕ) → Col l₀ l i → length l ≡ length l₀
-  col_length l₀ l i v = sym (length-sets l (from + i) (column_in f (n - i) (drop (at + 25 * i) s))) ∙ ap length v ∙ length-sets l₀ from (column_in f n (drop at s))
+  col_length l₀ l i v = sym (length-sets l (from + i) (column_in f (n - i) (drop (25 * i) s))) ∙ ap length v ∙ length-sets l₀ from (column_in f n s)
 
-  pub col_last : (l₀ l : List A) (i : ℕ) → n ≤ i → Col l₀ l i → l ≡ sets l₀ from (column_in f n (drop at s))
+  pub col_last : (l₀ l : List A) (i : ℕ) → n ≤ i → Col l₀ l i → l ≡ sets l₀ from (column_in f n s)
   unfolding transitions_in
-  col_last = stored_last 25 (column_in f) (λ bs. f (transition_in bs)) (λ bs. refl) (λ m bs. refl) s at n from
+  col_last = stored_last 25 (column_in f) (λ bs. f (transition_in bs)) (λ bs. refl) (λ m bs. refl) s n from
 
 -- ---- the counts and the initial state of a model
 
-pub head_found : (s : List ℕ) (at n i m : ℕ) → n ≡ value (drop at s) → i ≡ value (drop (at + 6) s) → m ≡ value (drop (at + 12) s)
-    → record { states = n; initial = i; transitions = m } ≡ head_of (side_in (drop at s))
+pub head_found : (h : Head) (bs : List ℕ) → HeadOf h bs → h ≡ head_of (side_in bs)
 unfolding side_in
-head_found s at n i m en ei em =
-    let a : n ≡ length (classes_in (states (drop at s)) (class_part (drop at s))) = en ∙ sym (length_classes _ _) in
-    let b : i ≡ value (drop 6 (drop at s)) = ei ∙ ap value (sym (drop-drop 6 at s)) in
-    let d : m ≡ length (transitions_in (count (drop at s)) (transition_part (drop at s))) = em ∙ ap value (sym (drop-drop 12 at s)) ∙ sym (length_transitions _ _) in
-    ap (λ (x : ℕ). record { states = x; initial = i; transitions = m }) a
-    ∙ ap (λ (x : ℕ). record { states = length (classes_in (states (drop at s)) (class_part (drop at s))); initial = x; transitions = m }) b
-    ∙ ap (λ (x : ℕ). record { states = length (classes_in (states (drop at s)) (class_part (drop at s))); initial = value (drop 6 (drop at s)); transitions = x }) d
+head_found h bs e =
+    let a : h.states ≡ length (classes_in (states bs) (class_part bs)) = e.0 ∙ sym (length_classes _ _) in
+    let b : h.transitions ≡ length (transitions_in (count bs) (transition_part bs)) = e.2 ∙ sym (length_transitions _ _) in
+    same_head a e.1 b
+  where
+    same_head : {n n' i i' m m' : ℕ} → n ≡ n' → i ≡ i' → m ≡ m' → ◌≡◌ {A = Head} (record { states = n; initial = i; transitions = m }) (record { states = n'; initial = i'; transitions = m' })
+    same_head p q r = cc
 
 -- ---- a model in the columns
 
@@ -162,48 +156,42 @@ same_columns : {a a' b b' d d' e e' : List ℕ} {w w' : List Float} → a ≡ a'
     → columns a b d e w ≡ columns a' b' d' e' w'
 same_columns p q r t u = cc
 
-module _ (s : List ℕ) (at n m : ℕ) (en : n ≡ value (drop at s)) (em : m ≡ value (drop (at + 12) s)) where
-  pub classes_found : classes_in n (drop (at + 19) s) ≡ (side_in (drop at s)).classes
-  unfolding side_in
-  classes_found = ap (λ (x : ℕ). classes_in x (drop (at + 19) s)) en ∙ ap (classes_in (states (drop at s))) (sym (class_part_lem s at n m en em))
-
-  pub transitions_found : transitions_in m (drop (at + 19 + 7 * n) s) ≡ (side_in (drop at s)).transitions
-  unfolding side_in
-  transitions_found = ap (λ (x : ℕ). transitions_in x (drop (at + 19 + 7 * n) s)) (sym (count_eq s at n m en em)) ∙ ap (transitions_in (count (drop at s))) (sym (transition_part_lem s at n m en em))
-
-  pub side_stored : (i j : ℕ) (a b d e : List ℕ) (w : List Float) {a' b' d' e' : List ℕ} {w' : List Float}
-      → a' ≡ sets a i (classes_in n (drop (at + 19) s)) → TransitionsStored (transitions_in m (drop (at + 19 + 7 * n) s)) j b d e w b' d' e' w'
-      → columns a' b' d' e' w' ≡ stored (side_in (drop at s)) i j (columns a b d e w)
-  unfolding stored
-  side_stored i j a b d e w p q =
+module _ (bs : List ℕ) (n m : ℕ) (en : n ≡ states bs) (em : m ≡ count bs) where
+  pub side_stored : (i j : ℕ) (a b d e : List ℕ) (w : List Float) {a' b' d' e' : List ℕ} {w' : List Float} {cs ts : List ℕ} → cs ≡ class_part bs → ts ≡ transition_part bs
+      → a' ≡ sets a i (classes_in n cs) → TransitionsStored (transitions_in m ts) j b d e w b' d' e' w'
+      → columns a' b' d' e' w' ≡ stored (side_in bs) i j (columns a b d e w)
+  unfolding stored side_in
+  side_stored i j a b d e w {cs = cs} {ts} ec et p q =
+      let c : classes_in n cs ≡ classes_in (states bs) (class_part bs) = rw (en, ec) in
+      let t : transitions_in m ts ≡ transitions_in (count bs) (transition_part bs) = rw (em, et) in
       same_columns
-      (p ∙ ap (sets a i) classes_found)
-      (q.sources_are ∙ ap (λ (x : List Transition). sets b j (map source_of x)) transitions_found)
-      (q.labels_are ∙ ap (λ (x : List Transition). sets d j (map label_of x)) transitions_found)
-      (q.targets_are ∙ ap (λ (x : List Transition). sets e j (map target_of x)) transitions_found)
-      (q.weights_are ∙ ap (λ (x : List Transition). sets w j (map weight_of x)) transitions_found)
+      (p ∙ ap (sets a i) c)
+      (q.sources_are ∙ ap (λ (x : List Transition). sets b j (map source_of x)) t)
+      (q.labels_are ∙ ap (λ (x : List Transition). sets d j (map label_of x)) t)
+      (q.targets_are ∙ ap (λ (x : List Transition). sets e j (map target_of x)) t)
+      (q.weights_are ∙ ap (λ (x : List Transition). sets w j (map weight_of x)) t)
 
 -- ---- a card without a fault
 
 pub left_passes : (s : List ℕ) → fault s ≡ 0 → side_fault s 0 ≡ 0
 left_passes s e = passes s (accepted s e).left_passed
 
-module _ (s : List ℕ) (e : fault s ≡ 0) (m : ℕ) (em : m ≡ 0 + side_size s) where
-  pub right_at : drop m s ≡ after_side s
-  right_at = let d : m ≡ side_size s = omega arith in ap (λ (x : ℕ). drop x s) d
+module _ (s right : List ℕ) (e : fault s ≡ 0) (er : right ≡ after_side s) where
+  pub right_passes : side_fault right 0 ≡ 0
+  right_passes = ap (λ (x : List ℕ). side_fault x 0) er ∙ passes (after_side s) (accepted s e).right_passed
 
-  pub right_passes : side_fault (drop m s) 0 ≡ 0
-  right_passes = ap (λ (x : List ℕ). side_fault x 0) right_at ∙ passes (after_side s) (accepted s e).right_passed
+  module _ (last : List ℕ) (el : last ≡ after_side right) where
+    last_at : last ≡ last_part s
+    last_at = el ∙ ap after_side er
 
-  module _ (l : ℕ) (el : l ≡ m + side_size (drop m s)) where
-    pub last_at : drop l s ≡ last_part s
-    last_at = ap (λ (x : ℕ). drop x s) el ∙ sym (drop-drop (side_size (drop m s)) m s) ∙ ap after_side right_at
+    pub last_room : 13 ≤ length last
+    last_room = let l = laid_room 1 2 (last_part s) (accepted s e).last_laid in let n = ap length last_at in omega arith
 
-    pub heads_found : (x y : Head) (z t : ℕ) → x ≡ head_of (side_in s) → y ≡ head_of (side_in (drop m s)) → z ≡ value (drop l s) → t ≡ value (drop (l + 6) s)
+    pub heads_found : (x y : Head) (z t : ℕ) → HeadOf x s → HeadOf y right → z ≡ value last → t ≡ value (take (length last - 6) (drop 6 last))
         → ◌≡◌ {A = Heads} (record { left = x; right = y; epsilon = z; rho = t }) (heads_of (card_in s))
     unfolding card_in
-    heads_found x y z t p q u v = same_heads p (q ∙ ap (λ (b : List ℕ). head_of (side_in b)) right_at) (u ∙ ap value last_at)
-        (v ∙ ap value (sym (drop-drop 6 l s)) ∙ ap (λ (b : List ℕ). value (drop 6 b)) last_at)
+    heads_found x y z t p q u v = same_heads (head_found x s p) (head_found y right q ∙ ap (λ (b : List ℕ). head_of (side_in b)) er) (u ∙ ap value last_at)
+        (v ∙ ap value (rest_is 6 last) ∙ ap (λ (b : List ℕ). value (drop 6 b)) last_at)
       where
         same_heads : {a a' b b' : Head} {d d' f f' : ℕ} → a ≡ a' → b ≡ b' → d ≡ d' → f ≡ f'
             → ◌≡◌ {A = Heads} (record { left = a; right = b; epsilon = d; rho = f }) (record { left = a'; right = b'; epsilon = d'; rho = f' })
@@ -257,7 +245,7 @@ module _ (s : List ℕ) (e : fault s ≡ 0) (k : Columns) (r : roomy (card_in s)
         in_transitions = record { in_sources = omega arith; in_labels = omega arith; in_targets = omega arith; in_weights = omega arith };
       }
 
-  module _ (m n j : ℕ) (em : m ≡ 0 + side_size s) (en : n ≡ value s) (ej : j ≡ value (drop 12 s)) (k' : Columns) (ek : k' ≡ stored (side_in s) 0 0 k) where
+  module _ (right : List ℕ) (er : right ≡ after_side s) (n j : ℕ) (en : n ≡ states s) (ej : j ≡ count s) (k' : Columns) (ek : k' ≡ stored (side_in s) 0 0 k) where
     -- the columns are as long as they were
     kept : Roomy (all_states s) (all_count s) k'
     unfolding stored
@@ -271,18 +259,18 @@ module _ (s : List ℕ) (e : fault s ≡ 0) (k : Columns) (r : roomy (card_in s)
           for_weights = simp length-sets q.for_weights;
         })
 
-    pub right_room : SideRoom (drop m s) n j k'
+    pub right_room : SideRoom right n j k'
     right_room =
         let q = kept in
-        rw (right_at s e m em) (record {
+        rw er (record {
           no_fault = passes (after_side s) (accepted s e).right_passed;
           in_classes = omega arith;
           in_transitions = record { in_sources = omega arith; in_labels = omega arith; in_targets = omega arith; in_weights = omega arith };
         })
 
-    pub card_stored : stored (side_in (drop m s)) n j k' ≡ filled (card_in s) k
+    pub card_stored : stored (side_in right) n j k' ≡ filled (card_in s) k
     unfolding filled card_in side_in
-    card_stored = rw (ek, right_at s e m em, en, ej, length_classes (states s) (class_part s), length_transitions (count s) (transition_part s))
+    card_stored = rw (ek, er, en, ej, length_classes (states s) (class_part s), length_transitions (count s) (transition_part s))
 
 -- ---- the answers
 

@@ -1,9 +1,14 @@
 -- What the reader answers, and what the lent lists hold afterwards.
-use Rattle.std.specs.Prelude.{◌≡◌, cond, List, ℕ, length, Result, Ok, Err}
-use Rattle.card_layout.specs.Card.{Side, Card, Reading, card, refused, read}
+use Rattle.std.specs.Prelude.{◌≡◌, cond, List, ℕ, length, drop, Result, Ok, Err}
+use Rattle.card_layout.specs.Layout.{value}
+use Rattle.card_layout.specs.Card.{Side, Card, Reading, card, refused, read, states, count}
 use Rattle.card_layout.specs.Lists.{Columns, roomy, filled}
 use Rattle.card_reader.specs.declared.reader.Head.{Head}
 use Rattle.card_reader.specs.declared.reader.Heads.{Heads}
+
+-- what a model's first line says
+abbrev pub HeadOf : Head → List ℕ → Type 0
+HeadOf h bs = (h.states ≡ states bs) × (h.initial ≡ value (drop 6 bs)) × (h.transitions ≡ count bs)
 
 -- the counts and settings of an accepted card
 abbrev pub head_of : Side → Head

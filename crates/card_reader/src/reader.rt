@@ -1,12 +1,12 @@
 // The card reader: check the lines first, then fill the lent lists.
-ghost use Rattle.std.specs.Prelude.{◌≡◌, true, ◌+◌, ◌*◌, ◌≤◌, ◌<◌, length, drop};
+ghost use Rattle.std.specs.Prelude.{◌≡◌, true, ◌*◌, ◌≤◌, length};
 ghost use Rattle.std.proofs.lemmas.List.Edits.{sets};
 ghost use Rattle.card_layout.specs.Card;
 ghost use Rattle.numbers.specs.Refuse.{code, numbered};
 ghost use Rattle.card_layout.specs.Lists.{stored, roomy, filled};
 ghost use Rattle.card_reader.specs.Lent.{columns_of, same_lists};
 ghost use Rattle.card_reader.specs.Answer;
-ghost use Rattle.card_reader.specs.Answer.{Answered, head_of};
+ghost use Rattle.card_reader.specs.Answer.{Answered, HeadOf};
 ghost use Rattle.card_layout.proofs.Filling;
 ghost use Rattle.card_layout.proofs.Filling.{TransitionsRoom, TransitionsStored, SideRoom};
 
@@ -40,97 +40,90 @@ pub struct CardLists<'a> {
     pub weights: &'a mut [f64],
 }
 
-// The first fault of the model at `at`.
-fn side_fault(s: &[u8], at: usize) -> Result<(), Refusal>
-    requires { at ≤ length s.now }
-    ensures { code result ≡ Card.side_fault (drop at s.now) 0 }
+// The first line of the model that the bytes begin with.
+fn first_line(s: &[u8]) -> Head
+    requires { 19 ≤ length s.now }
+    ensures { HeadOf result s.now }
 {
-    if !laid(s, at, 1, 3) {
+    Head {
+        states: number(s),
+        initial: number(&s[6..]),
+        transitions: number(&s[12..]),
+    }
+}
+
+// The first fault of the model that the bytes begin with.
+// Stays: `fill_side` cuts off the same two parts, but here the second cut is safe only once the first part is as laid out; one function that made both cuts would stop before that test.
+fn side_fault(s: &[u8]) -> Result<(), Refusal>
+    ensures { code result ≡ Card.side_fault s.now 0 }
+{
+    if !laid(s, 1, 3) {
         return Err(Refusal::CardLayout);
     }
-    let states = number(s, at);
-    let transitions = number(s, at + 12);
-    if states > 32 {
+    let of = first_line(s);
+    if of.states > 32 || of.transitions > 200 {
         return Err(Refusal::CardSize);
     }
-    if transitions > 200 {
-        return Err(Refusal::CardSize);
-    }
-    if !laid(s, at + 19, states, 1) {
-        return Err(Refusal::CardLayout);
-    }
-    if !laid(s, at + 19 + 7 * states as usize, transitions, 4) {
+    let lines = &s[19..];
+    if !laid(lines, of.states, 1) || !laid(&lines[7 * of.states as usize..], of.transitions, 4) {
         return Err(Refusal::CardLayout);
     }
     Ok(())
 }
 
-// Where the model at `at`, which has no fault, ends.
-fn side_end(s: &[u8], at: usize) -> usize
-    requires { (at ≤ length s.now) × (Card.side_fault (drop at s.now) 0 ≡ 0) }
-    ensures { (result ≡ at + Card.side_size (drop at s.now)) × (result ≤ length s.now) }
+// The bytes after the model that they begin with, which has no fault.
+fn after_side(s: &[u8]) -> &[u8]
+    requires { Card.side_fault s.now 0 ≡ 0 }
+    ensures { result.now ≡ Card.after_side s.now }
 {
-    let states = number(s, at) as usize;
-    let transitions = number(s, at + 12) as usize;
-    at + 19 + 7 * states + 25 * transitions
+    let of = first_line(s);
+    &s[19 + 7 * of.states as usize + 25 * of.transitions as usize..]
 }
 
 // The first fault of the card.
 fn fault(s: &[u8]) -> Result<(), Refusal>
     ensures { code result ≡ Card.fault s.now }
 {
-    side_fault(s, 0)?;
-    let middle = side_end(s, 0);
-    side_fault(s, middle)?;
-    let last = side_end(s, middle);
-    if !laid(s, last, 1, 2) {
-        return Err(Refusal::CardLayout);
-    }
-    if last + 13 < s.len() {
+    side_fault(s)?;
+    let right = after_side(s);
+    side_fault(right)?;
+    let last = after_side(right);
+    if !laid(last, 1, 2) || last.len() > 13 {
         return Err(Refusal::CardLayout);
     }
     Ok(())
 }
 
-// The classes on the n lines at `at`, stored from `from` on.
-fn fill_classes(s: &[u8], at: usize, n: u32, classes: &mut [u32], from: usize)
-    requires { (at + 7 * n ≤ length s.now) × (from + n ≤ length classes.old) }
-    ensures { classes.new ≡ sets classes.old from (Card.classes_in n (drop at s.now)) }
+// The classes on the n lines that the bytes begin with, stored in the first entries.
+// Stays: as `classes[..n].iter_mut().zip(s[..7 * n].chunks(7))` there are two cuts more, each with its bound, and the invariant speaks of what is left of both in place of i.
+fn fill_classes(s: &[u8], n: u32, classes: &mut [u32])
+    requires { (7 * n ≤ length s.now) × (n ≤ length classes.old) }
+    ensures { classes.new ≡ sets classes.old 0 (Card.classes_in n s.now) }
 {
     for i in 0..n as usize {
-        classes[from + i] = number(s, at + 7 * i);
+        classes[i] = number(&s[7 * i..]);
     }
 }
 
-// The transitions on the n lines at `at`, stored from `from` on.
-fn fill_transitions(s: &[u8], at: usize, n: u32, lists: &mut CardLists, from: usize)
-    requires { (at + 25 * n ≤ length s.now) × TransitionsRoom n from lists.old.sources.now lists.old.labels.now lists.old.targets.now lists.old.weights.now }
-    ensures stored { TransitionsStored (Card.transitions_in n (drop at s.now)) from lists.old.sources.now lists.old.labels.now lists.old.targets.now lists.old.weights.now lists.new.sources.now lists.new.labels.now lists.new.targets.now lists.new.weights.now }
+// The transitions on the n lines that the bytes begin with, stored from `from` on.
+// Stays: with the lists cut for each model in `fill_card` there would be nine cuts, and a law for each that what is written to the part is written to the list, in place of `from` here and both places of `fill_side`; not tried. The four columns by `zip` would be four iterators in one, in place of i.
+fn fill_transitions(s: &[u8], n: u32, lists: &mut CardLists, from: usize)
+    requires { (25 * n ≤ length s.now) × TransitionsRoom n from lists.old.sources.now lists.old.labels.now lists.old.targets.now lists.old.weights.now }
+    ensures stored { TransitionsStored (Card.transitions_in n s.now) from lists.old.sources.now lists.old.labels.now lists.old.targets.now lists.old.weights.now lists.new.sources.now lists.new.labels.now lists.new.targets.now lists.new.weights.now }
     ensures kept { lists.new.classes.now ≡ lists.old.classes.now }
     ensures same { same_lists lists.old lists.new }
 {
     for i in 0..n as usize {
-        let line = at + 25 * i;
-        lists.sources[from + i] = number(s, line);
-        lists.labels[from + i] = number(s, line + 6);
-        lists.targets[from + i] = number(s, line + 12);
-        lists.weights[from + i] = number(s, line + 18) as f64;
-    }
-}
-
-// The counts and the initial state of the model at `at`, which has no fault.
-fn head_at(s: &[u8], at: usize) -> Head
-    requires { (at ≤ length s.now) × (Card.side_fault (drop at s.now) 0 ≡ 0) }
-    ensures { result ≡ head_of (Card.side_in (drop at s.now)) }
-{
-    Head {
-        states: number(s, at),
-        initial: number(s, at + 6),
-        transitions: number(s, at + 12),
+        let line = &s[25 * i..];
+        lists.sources[from + i] = number(line);
+        lists.labels[from + i] = number(&line[6..]);
+        lists.targets[from + i] = number(&line[12..]);
+        lists.weights[from + i] = number(&line[18..]) as f64;
     }
 }
 
 // The lists are long enough for n states and m transitions.
+// Stays: by `numbers::least` of the four lengths it reads the same four, and wants a law more, since the definition tests them one by one.
 fn enough(n: usize, m: usize, lists: &CardLists) -> bool
     ensures { result ≡ Filling.enough n m (length lists.now.classes.now) (length lists.now.sources.now) (length lists.now.labels.now) (length lists.now.targets.now) (length lists.now.weights.now) }
 {
@@ -141,17 +134,22 @@ fn enough(n: usize, m: usize, lists: &CardLists) -> bool
         && m <= lists.weights.len()
 }
 
-// The model at `at`, which has no fault, stored in the lists: its classes from `from` on, its transitions from `first` on.
-fn fill_side(s: &[u8], at: usize, lists: &mut CardLists, from: usize, first: usize)
-    requires { SideRoom (drop at s.now) from first (columns_of lists.old) × (at ≤ length s.now) }
-    ensures stored { columns_of lists.new ≡ stored (Card.side_in (drop at s.now)) from first (columns_of lists.old) }
+// The model that the bytes begin with, which has no fault, stored in the lists: its classes from `from` on, its transitions from `first` on.
+// Stays: as `fill_transitions`.
+fn fill_side(s: &[u8], lists: &mut CardLists, from: usize, first: usize)
+    requires { SideRoom s.now from first (columns_of lists.old) }
+    ensures stored { columns_of lists.new ≡ stored (Card.side_in s.now) from first (columns_of lists.old) }
     ensures same { same_lists lists.old lists.new }
 {
-    let states = number(s, at);
-    let transitions = number(s, at + 12);
-    fill_classes(s, at + 19, states, lists.classes, from);
-    let lines = at + 19 + 7 * states as usize;
-    fill_transitions(s, lines, transitions, lists, first);
+    let of = first_line(s);
+    let lines = &s[19..];
+    fill_classes(lines, of.states, &mut lists.classes[from..]);
+    fill_transitions(
+        &lines[7 * of.states as usize..],
+        of.transitions,
+        lists,
+        first,
+    );
 }
 
 // The card, which has no fault, stored in the lists: the left model from the first entry on, the right model after it.
@@ -160,11 +158,14 @@ fn fill_card(s: &[u8], lists: &mut CardLists)
     ensures filled { columns_of lists.new ≡ filled (Card.card_in s.now) (columns_of lists.old) }
     ensures same { same_lists lists.old lists.new }
 {
-    let middle = side_end(s, 0);
-    let states = number(s, 0) as usize;
-    let transitions = number(s, 12) as usize;
-    fill_side(s, 0, lists, 0, 0);
-    fill_side(s, middle, lists, states, transitions);
+    let left = first_line(s);
+    fill_side(s, lists, 0, 0);
+    fill_side(
+        after_side(s),
+        lists,
+        left.states as usize,
+        left.transitions as usize,
+    );
 }
 
 // The counts and settings of a card that has no fault.
@@ -172,15 +173,13 @@ fn heads_of(s: &[u8]) -> Heads
     requires { Card.fault s.now ≡ 0 }
     ensures { result ≡ Answer.heads_of (Card.card_in s.now) }
 {
-    let middle = side_end(s, 0);
-    let last = side_end(s, middle);
-    let left = head_at(s, 0);
-    let right = head_at(s, middle);
+    let right = after_side(s);
+    let last = after_side(right);
     Heads {
-        left,
-        right,
-        epsilon: number(s, last),
-        rho: number(s, last + 6),
+        left: first_line(s),
+        right: first_line(right),
+        epsilon: number(last),
+        rho: number(&last[6..]),
     }
 }
 

@@ -23,7 +23,7 @@ use Rattle.epsdelta_theory.specs.Epsdelta.{given, task, epsdelta}
 use Rattle.epsdelta_theory.specs.Claim.{final}
 use Rattle.epsdelta_theory.proofs.Runs.{run_length}
 use Rattle.epsdelta_theory.proofs.Rows.{model_length, union_length}
-use Rattle.epsdelta.specs.declared.asked.Tolerances.{Tolerances}
+use Rattle.epsdelta_theory.specs.declared.tolerances.Tolerances.{Tolerances}
 use Rattle.epsdelta.specs.Outcome.{Outcome, ends, settled}
 use Rattle.card_layout.proofs.Lines.{length_line}
 use Rattle.card_report.specs.Report.{report, refusal_line, most_report, store_fault, report_fault, relation_in, Printed}

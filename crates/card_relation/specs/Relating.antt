@@ -10,7 +10,7 @@ use Rattle.epsdelta_theory.specs.Refusal.{epsdelta_refusal}
 use Rattle.epsdelta_theory.specs.Epsdelta.{given}
 use Rattle.epsdelta_theory.specs.Claim.{final}
 use Rattle.epsdelta.specs.declared.asked.Sides.{Sides}
-use Rattle.epsdelta.specs.declared.asked.Tolerances.{Tolerances}
+use Rattle.epsdelta_theory.specs.declared.tolerances.Tolerances.{Tolerances}
 use Rattle.card_report.specs.Report.{report, refusal_line, store_fault}
 
 -- so many 1,024ths

@@ -1,5 +1,5 @@
 // The relation of two models, and its text.
-ghost use Rattle.std.specs.Prelude.{◌≡◌, Bool, List, ℕ, ◌+◌, ◌*◌, ◌≤◌, length};
+ghost use Rattle.std.specs.Prelude.{◌≡◌, Bool, List, ℕ, ◌*◌, ◌≤◌, length};
 ghost use Rattle.numbers.specs.Refuse.{numbered};
 ghost use Rattle.epsdelta.specs.Outcome.{ends, settled};
 ghost use Rattle.epsdelta.specs.Sides.{together, of_sides};
@@ -9,8 +9,9 @@ ghost use Rattle.card_relation.specs.Relating;
 ghost use Rattle.card_relation.specs.Relating.{AtMost32, text_of, relation_at, relation_fault};
 
 use card_report::{MOST_REPORT, refusal_text, report_text};
-use epsdelta::asked::{Sides, Tolerances};
+use epsdelta::asked::Sides;
 use epsdelta::relation::epsdelta;
+use epsdelta_theory::tolerances::Tolerances;
 use numbers::refusal::Refusal;
 
 // So many 1,024ths.

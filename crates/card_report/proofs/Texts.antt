@@ -34,12 +34,12 @@ related_at store l r s t h g =
 -- ---- the pairs of one left state, one by one
 
 -- rows stored one by one: what is still to come makes the store and the place what they have to be
-pub record Putting (todo : List (List ℕ)) (all : List (List ℕ)) (out₀ : List ℕ) (at : ℕ) (out : List ℕ) (p : ℕ) : Type 0 where
+pub record Putting (todo : List (List ℕ)) (all : List (List ℕ)) (out₀ : List ℕ) (out : List ℕ) (p : ℕ) : Type 0 where
   pub sized : length out ≡ length out₀
-  pub place : p + 13 * length todo ≡ at + 13 * length all
-  pub same : sets out p (lines todo) ≡ sets out₀ at (lines all)
+  pub place : p + 13 * length todo ≡ 13 * length all
+  pub same : sets out p (lines todo) ≡ sets out₀ 0 (lines all)
 
-length_pair : (s t : ℕ) → length (line (s ∷ t ∷ [])) ≡ 13
+pub length_pair : (s t : ℕ) → length (line (s ∷ t ∷ [])) ≡ 13
 length_pair s t = length_line (s ∷ t ∷ [])
 
 lines_append : (x y : List (List ℕ)) → lines (x ++ y) ≡ lines x ++ lines y
@@ -47,12 +47,12 @@ unfolding lines
 lines_append [] y = refl
 lines_append (r ∷ x) y = ap (λ (z : List ℕ). line r ++ z) (lines_append x y) ∙ sym (append_assoc (line r) (lines x) (lines y))
 
-module _ (all : List (List ℕ)) (out₀ : List ℕ) (at : ℕ) where
-  pub putting_same : {todo todo' : List (List ℕ)} {out : List ℕ} {p : ℕ} → todo ≡ todo' → Putting todo all out₀ at out p → Putting todo' all out₀ at out p
-  putting_same {out = out} {p} e k = subst (λ (x : List (List ℕ)). Putting x all out₀ at out p) e k
+module _ (all : List (List ℕ)) (out₀ : List ℕ) where
+  pub putting_same : {todo todo' : List (List ℕ)} {out : List ℕ} {p : ℕ} → todo ≡ todo' → Putting todo all out₀ out p → Putting todo' all out₀ out p
+  putting_same {out = out} {p} e k = subst (λ (x : List (List ℕ)). Putting x all out₀ out p) e k
 
   pub putting_row : (s t : ℕ) (todo : List (List ℕ)) (out out' : List ℕ) (p : ℕ) → out' ≡ sets out p (line (s ∷ t ∷ []))
-      → Putting ((s ∷ t ∷ []) ∷ todo) all out₀ at out p → Putting todo all out₀ at out' (p + 13)
+      → Putting ((s ∷ t ∷ []) ∷ todo) all out₀ out p → Putting todo all out₀ out' (p + 13)
   unfolding lines
   putting_row s t todo out out' p e k =
       let a = k.place in
@@ -68,7 +68,7 @@ module _ (all : List (List ℕ)) (out₀ : List ℕ) (at : ℕ) where
       }
 
   pub putting_more : (x y : List (List ℕ)) (out out' : List ℕ) (p q : ℕ) → q ≡ p + 13 * length x → length (lines x) ≡ 13 * length x → out' ≡ sets out p (lines x)
-      → Putting (x ++ y) all out₀ at out p → Putting y all out₀ at out' q
+      → Putting (x ++ y) all out₀ out p → Putting y all out₀ out' q
   putting_more x y out out' p q eq el e k =
       let a = k.place in
       let b = k.sized in
@@ -114,24 +114,24 @@ across_rows R l r s (suc k) t =
     let a = across_rows R l r s k (suc t) in
     keep_rows (related (l + r) l R s t) s t (across R l r s k (suc t)) k a.0 a.1
 
-module _ (R : List Bool) (l r s t : ℕ) (h : t < r) (all : List (List ℕ)) (out₀ out : List ℕ) (at p : ℕ) (k : Putting (across R l r s (r - t) t) all out₀ at out p) where
+module _ (R : List Bool) (l r s t : ℕ) (h : t < r) (all : List (List ℕ)) (out₀ out : List ℕ) (p : ℕ) (k : Putting (across R l r s (r - t) t) all out₀ out p) where
   pub turn_hit : (out' : List ℕ) (p' : ℕ) → related (l + r) l R s t ≡ true → out' ≡ sets out p (line (s ∷ t ∷ [])) → p' ≡ p + 13
-      → Putting (across R l r s (r - (t + 1)) (t + 1)) all out₀ at out' p'
+      → Putting (across R l r s (r - (t + 1)) (t + 1)) all out₀ out' p'
   turn_hit out' p' e eo ep =
-      subst (λ (x : ℕ). Putting (across R l r s (r - (t + 1)) (t + 1)) all out₀ at out' x) (sym ep)
-      (putting_row all out₀ at s t _ out out' p eo (putting_same all out₀ at (across_hit R l r s t h e) k))
+      subst (λ (x : ℕ). Putting (across R l r s (r - (t + 1)) (t + 1)) all out₀ out' x) (sym ep)
+      (putting_row all out₀ s t _ out out' p eo (putting_same all out₀ (across_hit R l r s t h e) k))
 
   pub turn_miss : (out' : List ℕ) (p' : ℕ) → related (l + r) l R s t ≡ false → out' ≡ out → p' ≡ p
-      → Putting (across R l r s (r - (t + 1)) (t + 1)) all out₀ at out' p'
+      → Putting (across R l r s (r - (t + 1)) (t + 1)) all out₀ out' p'
   turn_miss out' p' e eo ep =
-      subst (λ (x : ℕ). Putting (across R l r s (r - (t + 1)) (t + 1)) all out₀ at out' x) (sym ep)
-      (subst (λ (x : List ℕ). Putting (across R l r s (r - (t + 1)) (t + 1)) all out₀ at x p) (sym eo)
-      (putting_same all out₀ at (across_miss R l r s t h e) k))
+      subst (λ (x : ℕ). Putting (across R l r s (r - (t + 1)) (t + 1)) all out₀ out' x) (sym ep)
+      (subst (λ (x : List ℕ). Putting (across R l r s (r - (t + 1)) (t + 1)) all out₀ x p) (sym eo)
+      (putting_same all out₀ (across_miss R l r s t h e) k))
 
-pub putting_ends : {todo all : List (List ℕ)} {out₀ out : List ℕ} {at p : ℕ} → todo ≡ [] → Putting todo all out₀ at out p
-    → (p ≡ at + 13 * length all) × (out ≡ sets out₀ at (lines all))
+pub putting_ends : {todo all : List (List ℕ)} {out₀ out : List ℕ} {p : ℕ} → todo ≡ [] → Putting todo all out₀ out p
+    → (p ≡ 13 * length all) × (out ≡ sets out₀ 0 (lines all))
 unfolding lines
-putting_ends {all = all} {out₀} {out} {at} {p} e k =
+putting_ends {all = all} {out₀} {out} {p} e k =
     let a = k.place in
     let b = ap length e in
     (omega arith, ap (λ (x : List (List ℕ)). sets out p (lines x)) (sym e) ∙ k.same)
@@ -153,11 +153,11 @@ pub down_none : (R : List Bool) (l r s : ℕ) → l ≤ s → down R l r (l - s)
 unfolding down
 down_none R l r s h = let e : l - s ≡ 0 = omega arith in ap (λ (n : ℕ). down R l r n s) e
 
-pub turn_down : (R : List Bool) (l r s : ℕ) → s < l → (all : List (List ℕ)) (out₀ out out' : List ℕ) (at p q : ℕ)
+pub turn_down : (R : List Bool) (l r s : ℕ) → s < l → (all : List (List ℕ)) (out₀ out out' : List ℕ) (p q : ℕ)
     → q ≡ p + 13 * length (across R l r s r 0) → out' ≡ sets out p (lines (across R l r s r 0))
-    → Putting (down R l r (l - s) s) all out₀ at out p → Putting (down R l r (l - (s + 1)) (s + 1)) all out₀ at out' q
-turn_down R l r s h all out₀ out out' at p q eq eo k =
-    putting_more all out₀ at (across R l r s r 0) _ out out' p q eq (across_rows R l r s r 0).1 eo (putting_same all out₀ at (down_step R l r s h) k)
+    → Putting (down R l r (l - s) s) all out₀ out p → Putting (down R l r (l - (s + 1)) (s + 1)) all out₀ out' q
+turn_down R l r s h all out₀ out out' p q eq eo k =
+    putting_more all out₀ (across R l r s r 0) _ out out' p q eq (across_rows R l r s r 0).1 eo (putting_same all out₀ (down_step R l r s h) k)
 
 down_rows : (R : List Bool) (l r k s : ℕ) → length (lines (down R l r k s)) ≡ 13 * length (down R l r k s)
 unfolding down lines
@@ -166,6 +166,10 @@ down_rows R l r (suc k) s =
     let a = (across_rows R l r s r 0).1 in
     let b = down_rows R l r k (suc s) in
     ap length (lines_append (across R l r s r 0) (down R l r k (suc s))) ∙ simp length-append (omega arith)
+
+-- how many bytes pairs take
+pub pairs_length : (R : List Bool) (l r : ℕ) → length (lines (pairs R l r)) ≡ 13 * length (pairs R l r)
+pairs_length R l r = down_rows R l r l 0
 
 report_length : (R : List Bool) (l r : ℕ) → length (report R l r) ≡ 19 + 13 * length (pairs R l r)
 unfolding report lines
@@ -209,12 +213,12 @@ module _ (store : List ℕ) (l r : ℕ) (out : List ℕ) where
   abbrev R : List Bool
   R = relation_in store (l + r)
 
-  report_at : (e : ℕ) (mid out' : List ℕ) → e ≡ 19 + 13 * length (pairs R l r) → mid ≡ sets out 19 (lines (pairs R l r))
-      → out' ≡ sets mid 0 (line (l ∷ r ∷ (e - 19) / 13 ∷ [])) → out' ≡ sets out 0 (report R l r)
+  report_at : (m : ℕ) (mid out' : List ℕ) → m ≡ 13 * length (pairs R l r) → mid ≡ sets out 19 (lines (pairs R l r))
+      → out' ≡ sets mid 0 (line (l ∷ r ∷ m / 13 ∷ [])) → out' ≡ sets out 0 (report R l r)
   unfolding report lines
-  report_at e mid out' ee em eo =
+  report_at m mid out' ee em eo =
       let n = length (pairs R l r) in
-      let d : (e - 19) / 13 ≡ n = omega arith in
+      let d : m / 13 ≡ n = omega arith in
       let h = line (l ∷ r ∷ n ∷ []) in
       let lh : length h ≡ 19 = length_line (l ∷ r ∷ n ∷ []) in
       eo ∙ ap (λ (x : ℕ). sets mid 0 (line (l ∷ r ∷ x ∷ []))) d
@@ -245,22 +249,24 @@ module _ (store : List ℕ) (l r : ℕ) (out : List ℕ) where
   unfolding report_fault
   right_over a h = prints 2 (Err 2) out (rw (le-ltb 32 l a, lt-ltb 32 r h)) refl refl
 
-  pub relation_short : l ≤ 32 → r ≤ 32 → bytes < needed → Printed (report_fault l r bytes room) (report R l r) out (Err 7) out
+  pub relation_short : l ≤ 32 → r ≤ 32 → (k : ℕ) → k ≡ needed → bytes < k → Printed (report_fault l r bytes room) (report R l r) out (Err 7) out
   unfolding report_fault
-  relation_short a b h = prints 7 (Err 7) out (rw (le-ltb 32 l a, le-ltb 32 r b, lt-ltb bytes needed h)) refl refl
+  relation_short a b k e g = let h : bytes < needed = subst (λ (x : ℕ). bytes < x) e g in prints 7 (Err 7) out (rw (le-ltb 32 l a, le-ltb 32 r b, lt-ltb bytes needed h)) refl refl
 
-  pub store_short : l ≤ 32 → r ≤ 32 → needed ≤ bytes → room < most_report → Printed (report_fault l r bytes room) (report R l r) out (Err 7) out
+  pub store_short : l ≤ 32 → r ≤ 32 → (k : ℕ) → k ≡ needed → k ≤ bytes → room < most_report → Printed (report_fault l r bytes room) (report R l r) out (Err 7) out
   unfolding report_fault
-  store_short a b d h = prints 7 (Err 7) out (rw (le-ltb 32 l a, le-ltb 32 r b, le-ltb bytes needed d, lt-ltb room most_report h)) refl refl
+  store_short a b k e g h = let d : needed ≤ bytes = subst (λ (x : ℕ). x ≤ bytes) e g in prints 7 (Err 7) out (rw (le-ltb 32 l a, le-ltb 32 r b, le-ltb bytes needed d, lt-ltb room most_report h)) refl refl
 
   pub report_room : l ≤ 32 → r ≤ 32 → needed ≤ bytes → most_report ≤ room → report_fault l r bytes room ≡ 0
   unfolding report_fault
   report_room a b d h = rw (le-ltb 32 l a, le-ltb 32 r b, le-ltb bytes needed d, le-ltb room most_report h)
 
-  pub reported : l ≤ 32 → r ≤ 32 → needed ≤ bytes → most_report ≤ room → (e : ℕ) (mid out' : List ℕ)
-      → e ≡ 19 + 13 * length (pairs R l r) → mid ≡ sets out 19 (lines (pairs R l r)) → out' ≡ sets mid 0 (line (l ∷ r ∷ (e - 19) / 13 ∷ []))
-      → Printed (report_fault l r bytes room) (report R l r) out (Ok e) out'
-  reported a b d h e mid out' ee em eo = prints 0 (Ok e) out' (report_room a b d h) (ap Ok (ee ∙ sym (report_length R l r))) (report_at e mid out' ee em eo)
+  pub reported : l ≤ 32 → r ≤ 32 → (k : ℕ) → k ≡ needed → k ≤ bytes → most_report ≤ room → (m : ℕ) (mid out' : List ℕ)
+      → m ≡ 13 * length (pairs R l r) → mid ≡ sets out 19 (lines (pairs R l r)) → out' ≡ sets mid 0 (line (l ∷ r ∷ m / 13 ∷ []))
+      → Printed (report_fault l r bytes room) (report R l r) out (Ok (19 + m)) out'
+  reported a b k e g h m mid out' ee em eo =
+      let d : needed ≤ bytes = subst (λ (x : ℕ). x ≤ bytes) e g in
+      prints 0 (Ok (19 + m)) out' (report_room a b d h) (ap Ok (ap (λ (n : ℕ). 19 + n) ee ∙ sym (report_length R l r))) (report_at m mid out' ee em eo)
 
 -- ---- a refusal's line
 

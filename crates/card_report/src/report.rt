@@ -5,8 +5,10 @@ ghost use Rattle.epsdelta_theory.specs.Relation;
 ghost use Rattle.card_layout.proofs.Writes.{PairsPut};
 ghost use Rattle.card_report.specs.Report;
 ghost use Rattle.card_report.specs.Report.{relation_in, refusal_line, Printed};
+ghost use Rattle.card_report.specs.Paired.{Few, relation_of};
 
 use crate::lines::put_line;
+use epsdelta_theory::relation_bytes;
 use numbers::bit;
 use numbers::refusal::Refusal;
 
@@ -21,57 +23,53 @@ struct Pairs<'a> {
     right: u32,
 }
 
-// Left state s and right state t are related.
-fn related(of: &Pairs, s: u32, t: u32) -> bool
-    requires { (of.now.left ≤ 32) × (of.now.right ≤ 32) × (s < of.now.left) × (t < of.now.right) }
-    ensures { result ≡ Relation.related (of.now.left + of.now.right) of.now.left (relation_in of.now.relation.now (of.now.left + of.now.right)) s t }
-{
-    let bit_of = s * (of.left + of.right) + (of.left + t);
-    bit(of.relation, bit_of as usize)
-}
+impl Pairs<'_> {
+    // Left state s and right state t are related.
+    fn related(&self, s: u32, t: u32) -> bool
+        requires { Few self.now × (s < self.now.left) × (t < self.now.right) }
+        ensures { result ≡ Relation.related (self.now.left + self.now.right) self.now.left (relation_of self.now) s t }
+    {
+        let bit_of = s * (self.left + self.right) + (self.left + t);
+        bit(self.relation, bit_of as usize)
+    }
 
-// The related pairs of left state s, written from `at` on. Gives the place after them.
-fn put_across(of: &Pairs, s: u32, out: &mut [u8], at: usize) -> usize
-    requires { (of.now.left ≤ 32) × (of.now.right ≤ 32) × (s < of.now.left) × (at + 13 * of.now.right ≤ length out.old) }
-    ensures { PairsPut (Report.across (relation_in of.now.relation.now (of.now.left + of.now.right)) of.now.left of.now.right s of.now.right 0) at (13 * of.now.right) out.old result out.new }
-{
-    let mut p = at;
-    for t in 0..of.right {
-        if related(of, s, t) {
-            put_line(out, p, &[s, t]);
-            p += 13;
+    // The related pairs of left state s, written to the first bytes. Gives how many bytes.
+    fn put_across(&self, s: u32, out: &mut [u8]) -> usize
+        requires { Few self.now × (s < self.now.left) × (13 * self.now.right ≤ length out.old) }
+        ensures { PairsPut (Report.across (relation_of self.now) self.now.left self.now.right s self.now.right 0) (13 * self.now.right) out.old result out.new }
+    {
+        let mut size = 0;
+        for t in 0..self.right {
+            if self.related(s, t) {
+                put_line(&mut out[size..], &[s, t]);
+                size += 13;
+            }
         }
+        size
     }
-    p
-}
 
-// The related pairs by left then right, written from `at` on. Gives the place after them.
-fn put_pairs(of: &Pairs, out: &mut [u8], at: usize) -> usize
-    requires { (of.now.left ≤ 32) × (of.now.right ≤ 32) × (at + 416 * of.now.left ≤ length out.old) }
-    ensures { PairsPut (Report.pairs (relation_in of.now.relation.now (of.now.left + of.now.right)) of.now.left of.now.right) at (416 * of.now.left) out.old result out.new }
-{
-    let mut p = at;
-    for s in 0..of.left {
-        p = put_across(of, s, out, p);
+    // The related pairs by left then right, written to the first bytes. Gives how many bytes.
+    fn put(&self, out: &mut [u8]) -> usize
+        requires { Few self.now × (416 * self.now.left ≤ length out.old) }
+        ensures { PairsPut (Report.pairs (relation_of self.now) self.now.left self.now.right) (416 * self.now.left) out.old result out.new }
+    {
+        let mut size = 0;
+        for s in 0..self.left {
+            size += self.put_across(s, &mut out[size..]);
+        }
+        size
     }
-    p
 }
 
 // Writes the report of a relation over the states of both models, and gives its length: 2 for over 32 states, 7 where the relation or the store is short.
 pub fn report_text(left: u32, right: u32, relation: &[u8], out: &mut [u8]) -> Result<usize, Refusal>
     ensures { Printed (Report.report_fault left right (length relation.now) (length out.old)) (Report.report (relation_in relation.now (left + right)) left right) out.old (numbered result) out.new }
 {
-    if left > 32 {
+    if left > 32 || right > 32 {
         return Err(Refusal::CardSize);
     }
-    if right > 32 {
-        return Err(Refusal::CardSize);
-    }
-    let states = (left + right) as usize;
-    if relation.len() < (states * states + 7) / 8 {
-        return Err(Refusal::Store);
-    }
-    if out.len() < MOST_REPORT {
+    let needed = relation_bytes((left + right) as usize);
+    if relation.len() < needed || out.len() < MOST_REPORT {
         return Err(Refusal::Store);
     }
     let of = Pairs {
@@ -79,9 +77,9 @@ pub fn report_text(left: u32, right: u32, relation: &[u8], out: &mut [u8]) -> Re
         left,
         right,
     };
-    let end = put_pairs(&of, out, 19);
-    put_line(out, 0, &[left, right, ((end - 19) / 13) as u32]);
-    Ok(end)
+    let size = of.put(&mut out[19..]);
+    put_line(out, &[left, right, (size / 13) as u32]);
+    Ok(19 + size)
 }
 
 // Writes a refusal's line, and gives its length; 7 where the store is short for a report.
@@ -91,6 +89,6 @@ pub fn refusal_text(refusal: Refusal, out: &mut [u8]) -> Result<usize, Refusal>
     if out.len() < MOST_REPORT {
         return Err(Refusal::Store);
     }
-    put_line(out, 0, &[refusal.number()]);
+    put_line(out, &[refusal.number()]);
     Ok(7)
 }

@@ -1,5 +1,5 @@
 -- The checks of a row and of all rows, as the code makes them.
-use mathlib.Core.Path.{◌≡◌, refl, sym, ap, ◌∙◌}
+use mathlib.Core.Path.{◌≡◌, refl, ap, ◌∙◌}
 use mathlib.Core.Bool.{Bool, true, ◌&&◌}
 use Rattle.std.specs.List.{list_all, range_with_len}
 use Prim.Native.Nat.{ℕ, zero, suc, ◌+◌, ◌≤◌, ◌<◌}
@@ -9,12 +9,11 @@ use native.Mathlib.Numerals.{add-one}
 use lib.Dec.{ltb, leb}
 use lib.Ieee.{Float}
 use lib.ListN.{length, get_or}
-use lib.Seq.{length-slice}
 use borrow.Author.Tests.{lt-ltb, le-leb}
 use Rattle.numbers.specs.Lists.{span, all}
 use Rattle.epsdelta_theory.specs.Jumps.{Jump, jumps_of}
 use Rattle.epsdelta_theory.proofs.RowReads.{jumps_length, jumps_targets, jumps_rates, starts_up}
-use Rattle.chain_theory.specs.Columns.{chain_columns, reads_row, row_targets, row_rates}
+use Rattle.chain_theory.specs.Columns.{chain_columns, reads_row}
 use Rattle.chain_theory.specs.Check.{ascends, probable, whole, proper}
 use Rattle.chain_theory.proofs.Shaped.{Rows}
 
@@ -33,18 +32,13 @@ inside {n} {O} {T} {P} R s h =
     let y = R.probabilities_long in
     (omega arith, omega arith, omega arith)
 
--- the row of a state can be read, and has as many targets as probabilities
+-- the row of a state can be read
 module _ {n : ℕ} {O T : List ℕ} {P : List Float} (R : Rows n O T P) (seen : List Float) (s : ℕ) (h : s < n) where
   pub reads : reads_row (chain_columns O T P seen) s ≡ true
   reads =
       let k = R.offsets_long in
       let (a, b, d) = inside R s h in
       rw (lt-ltb (s + 1) (length O) (omega arith), le-leb (get_or O s 0) (get_or O (s + 1) 0) a, le-leb (get_or O (s + 1) 0) (length T) b, le-leb (get_or O (s + 1) 0) (length P) d)
-
-  pub even_lengths : (ts : List ℕ) (ps : List Float) → ts ≡ row_targets (chain_columns O T P seen) s → ps ≡ row_rates (chain_columns O T P seen) s → length ts ≡ length ps
-  even_lengths ts ps e f =
-      let (a, b, d) = inside R s h in
-      ap length e ∙ length-slice (get_or O s 0) (get_or O (s + 1) 0) T b ∙ sym (length-slice (get_or O s 0) (get_or O (s + 1) 0) P d) ∙ sym (ap length f)
 
 -- ---- all rows, one number after the other
 

@@ -1,5 +1,5 @@
 // Check 13: rows of 1 to 32 entries, targets that rise, and probabilities that add up to 1.
-ghost use Rattle.std.specs.Prelude.{◌≡◌, ◌<◌, not, map, length};
+ghost use Rattle.std.specs.Prelude.{◌≡◌, ◌<◌, map, length};
 ghost use Rattle.numbers.specs.Lists.{span, all};
 ghost use Rattle.epsdelta_theory.specs.Jumps.{jumps_of};
 ghost use Rattle.chain_theory.specs.Columns.{entries};
@@ -55,10 +55,7 @@ fn row_proper(chain: &Chain, s: usize) -> bool
     requires { (s < chain.now.shape.states) × Rows chain.now.shape.states chain.now.offsets.now chain.now.targets.now chain.now.probs.now }
     ensures { result ≡ Check.proper (entries (of_chain chain.now) s) }
 {
-    let Some(row) = chain.row(s) else {
-        return false;
-    };
-    proper(&row)
+    chain.row(s).is_some_and(|row| proper(&row))
 }
 
 pub(crate) fn all_proper(chain: &Chain) -> bool

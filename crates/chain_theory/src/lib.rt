@@ -2,7 +2,7 @@
 #![tactic(auto)]
 
 ghost use Rattle.std.specs.Prelude.{◌≡◌};
-ghost use Rattle.chain_theory.specs.Lent.{RowRead, of_chain, of_chain_mut};
+ghost use Rattle.chain_theory.specs.Lent.{RowRead, of_chain, of_chain_mut, of_store};
 
 use bisim_core::ids::StateId;
 use numbers::bounds::Bounds;
@@ -78,6 +78,21 @@ pub struct ChainStore<'a> {
     pub targets: &'a mut [u32],
     pub probs: &'a mut [f64],
     pub observations: &'a mut [f64],
+}
+
+impl ChainStore<'_> {
+    // The chain of this shape in the lists that are lent.
+    pub fn chain(&self, shape: ChainShape) -> Chain<'_>
+        ensures { (result.shape ≡ shape) × (of_chain result ≡ of_store self.now) }
+    {
+        Chain {
+            shape,
+            offsets: &self.offsets,
+            targets: &self.targets,
+            probs: &self.probs,
+            observations: &self.observations,
+        }
+    }
 }
 
 // What the observations of a model may be.

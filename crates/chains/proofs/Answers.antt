@@ -1,27 +1,30 @@
 -- Which answer is due of `common_rate`, `uniformise` and `lay_chain`, and what follows where nothing is refused.
 use mathlib.Core.Path.{◌≡◌, refl, sym, ap, subst, ◌∙◌}
 use mathlib.Core.Logic.{◌≢◌}
-use mathlib.Core.Bool.{Bool, true, false, not, ◌&&◌, true≢false, false≢true}
+use mathlib.Core.Bool.{Bool, true, false}
 use Prim.Native.Nat.{ℕ, zero, suc, ◌+◌, ◌-◌, ◌≤◌, ◌<◌}
 use mathlib.Core.List.{List, [], ◌∷◌, ◌++◌, map}
 use native.Mathlib.Omega.{arith}
-use lib.Dec.{eqb, ltb}
+use lib.Dec.{ltb}
 use lib.Ieee.{Float}
 use lib.ListN.{length, take, drop}
 use lib.Seq.{length-take-le}
-use borrow.Author.Tests.{ltb-false, eq-eqb, ne_eqb}
-use Rattle.std.specs.Prelude.{Some, None, Result, Ok, Err}
-use Rattle.std.specs.Option.{is_some}
-use Rattle.std.specs.Result.{IsErrAnd, result_ok}
+use borrow.Author.Tests.{ltb-false}
+use Rattle.std.specs.Prelude.{Result, Ok, Err}
+use Rattle.std.specs.Result.{IsErrAnd}
 use Rattle.numbers.specs.Refuse
-use Rattle.numbers.specs.Refuse.{check, code, numbered, answered}
+use Rattle.numbers.specs.Refuse.{check, numbered}
 use Rattle.numbers.specs.declared.refusal.Refusal.{Refusal}
 use Rattle.numbers.specs.Lists.{span, over}
 use Rattle.numbers.specs.Real.{nought, least_observation, greatest_weight}
 use Rattle.numbers.specs.Choice.{larger}
 use Rattle.numbers.proofs.Bools.{or_f}
 use Rattle.numbers.proofs.Refuses.{first, first_hit, first_skip, first_none, check_hit, check_skip, check_none, number_positive, answered_ok}
+use Rattle.bisim_core.specs.Data
 use Rattle.bisim_core.specs.Data.{Columns}
+use Rattle.bisim_core.specs.declared.wlts.Wlts.{Wlts}
+use Rattle.chain_theory.specs.Lent.{of_store}
+use Rattle.chain_theory.specs.declared.ChainStore.{ChainStore}
 use Rattle.bisim_core.specs.declared.ids.StateId.{StateId}
 use Rattle.bisim_core.specs.declared.wlts.Shape.{Shape}
 use Rattle.bisim_core.specs.Model.{row, model, model_refusal, large, unfit, weights_outside, crowded}
@@ -34,7 +37,7 @@ use Rattle.chain_theory.specs.Chain.{Chain, exit_rate, greatest_from, greatest_e
 use Rattle.chain_theory.specs.Columns.{ChainColumns, chain_columns, shape_of, columns_of}
 use Rattle.chain_theory.specs.Check.{rate_outside, unfitting, cramped}
 use Rattle.chain_theory.specs.declared.ChainShape.{ChainShape}
-use Rattle.chains.specs.Outcome.{rated, uniformise_refusal, ends, settled, uniformised, laying, lay_if, lay_chain, shape, LaidOut, RowsLaid}
+use Rattle.chains.specs.Outcome.{rated, uniformise_refusal, ends, settled, uniformised, lay_refusal, lay_chain, shape, LaidOut, RowsLaid}
 use Rattle.chains.proofs.Rowing.{Made, made_length, equal_columns}
 
 -- ---- `common_rate`
@@ -66,42 +69,42 @@ split false false true d x = refl
 split false false false true x = refl
 split false false false false x = refl
 
-module _ (S : Shape) (M : Columns) (q : Float) (seen : List Float) (C : ChainColumns) (m : ℕ) (e : m ≡ model_refusal S M) where
+module _ (W : Wlts) (q : Float) (seen : List Float) (D : ChainStore) {m : ℕ} (e : m ≡ model_refusal W.shape (Data.columns_of W)) where
   abbrev later : ℕ
   later =
-      check 7 (cramped S.states S.edges (length seen) C)
-      (check 8 (absent S.initial)
+      check 7 (cramped W.shape.states W.shape.edges (length seen) (of_store D))
+      (check 8 (absent W.shape.initial)
       (check 11 (rate_outside q)
-      (check 12 (unfitting least_observation greatest_weight S.states seen)
+      (check 12 (unfitting least_observation greatest_weight W.shape.states seen)
       0)))
 
-  refusal_is : first m later ≡ uniformise_refusal S M q seen C
+  refusal_is : first m later ≡ uniformise_refusal W.shape (Data.columns_of W) q seen (of_store D)
   unfolding uniformise_refusal model_refusal
-  refusal_is = ap (λ (k : ℕ). first k later) e ∙ split (large S) (unfit S M) (weights_outside S M) (crowded S M) later
+  refusal_is = ap (λ (k : ℕ). first k later) e ∙ split (large W.shape) (unfit W.shape (Data.columns_of W)) (weights_outside W.shape (Data.columns_of W)) (crowded W.shape (Data.columns_of W)) later
 
-  pub refused_model : m ≢ 0 → m ≡ uniformise_refusal S M q seen C
+  pub refused_model : m ≢ 0 → m ≡ uniformise_refusal W.shape (Data.columns_of W) q seen (of_store D)
   refused_model h = sym (first_hit m later h) ∙ refusal_is
 
   module _ (z : m ≡ 0) where
-    passed : (r : ℕ) → later ≡ r → r ≡ uniformise_refusal S M q seen C
+    passed : (r : ℕ) → later ≡ r → r ≡ uniformise_refusal W.shape (Data.columns_of W) q seen (of_store D)
     passed r f = sym (first_skip m later r z f) ∙ refusal_is
 
-    pub refused_7 : cramped S.states S.edges (length seen) C ≡ true → 7 ≡ uniformise_refusal S M q seen C
+    pub refused_7 : cramped W.shape.states W.shape.edges (length seen) (of_store D) ≡ true → 7 ≡ uniformise_refusal W.shape (Data.columns_of W) q seen (of_store D)
     refused_7 a = passed 7 (check_hit 7 _ _ a)
 
-    module _ (a : cramped S.states S.edges (length seen) C ≡ false) where
-      pub refused_8 : absent S.initial ≡ true → 8 ≡ uniformise_refusal S M q seen C
+    module _ (a : cramped W.shape.states W.shape.edges (length seen) (of_store D) ≡ false) where
+      pub refused_8 : absent W.shape.initial ≡ true → 8 ≡ uniformise_refusal W.shape (Data.columns_of W) q seen (of_store D)
       refused_8 b = passed 8 (check_skip 7 _ _ _ a (check_hit 8 _ _ b))
 
-      module _ (b : absent S.initial ≡ false) where
-        pub refused_11 : rate_outside q ≡ true → 11 ≡ uniformise_refusal S M q seen C
+      module _ (b : absent W.shape.initial ≡ false) where
+        pub refused_11 : rate_outside q ≡ true → 11 ≡ uniformise_refusal W.shape (Data.columns_of W) q seen (of_store D)
         refused_11 c = passed 11 (check_skip 7 _ _ _ a (check_skip 8 _ _ _ b (check_hit 11 _ _ c)))
 
         module _ (c : rate_outside q ≡ false) where
-          pub refused_12 : unfitting least_observation greatest_weight S.states seen ≡ true → 12 ≡ uniformise_refusal S M q seen C
+          pub refused_12 : unfitting least_observation greatest_weight W.shape.states seen ≡ true → 12 ≡ uniformise_refusal W.shape (Data.columns_of W) q seen (of_store D)
           refused_12 d = passed 12 (check_skip 7 _ _ _ a (check_skip 8 _ _ _ b (check_skip 11 _ _ _ c (check_hit 12 _ _ d))))
 
-          pub refused_none : unfitting least_observation greatest_weight S.states seen ≡ false → 0 ≡ uniformise_refusal S M q seen C
+          pub refused_none : unfitting least_observation greatest_weight W.shape.states seen ≡ false → 0 ≡ uniformise_refusal W.shape (Data.columns_of W) q seen (of_store D)
           refused_none d = passed 0 (check_skip 7 _ _ _ a (check_skip 8 _ _ _ b (check_skip 11 _ _ _ c (check_skip 12 _ _ _ d refl))))
 
 -- ---- the chain laid in the lists
@@ -143,66 +146,64 @@ module _ (S : Shape) (M : Columns) (q : Float) (seen : List Float) (s : StateId)
       equal_shapes : {a b c d : ℕ} → a ≡ b → c ≡ d → shape a c s ≡ shape b d (record { 0 = s.0 })
       equal_shapes p r = rw (p, r)
 
--- ---- `lay_chain`: which answer is due
+-- ---- the answer and the lists
 
-pub erred : {A : Type 0} (a : Result A Refusal) → None ≡ result_ok a → code a ≢ 0
-erred (Ok x) h e = absurd (false≢true (ap is_some h))
-erred (Err r) h e = number_positive r e
-
-pub passed_by : {A : Type 0} (x : A) (a : Result A Refusal) → Some x ≡ result_ok a → code a ≡ 0
-passed_by x (Ok y) h = refl
-passed_by x (Err r) h = absurd (true≢false (ap is_some h))
-
-module _ (S : Shape) (M : Columns) (q : Float) (seen : List Float) (i : ℕ) (C : ChainColumns) (m : ℕ) (e : m ≡ model_refusal S M) where
-  abbrev chain : Chain
-  chain = uniformise (model S M) q seen i
-
-  abbrev fits : Bool
-  fits = not (cramped S.states S.edges (length seen) C)
-
-  pub lay_refused : m ≢ 0 → laying None C ≡ lay_chain S M q seen i C
-  unfolding lay_chain
-  lay_refused h = ap (λ (b : Bool). lay_if (b && fits) chain C) (sym (ap (λ (k : ℕ). eqb k 0) (sym e) ∙ ne_eqb m 0 h))
-
-  passes : m ≡ 0 → eqb (model_refusal S M) 0 ≡ true
-  passes z = eq-eqb _ _ (sym e ∙ z)
-
-  pub lay_cramped : m ≡ 0 → cramped S.states S.edges (length seen) C ≡ true → laying None C ≡ lay_chain S M q seen i C
-  unfolding lay_chain
-  lay_cramped z c = sym (ap (λ (b : Bool). lay_if (b && fits) chain C) (passes z) ∙ ap (λ (b : Bool). lay_if (not b) chain C) c)
-
-  pub lay_made : m ≡ 0 → cramped S.states S.edges (length seen) C ≡ false → (H : ChainShape) (D : ChainColumns) → LaidOut chain H C D → laying (Some H) D ≡ lay_chain S M q seen i C
-  unfolding lay_chain
-  lay_made z c H D L =
-      ap (λ (K : ChainShape). laying (Some K) D) L.shape_is ∙ ap (laying (Some (shape_of chain))) L.lists_are
-      ∙ sym (ap (λ (b : Bool). lay_if (b && fits) chain C) (passes z) ∙ ap (λ (b : Bool). lay_if (not b) chain C) c)
-
--- ---- `uniformise`: the answer and the lists
-
-module _ (S : Shape) (M : Columns) (q : Float) (seen : List Float) (C : ChainColumns) (n : ℕ) (e : n ≡ uniformise_refusal S M q seen C) where
-  abbrev from_start : Chain
-  from_start = uniformise (model S M) q seen (start S.initial)
-
-  settled_refused : (a : Result ChainShape Refusal) (r : Refusal) (k : ℕ) → IsErrAnd a (λ s. s ≡ r) → Refuse.number r ≡ k → ends (numbered a) C ≡ settled k from_start C
+module _ (A : Chain) (C : ChainColumns) where
+  pub settled_refused : (a : Result ChainShape Refusal) (r : Refusal) (k : ℕ) → IsErrAnd a (λ s. s ≡ r) → Refuse.number r ≡ k → ends (numbered a) C ≡ settled k A C
   settled_refused (Ok H) r k h f = absurd h
   settled_refused (Err s) r zero h f = absurd (number_positive r f)
   settled_refused (Err s) r (suc k) h f = ap (λ (j : ℕ). ends (Err j) C) (ap Refuse.number h ∙ f)
 
-  pub answer_refused : (a : Result ChainShape Refusal) (r : Refusal) → IsErrAnd a (λ s. s ≡ r) → Refuse.number r ≡ n → ends (numbered a) C ≡ uniformised S M q seen C
+  pub settled_made : (k : ℕ) → 0 ≡ k → (H : ChainShape) (D : ChainColumns) → LaidOut A H C D → ends (Ok H) D ≡ settled k A C
+  settled_made k z H D L =
+      ap (λ (K : ChainShape). ends (Ok K) D) L.shape_is ∙ ap (ends (Ok (shape_of A))) L.lists_are
+      ∙ ap (λ (j : ℕ). settled j A C) z
+
+-- ---- `lay_chain`
+
+module _ (S : Shape) (M : Columns) (seen : List Float) (C : ChainColumns) {m : ℕ} (e : m ≡ model_refusal S M) where
+  abbrev short : ℕ
+  short = check 7 (cramped S.states S.edges (length seen) C) 0
+
+  lay_refusal_is : first m short ≡ lay_refusal S M seen C
+  unfolding lay_refusal model_refusal
+  lay_refusal_is = ap (λ (k : ℕ). first k short) e ∙ split (large S) (unfit S M) (weights_outside S M) (crowded S M) short
+
+  pub lay_unfit : m ≢ 0 → m ≡ lay_refusal S M seen C
+  lay_unfit h = sym (first_hit m short h) ∙ lay_refusal_is
+
+  pub lay_short : m ≡ 0 → cramped S.states S.edges (length seen) C ≡ true → 7 ≡ lay_refusal S M seen C
+  lay_short z c = sym (first_skip m short 7 z (check_hit 7 _ _ c)) ∙ lay_refusal_is
+
+  pub lay_fit : m ≡ 0 → cramped S.states S.edges (length seen) C ≡ false → 0 ≡ lay_refusal S M seen C
+  lay_fit z c = sym (first_skip m short 0 z (check_skip 7 _ _ _ c refl)) ∙ lay_refusal_is
+
+module _ (S : Shape) (M : Columns) (q : Float) (seen : List Float) (i : ℕ) (C : ChainColumns) where
+  pub lay_refused : (a : Result ChainShape Refusal) (r : Refusal) → IsErrAnd a (λ s. s ≡ r) → Refuse.number r ≡ lay_refusal S M seen C → ends (numbered a) C ≡ lay_chain S M q seen i C
+  unfolding lay_chain
+  lay_refused a r h f = settled_refused (uniformise (model S M) q seen i) C a r _ h f
+
+  pub lay_made : 0 ≡ lay_refusal S M seen C → (H : ChainShape) (D : ChainColumns) → LaidOut (uniformise (model S M) q seen i) H C D → ends (Ok H) D ≡ lay_chain S M q seen i C
+  unfolding lay_chain
+  lay_made z H D L = settled_made (uniformise (model S M) q seen i) C _ z H D L
+
+-- ---- `uniformise`
+
+module _ (W : Wlts) (q : Float) (seen : List Float) (D : ChainStore) {n : ℕ} (e : n ≡ uniformise_refusal W.shape (Data.columns_of W) q seen (of_store D)) where
+  abbrev from_start : Chain
+  from_start = uniformise (model W.shape (Data.columns_of W)) q seen (start W.shape.initial)
+
+  pub answer_refused : (a : Result ChainShape Refusal) (r : Refusal) → IsErrAnd a (λ s. s ≡ r) → Refuse.number r ≡ n → ends (numbered a) (of_store D) ≡ uniformised W.shape (Data.columns_of W) q seen (of_store D)
   unfolding uniformised
-  answer_refused a r h f = settled_refused a r _ h (f ∙ e)
+  answer_refused a r h f = settled_refused from_start (of_store D) a r _ h (f ∙ e)
 
-  pub from : {s : ℕ} {H : ChainShape} {D : ChainColumns} → s ≡ start S.initial → LaidOut (uniformise (model S M) q seen s) H C D → LaidOut from_start H C D
-  from {s} {H} {D} f L = subst (λ (i : ℕ). LaidOut (uniformise (model S M) q seen i) H C D) f L
-
-  pub ready_to : n ≡ 0 → (model_refusal S M ≡ 0) × (cramped S.states S.edges (length seen) C ≡ false)
+  pub ready_to : n ≡ 0 → (model_refusal W.shape (Data.columns_of W) ≡ 0) × (cramped W.shape.states W.shape.edges (length seen) (of_store D) ≡ false)
   ready_to z =
-      let (a, f) = first_none (model_refusal S M) (later S M q seen C (model_refusal S M) refl) (refusal_is S M q seen C (model_refusal S M) refl ∙ sym e ∙ z) in
+      let (a, f) = first_none (model_refusal W.shape (Data.columns_of W)) (later W q seen D refl) (refusal_is W q seen D refl ∙ sym e ∙ z) in
       let (g, h) = check_none 6 _ _ f in
       (a, g)
 
-  pub answer_made : n ≡ 0 → (H : ChainShape) (D : ChainColumns) → LaidOut from_start H C D → ends (Ok H) D ≡ uniformised S M q seen C
+  -- from the initial state
+  pub answer_made : n ≡ 0 → {s : ℕ} → s ≡ start W.shape.initial → (H : ChainShape) (E : ChainColumns) → LaidOut (uniformise (model W.shape (Data.columns_of W)) q seen s) H (of_store D) E → ends (Ok H) E ≡ uniformised W.shape (Data.columns_of W) q seen (of_store D)
   unfolding uniformised
-  answer_made z H D L =
-      ap (λ (K : ChainShape). ends (Ok K) D) L.shape_is ∙ ap (ends (Ok (shape_of from_start))) L.lists_are
-      ∙ ap (λ (j : ℕ). settled j from_start C) (sym z ∙ e)
+  answer_made z f H E L = settled_made from_start (of_store D) _ (sym z ∙ e) H E (subst (λ (i : ℕ). LaidOut (uniformise (model W.shape (Data.columns_of W)) q seen i) H (of_store D) E) f L)

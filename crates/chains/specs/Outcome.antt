@@ -1,5 +1,5 @@
 -- What `common_rate` and `uniformise` answer, and what `uniformise` leaves in the lists lent for the chain.
-use Rattle.std.specs.Prelude.{◌≡◌, ℕ, zero, suc, Bool, true, false, not, ◌&&◌, List, length, eqb, Float, Option, Some, None, Result, Ok, Err}
+use Rattle.std.specs.Prelude.{◌≡◌, ℕ, zero, suc, List, length, Float, Result, Ok, Err}
 use Rattle.std.specs.Float.Ieee.{lt, le}
 use Rattle.numbers.specs.Real.{least_observation, greatest_weight}
 use Rattle.numbers.specs.Refuse.{check, answered}
@@ -10,7 +10,7 @@ use Rattle.bisim_core.specs.Ids.{intern}
 use Rattle.bisim_core.specs.Edges.{others, crowded_in}
 use Rattle.bisim_core.specs.declared.ids.StateId.{StateId}
 use Rattle.bisim_core.specs.declared.wlts.Shape.{Shape}
-use Rattle.bisim_core.specs.Model.{row, rows, rises, model, large, unfit, weights_outside, crowded, model_refusal}
+use Rattle.bisim_core.specs.Model.{row, rows, rises, model, large, unfit, weights_outside, crowded}
 use Rattle.epsdelta_theory.specs.Jumps.{Jump, targets, rates}
 use Rattle.epsdelta_theory.specs.Refusal.{absent, models_refusal}
 use Rattle.epsdelta_theory.specs.Bisimilar.{start}
@@ -69,26 +69,20 @@ uniformised S M q seen C = settled (uniformise_refusal S M q seen C) (uniformise
 abbrev pub shape : ℕ → ℕ → StateId → ChainShape
 shape n k s = record { states = n; entries = k; initial = s }
 
--- those of what is laid, and the lists
-pub record Laying : Type 0 where
-  pub shape : Option ChainShape
-  pub lists : ChainColumns
+-- the model and the lists lent: the first check that fails, 0 if none does
+unfoldable pub lay_refusal : Shape → Columns → List Float → ChainColumns → ℕ
+unfolding every all rises rows row span crowded_in others intern seek lt le
+lay_refusal S M seen C =
+    check 3 (large S)
+    (check 4 (unfit S M)
+    (check 5 (weights_outside S M)
+    (check 6 (crowded S M)
+    (check 7 (cramped S.states S.edges (length seen) C)
+    0))))
 
-abbrev pub laying : Option ChainShape → ChainColumns → Laying
-laying H C = record { shape = H; lists = C }
-
--- the model passes its checks, and no list is short
-abbrev pub layable : Shape → Columns → List Float → ChainColumns → Bool
-layable S M seen C = eqb (model_refusal S M) 0 && not (cramped S.states S.edges (length seen) C)
-
--- the chain over the front of the lists, or none and the lists as they were
-abbrev pub lay_if : Bool → Chain → ChainColumns → Laying
-lay_if true A C = laying (Some (shape_of A)) (laid (columns_of A) C)
-lay_if false A C = laying None C
-
-unfoldable pub lay_chain : Shape → Columns → Float → List Float → ℕ → ChainColumns → Laying
-unfolding model_refusal model uniformise shape_of columns_of
-lay_chain S M q seen s C = lay_if (layable S M seen C) (uniformise (model S M) q seen s) C
+unfoldable pub lay_chain : Shape → Columns → Float → List Float → ℕ → ChainColumns → Outcome
+unfolding lay_refusal model uniformise shape_of columns_of
+lay_chain S M q seen s C = settled (lay_refusal S M seen C) (uniformise (model S M) q seen s) C
 
 -- a chain over the front of the lists C, which are D then
 pub record LaidOut (A : Chain) (H : ChainShape) (C D : ChainColumns) : Type 0 where

@@ -9,6 +9,7 @@ ghost use Rattle.chain_theory.specs.Chain.{or_one};
 ghost use Rattle.chain_theory.specs.Check;
 ghost use Rattle.chain_theory.specs.Lent.{of_store, SameLists};
 ghost use Rattle.chains.specs.Outcome;
+ghost use Rattle.chains.specs.Observing.{lay_observed};
 
 use crate::checks::{cramped, uniformise_refusal};
 use crate::observed::Observed;
@@ -76,14 +77,18 @@ pub fn uniformise(
     Ok(lay(&observed, rate, store))
 }
 
-// The chain of a model at a rate from a state, as `uniformise` makes it, whatever the rate, the state and the observations. None, and the lists as they were, where the model is refused or a list is short.
-pub fn lay_chain(observed: &Observed, rate: f64, store: &mut ChainStore) -> Option<ChainShape>
-    ensures outcome { Outcome.laying result (of_store store.new) ≡ Outcome.lay_chain observed.now.model.shape (columns_of observed.now.model) rate observed.now.observations.now observed.now.state.0 (of_store store.old) }
+// The chain of a model at a rate from a state, as `uniformise` makes it, whatever the rate, the state and the observations. The lists are as they were where the model is refused, or by 7 where a list is short.
+pub fn lay_chain(
+    observed: &Observed,
+    rate: f64,
+    store: &mut ChainStore,
+) -> Result<ChainShape, Refusal>
+    ensures outcome { Outcome.ends (numbered result) (of_store store.new) ≡ lay_observed observed.now rate store.old }
     ensures same_lists { SameLists store.old store.new }
 {
-    observed.model.check().ok()?;
+    observed.model.check()?;
     if cramped(observed.model.shape, observed.observations, store) {
-        return None;
+        return Err(Refusal::Store);
     }
-    Some(lay(observed, rate, store))
+    Ok(lay(observed, rate, store))
 }

@@ -18,11 +18,11 @@ const RATES: Bounds = Bounds {
     greatest: GREATEST_RATE,
 };
 
-// Whether n is below a + b.
+// Whether n is below a + b, also where a usize does not hold that sum.
 fn below_sum(n: usize, a: usize, b: usize) -> bool
     ensures { result ≡ ltb n (a + b) }
 {
-    n < a || n - a < b
+    n.checked_sub(a).is_none_or(|rest| rest < b)
 }
 
 // Whether there are fewer observations than states, or a list lent for the chain is short.

@@ -8,19 +8,14 @@ ghost use Rattle.chain_theory.specs.Chain.{exit_rate, greatest_exit};
 
 use bisim_core::wlts::Wlts;
 use numbers::larger;
-use std::ops::Range;
 
 // The exit rate of state s.
 pub(crate) fn exit_rate(model: &Wlts, s: usize) -> f64
     requires { Accepted model.now.shape (columns_of model.now) × (s < model.now.shape.states) }
     ensures { result ≡ exit_rate (row (columns_of model.now) s) }
 {
-    let Range {
-        start: from,
-        end: to,
-    } = model.row(s);
     let mut total = 0.0;
-    for i in from..to {
+    for i in model.row(s) {
         if model.edge_targets[i] as usize != s {
             total += model.edge_weights[i];
         }

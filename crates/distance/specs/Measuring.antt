@@ -52,3 +52,7 @@ hand_out t rs = handed (answer_of t) (row_of t rs)
 -- what is lent to `distance`: left and right states and codes of the pairs, the coupling store, and the row of records
 abbrev pub memory : List ℕ → List ℕ → List ℕ → List ℕ → List Float → List PairContribution → Lent
 memory l r c p m rs = lent (l ∷ r ∷ c ∷ []) p m rs
+
+-- scratch, and the row of records
+abbrev pub memory_of : Scratch → List PairContribution → Lent
+memory_of s rs = memory s.lefts.now s.rights.now s.codes.now s.places.now s.masses.now rs

@@ -5,7 +5,7 @@ ghost use Rattle.chain_theory.specs.Lent.{of_chain};
 ghost use Rattle.distance_theory.specs.Lent.{SameScratch};
 ghost use Rattle.distance_theory.specs.Outcome.{ends};
 ghost use Rattle.distance_theory.specs.Outcome;
-ghost use Rattle.distance.specs.Measuring.{handed, hand_out, memory};
+ghost use Rattle.distance.specs.Measuring.{handed, hand_out, memory_of};
 
 use crate::measure::measure;
 use chain_theory::Chain;
@@ -24,11 +24,13 @@ pub fn hand_out(
     ensures { handed (numbered result) records.new ≡ hand_out (numbered told) records.old }
 {
     let answer = told?;
-    write_contributions(records, &answer.records, answer.distance.contributions).ok();
+    // Stays: what the row refuses is dropped, for where it is short, or over 64 are told, this function told the distance all the same, and what it promised it still must; `measure` refuses such a row, and tells no more.
+    let _ = write_contributions(records, &answer.records, answer.distance.contributions);
     Ok(answer.distance)
 }
 
 // The distance of two chains, and its contributions; or the first check that fails.
+// Stays: with `of: &Question` the one caller, `tanqesha_distance`, would write the struct that is made here.
 pub fn distance(
     left: &Chain,
     right: &Chain,
@@ -37,7 +39,7 @@ pub fn distance(
     records: &mut [PairContribution],
 ) -> Result<Distance, Refusal>
     ensures lists { SameScratch scratch.old scratch.new }
-    ensures ends { ends (numbered result) (memory scratch.new.lefts.now scratch.new.rights.now scratch.new.codes.now scratch.new.places.now scratch.new.masses.now records.new) ≡ Outcome.distance left.now.shape (of_chain left.now) right.now.shape (of_chain right.now) goal.gamma goal.options (memory scratch.old.lefts.now scratch.old.rights.now scratch.old.codes.now scratch.old.places.now scratch.old.masses.now records.old) }
+    ensures ends { ends (numbered result) (memory_of scratch.new records.new) ≡ Outcome.distance left.now.shape (of_chain left.now) right.now.shape (of_chain right.now) goal.gamma goal.options (memory_of scratch.old records.old) }
 {
     let of = Question {
         left: *left,

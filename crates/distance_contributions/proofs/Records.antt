@@ -1,5 +1,5 @@
 -- The loops of the listing: the contribution of each pair, and the records of the chosen ones; and what the answer is then.
-use Rattle.std.specs.Prelude.{Option, Some, None}
+use Rattle.std.specs.Prelude.{Result, Ok, Err}
 use mathlib.Core.Path.{◌≡◌, refl, sym, subst, subst⁻¹, ap, ap₂, ◌∙◌}
 use Prim.Native.Nat.{ℕ, zero, suc, ◌+◌, ◌≤◌, ◌<◌}
 use mathlib.Core.Bool.{Bool, true, false, ◌&&◌}
@@ -38,8 +38,8 @@ with_gap x y o g = record { left = record { 0 = x }; right = record { 0 = y }; g
 zero_more : (k : ℕ) → 0 + k ≡ k
 zero_more k = omega arith
 
-abbrev done_with : ℕ → List PairContribution → Option Listed
-done_with j rs = Some (record { count = j; records = rs })
+abbrev done_with : ℕ → List PairContribution → Result Listed ℕ
+done_with j rs = Ok (record { count = j; records = rs })
 
 both : {a b : Bool} → a ≡ true → b ≡ true → (a && b) ≡ true
 both {a} {b} e f = rw (e, f)
@@ -111,16 +111,7 @@ module _ (lefts rights : List ℕ) (seenL seenR spent : List Float) where
   records_size : (chosen : List ℕ) → length (map (record_of lefts rights seenL seenR spent) chosen) ≡ length chosen
   records_size chosen = length-map chosen (record_of lefts rights seenL seenR spent)
 
-  pub recording_starts : {chosen : List ℕ} {l : List PairContribution} → l ≡ replicate 64 nothing → Recording chosen l 0
-  recording_starts e = record { inside = omega arith; are = e }
-
   module _ {chosen : List ℕ} {l : List PairContribution} {i : ℕ} (C : Recording chosen l i) (few : length chosen ≤ 64) where
-    pub recording_size : length l ≡ 64
-    recording_size =
-        let a = records_size chosen in
-        let b = C.inside in
-        ap length C.are ∙ over_length (map (record_of lefts rights seenL seenR spent) chosen) (replicate 64 nothing) i (omega arith) (let z = length-replicate 64 nothing in omega arith) ∙ length-replicate 64 nothing
-
     pub recording_on : i < length chosen → {c : PairContribution} → c ≡ record_of lefts rights seenL seenR spent (get_or chosen i 0) → Recording chosen (set l i c) (i + 1)
     recording_on h {c} e =
         let a = records_size chosen in
@@ -131,9 +122,6 @@ module _ (lefts rights : List ℕ) (seenL seenR spent : List Float) where
         record_at_lem (k ∷ ks) zero q = refl
         record_at_lem (k ∷ ks) (suc j) q = record_at_lem ks j (le_of_suc-le-suc q)
         record_at_lem [] j q = absurd (not-suc-le-zero q)
-
-    pub recording_ends : length chosen ≤ i → l ≡ row (map (record_of lefts rights seenL seenR spent) chosen)
-    recording_ends h = let a = records_size chosen in let b = C.inside in over_done (map (record_of lefts rights seenL seenR spent) chosen) (replicate 64 nothing) l i C.are (omega arith)
 
   -- ---- the whole
 
@@ -180,36 +168,18 @@ module _ {A : Type 0} where
   pub front_size : (n m : ℕ) (x : A) → n ≤ m → length (take n (replicate m x)) ≡ n
   front_size n m x h = length-take-le n (replicate m x) (let z = length-replicate m x in omega arith)
 
-  front_few : (m : ℕ) (l tail : List A) → m ≤ length l → length (take m (l ++ tail)) ≡ m
-  front_few m l tail h = ap length (take-append-le m l tail h) ∙ length-take-le m l h
-
 module _ (lefts rights : List ℕ) (seenL seenR spent : List Float) (n : ℕ) (few : n ≤ most) where
   -- the contributions, and what stands behind them
   module _ {s : List Float} (e : s ≡ shares lefts rights seenL seenR spent (length (take n (replicate 4096 nought)))) where
     shares_are : s ≡ shares lefts rights seenL seenR spent n
     shares_are = e ∙ ap (shares lefts rights seenL seenR spent) (front_size n 4096 nought few)
 
-    pub weighed_size : (rest : List Float) → length (take n (s ++ rest)) ≡ n
-    weighed_size rest = front_few n s rest (let z = ap length shares_are in let w = shares_size lefts rights seenL seenR spent n in omega arith)
-
-    pub weighed_within : (rest : List Float) → n ≤ length (s ++ rest)
-    weighed_within rest = let a = length-append s rest in let z = ap length shares_are in let w = shares_size lefts rights seenL seenR spent n in omega arith
-
-    pub weighed_few : (rest : List Float) → length (take n (s ++ rest)) ≤ most
-    weighed_few rest = let z = weighed_size rest in omega arith
-
     module _ (o : MetricOptions) (asked : o.top ≤ 64) (rest : List Float) {m : ℕ} {l : List ℕ} (R : Ranks (take n (s ++ rest)) (take o.top (replicate 64 0)) m l) where
       ranks : Ranks (shares lefts rights seenL seenR spent n) (take o.top (replicate 64 0)) m l
       ranks = subst (λ (x : List Float). Ranks x (take o.top (replicate 64 0)) m l) (take_at s rest n (let z = ap length shares_are in let w = shares_size lefts rights seenL seenR spent n in omega arith) ∙ shares_are) R
 
-      pub count_within : (tail : List ℕ) → m ≤ length (l ++ tail)
-      count_within tail = let a = length-append l tail in let b = R.kept.few in omega arith
-
       count_few : m ≤ 64
       count_few = let a = R.kept.few in let b = R.size in let d = front_size {A = ℕ} o.top 64 0 asked in omega arith
-
-      pub count_size : (tail : List ℕ) → length (take m (l ++ tail)) ≡ m
-      count_size tail = front_few m l tail R.kept.few
 
       pub records_read : ((k : ℕ) → k < n → Read lefts rights seenL seenR spent k) → (tail : List ℕ)
           → (length (take m (l ++ tail)) ≤ 64) × ((i : ℕ) → i < length (take m (l ++ tail)) → Read lefts rights seenL seenR spent (get_or (take m (l ++ tail)) i 0))
@@ -220,10 +190,10 @@ module _ (lefts rights : List ℕ) (seenL seenR spent : List Float) (n : ℕ) (f
       list_is tail e = listing_is lefts rights seenL seenR spent n o (take o.top (replicate 64 0)) (front_size o.top 64 0 asked) m l ranks (e ∙ ap (λ (ks : List ℕ). row (map (record_of lefts rights seenL seenR spent) ks)) (take-append-le m l tail R.kept.few))
 
 -- what is answered where the contributions can be listed, and where not
-pub told : (cs : List PairContribution) {b r : Bool} → r ≡ b → r ≡ true → {x : Option Listed} → x ≡ listing true cs → x ≡ listing b cs
+pub told : (cs : List PairContribution) {b r : Bool} → r ≡ b → r ≡ true → {x : Result Listed ℕ} → x ≡ listing true cs → x ≡ listing b cs
 told cs e t p = p ∙ ap (λ (y : Bool). listing y cs) (sym t ∙ e)
 
-pub untold : (cs : List PairContribution) {b r : Bool} → r ≡ b → r ≡ false → None ≡ listing b cs
+pub untold : (cs : List PairContribution) {b r : Bool} → r ≡ b → r ≡ false → Err 4 ≡ listing b cs
 untold cs e t = ap (λ (y : Bool). listing y cs) (sym t ∙ e)
 
 -- lists that hold the left and right states of some pairs, as `explore` leaves them, are lists of these pairs

@@ -1,5 +1,5 @@
 -- Contributions of pairs that are lent.
-use Rattle.std.specs.Prelude.{ℕ, Bool, List, length, Float, Option}
+use Rattle.std.specs.Prelude.{ℕ, Bool, List, length, Float, Result}
 use Rattle.distance_theory.specs.Contributions.{listed}
 use Rattle.distance_theory.specs.declared.MetricOptions.{MetricOptions}
 use Rattle.distance_theory.specs.declared.PairContribution.{PairContribution}
@@ -27,5 +27,5 @@ listable_in V top = listable (length V.pairs.lefts.now) V.pairs.lefts.now V.pair
 abbrev pub all_in : Visited → MetricOptions → List PairContribution
 all_in V o = listed (observing V.left.now V.right.now (pairs_in V.pairs.lefts.now V.pairs.rights.now (length V.pairs.lefts.now))) o V.spent.now
 
-abbrev pub listed_in : Visited → MetricOptions → Option Listed
+abbrev pub listed_in : Visited → MetricOptions → Result Listed ℕ
 listed_in V o = listed_of (length V.pairs.lefts.now) V.pairs.lefts.now V.pairs.rights.now V.left.now V.right.now V.spent.now o

@@ -1,5 +1,6 @@
 // The contributions of the pairs as records.
-ghost use Rattle.std.specs.Prelude.{◌≡◌, true, map, ℕ, ◌≤◌, ◌<◌, length, get_or, Some};
+ghost use Rattle.std.specs.Prelude.{◌≡◌, true, map, ℕ, ◌≤◌, ◌<◌, length, get_or, Ok};
+ghost use Rattle.numbers.specs.Refuse.{numbered};
 ghost use Rattle.numbers.specs.Lists.{span};
 ghost use Rattle.distance_words.specs.Told.{row};
 ghost use Rattle.distance_words.proofs.Listing.{listing};
@@ -10,10 +11,12 @@ use crate::choice;
 use bisim_core::ids::StateId;
 use distance_theory::lent::Visited;
 use distance_theory::{MetricOptions, PairContribution};
-use distance_words::told::{Listed, nothing_listed};
+use distance_words::told::Listed;
 use numbers::apart;
+use numbers::refusal::Refusal;
 
 // Whether there are n states, each below a count.
+// Stays: n is the length of the left states, but with `known(lefts, ..)` and `rights.get(..n).is_some_and(|rights| known(rights, ..))` the caller would ask one thing in two forms, and the definition asks it of both lists by n.
 fn known(n: usize, states: &[u32], count: usize) -> bool
     ensures { result ≡ Listing.known n states.now count }
 {
@@ -66,7 +69,7 @@ fn records_of(of: &Visited, chosen: &[u32]) -> [PairContribution; 64]
     requires by_index { (i : ℕ) → i < length chosen.now → ReadAt of.now (get_or chosen.now i 0) }
     ensures { result ≡ row (map (record_at of.now) chosen.now) }
 {
-    let mut records = nothing_listed().records;
+    let mut records = Listed::default().records;
     for (i, k) in chosen.iter().enumerate() {
         records[i] = record_of(of, *k as usize);
     }
@@ -76,7 +79,7 @@ fn records_of(of: &Visited, chosen: &[u32]) -> [PairContribution; 64]
 // The contributions of all pairs, where they can be listed.
 fn list(of: &Visited, options: MetricOptions) -> Listed
     requires { listable_in of.now options.top ≡ true }
-    ensures { Some result ≡ listing true (all_in of.now options) }
+    ensures { Ok result ≡ listing true (all_in of.now options) }
 {
     let n = of.pairs.lefts.len();
     let mut shares = [0.0f64; 4096];
@@ -87,13 +90,12 @@ fn list(of: &Visited, options: MetricOptions) -> Listed
     Listed { count, records }
 }
 
-// The contributions above 0 of at most 4,096 pairs: largest first, equal ones in discovery order, as many as the options ask for, at most 64. None where a pair lacks a state, an observation or a time.
-pub fn contributions(of: &Visited, options: MetricOptions) -> Option<Listed>
-    ensures { result ≡ listed_in of.now options }
+// The contributions above 0 of at most 4,096 pairs: largest first, equal ones in discovery order, as many as the options ask for, at most 64. 4 where a pair lacks a state, an observation or a time, or where more pairs are handed in or more records asked for.
+pub fn contributions(of: &Visited, options: MetricOptions) -> Result<Listed, Refusal>
+    ensures { numbered result ≡ listed_in of.now options }
 {
-    if listable(of, options.top) {
-        Some(list(of, options))
-    } else {
-        None
+    if !listable(of, options.top) {
+        return Err(Refusal::OutOfRange);
     }
+    Ok(list(of, options))
 }

@@ -1,22 +1,18 @@
 // The cheapest coupling of two rows against some values.
-ghost use Rattle.std.specs.Prelude.{◌≡◌, map, ◌*◌, ◌≤◌, Float, length, true, false};
+ghost use Rattle.std.specs.Prelude.{◌≡◌, map, ◌*◌, ◌≤◌, Float, length, true, false, Some};
 ghost use Rattle.std.specs.Float.{binary64};
 ghost use Rattle.std.specs.Float.Ieee.{mul, div};
 ghost use Rattle.std.proofs.Math.Seq.{slice};
-ghost use Rattle.numbers.specs.Lists.{over};
 ghost use Rattle.numbers.specs.Real.{sum};
 ghost use Rattle.distance_theory.specs.Lent.{SameShares};
 ghost use Rattle.distance_theory.proofs.Index.{look_up};
 ghost use Rattle.transport_theory.specs.Transport.{transport};
 ghost use Rattle.distance_theory.specs.Couplings.{expected, point_mass, shares_of};
 ghost use Rattle.distance_theory.proofs.PairRows.{row_jumps};
-ghost use Rattle.distance_theory.proofs.Bests.{places_by, Movable, moved_on, bested, bested_as, best_if};
-ghost use Rattle.distance_theory.proofs.RowsLent.{RowsBeside, CellsRoom, PlanCells, rows_fitting, values_rows, best_rows};
+ghost use Rattle.distance_theory.proofs.Bests.{places_by, Movable, moved_on};
+ghost use Rattle.distance_theory.proofs.RowsLent.{RowsBeside, CellsRoom, PlanCells, rows_fitting, values_rows, best_rows, bested_in, best_over};
 
-use crate::shares::{fits, lay_shares, place};
-use bisim_core::ids::StateId;
-use chain_theory::Row;
-use distance_pairs::index::place_of;
+use crate::shares::{cells, fits, lay_shares, place};
 use distance_theory::lent::{Best, Rows, Shares, SharesMut};
 use distance_theory::value_at;
 use numbers::Real;
@@ -27,46 +23,40 @@ use transport_theory::Masses;
 // The value of each cell's pair.
 fn lay_values(rows: &Rows, values: &[f64], costs: &mut [f64])
     requires beside { RowsBeside rows.now }
-    requires room { length rows.now.xs.targets.now * length rows.now.ys.targets.now ≤ length costs.old }
-    ensures { costs.new ≡ over (values_rows rows.now values.now) costs.old }
+    requires cells { length costs.old ≡ length rows.now.xs.targets.now * length rows.now.ys.targets.now }
+    ensures { costs.new ≡ values_rows rows.now values.now }
 {
     let Rows { xs, ys, codes } = *rows;
     let n = ys.targets.len();
-    let cells = xs.targets.len() * n;
-    for k in 0..cells {
-        let x = xs.targets[k / n];
-        let y = ys.targets[k % n];
-        let at = place_of(codes, StateId(x), StateId(y)).unwrap_or(codes.len());
-        costs[k] = value_at(values, at);
+    for (k, cost) in costs.iter_mut().enumerate() {
+        let at = place(codes, xs.targets[k / n], ys.targets[k % n]);
+        *cost = value_at(values, at as usize);
     }
 }
 
 // The masses of one row fitted to the total of another: times that, divided by their own.
 fn fit(ps: &[f64], qs: &[f64], fitted: &mut [f64])
-    requires { length qs.now ≤ length fitted.old }
-    ensures { fitted.new ≡ over (map (λ (x : Float). div binary64 (mul binary64 x (sum ps.now)) (sum qs.now)) qs.now) fitted.old }
+    requires { length fitted.old ≡ length qs.now }
+    ensures { fitted.new ≡ map (λ (x : Float). div binary64 (mul binary64 x (sum ps.now)) (sum qs.now)) qs.now }
 {
     let left = Real::sum(ps).value();
     let right = Real::sum(qs).value();
-    for (j, q) in qs.iter().enumerate() {
-        fitted[j] = *q * left / right;
+    // Stays: no zip with `qs`, for the reason that `price_each` of distance_costs gives; `lay_planned` neither.
+    for (j, x) in fitted.iter_mut().enumerate() {
+        *x = qs[j] * left / right;
     }
 }
 
-// The places of the pairs of count cells of a plan.
-// Stays: the plan and a count; columns cut to its cells were tried, and once the plan has ended the check knows them only by names of its own (`rows-2-1.given`), so that what stands in them is lost.
-fn lay_planned(rows: &Rows, plan: &PlanRows, count: usize, places: &mut [u32])
-    requires cells { PlanCells rows.now plan.now.rows.now plan.now.columns.now count }
-    requires room { count ≤ length places.old }
-    ensures { places.new ≡ over (places_by (look_up rows.now.codes.now) rows.now.xs.targets.now rows.now.ys.targets.now plan.now.rows.now plan.now.columns.now count) places.old }
+// The places of the pairs of a plan's cells: of as many as the list is long.
+fn lay_planned(rows: &Rows, plan: &PlanRows, places: &mut [u32])
+    requires { PlanCells rows.now plan.now.rows.now plan.now.columns.now (length places.old) }
+    ensures { places.new ≡ places_by (look_up rows.now.codes.now) rows.now.xs.targets.now rows.now.ys.targets.now plan.now.rows.now plan.now.columns.now (length places.old) }
 {
     let Rows { xs, ys, codes } = *rows;
-    for i in 0..count {
-        places[i] = place(
-            codes,
-            xs.targets[plan.rows[i] as usize],
-            ys.targets[plan.columns[i] as usize],
-        );
+    for (i, at) in places.iter_mut().enumerate() {
+        let x = xs.targets[plan.rows[i] as usize];
+        let y = ys.targets[plan.columns[i] as usize];
+        *at = place(codes, x, y);
     }
 }
 
@@ -74,7 +64,7 @@ fn lay_planned(rows: &Rows, plan: &PlanRows, count: usize, places: &mut [u32])
 fn move_masses(of: &Masses, pairs: &Rows, shares: &mut SharesMut) -> Option<Best>
     requires { Movable of.now.left.now of.now.right.now of.now.costs.now pairs.now.xs.targets.now pairs.now.ys.targets.now (length pairs.now.codes.now) (length shares.old.places.now) (length shares.old.masses.now) }
     ensures lists { SameShares shares.old shares.new }
-    ensures bested { bested_as result shares.new.places.now shares.new.masses.now ≡ moved_on (look_up pairs.now.codes.now) pairs.now.xs.targets.now pairs.now.ys.targets.now (transport of.now.left.now of.now.right.now of.now.costs.now) shares.old.places.now shares.old.masses.now }
+    ensures bested { bested_in result shares.new ≡ moved_on (look_up pairs.now.codes.now) pairs.now.xs.targets.now pairs.now.ys.targets.now (transport of.now.left.now of.now.right.now of.now.costs.now) shares.old.places.now shares.old.masses.now }
 {
     let mut rows = [0u32; 1024];
     let mut columns = [0u32; 1024];
@@ -84,7 +74,7 @@ fn move_masses(of: &Masses, pairs: &Rows, shares: &mut SharesMut) -> Option<Best
         masses: &mut shares.masses[..],
     };
     let moved = transport_sized(of, &mut plan).ok()?;
-    lay_planned(pairs, &plan, moved.cells, &mut shares.places[..]);
+    lay_planned(pairs, &plan, &mut shares.places[..moved.cells]);
     Some(Best {
         value: moved.total,
         cells: moved.cells,
@@ -96,18 +86,18 @@ fn best_moved(rows: &Rows, values: &[f64], shares: &mut SharesMut) -> Option<Bes
     requires beside { RowsBeside rows.now }
     requires room { CellsRoom rows.now shares.old }
     ensures lists { SameShares shares.old shares.new }
-    ensures bested { bested_as result shares.new.places.now shares.new.masses.now ≡ best_if true (best_rows false rows.now values.now) shares.old.places.now shares.old.masses.now }
+    ensures bested { bested_in result shares.new ≡ best_over true (best_rows false rows.now values.now) shares.old }
 {
     let mut costs = [0.0f64; 1024];
     let mut fitted = [0.0f64; 32];
-    lay_values(rows, values, &mut costs);
-    fit(rows.xs.probs, rows.ys.probs, &mut fitted);
-    let n = rows.ys.targets.len();
-    let cells = rows.xs.targets.len() * n;
+    let costs = &mut costs[..cells(rows)];
+    let fitted = &mut fitted[..rows.ys.targets.len()];
+    lay_values(rows, values, costs);
+    fit(rows.xs.probs, rows.ys.probs, fitted);
     let of = Masses {
         left: rows.xs.probs,
-        right: &fitted[..n],
-        costs: &costs[..cells],
+        right: fitted,
+        costs,
     };
     move_masses(&of, rows, shares)
 }
@@ -129,9 +119,9 @@ fn best_alone(rows: &Rows, values: &[f64], shares: &mut SharesMut) -> Best
     requires beside { RowsBeside rows.now }
     requires room { CellsRoom rows.now shares.old }
     ensures lists { SameShares shares.old shares.new }
-    ensures bested { bested result.value result.cells shares.new.places.now shares.new.masses.now ≡ best_if true (best_rows true rows.now values.now) shares.old.places.now shares.old.masses.now }
+    ensures bested { bested_in (Some result) shares.new ≡ best_over true (best_rows true rows.now values.now) shares.old }
 {
-    let cells = rows.xs.targets.len() * rows.ys.targets.len();
+    let cells = cells(rows);
     lay_shares(rows, shares);
     let value = worth(values, shares, cells);
     Best { value, cells }
@@ -142,7 +132,7 @@ fn cheapest(rows: &Rows, values: &[f64], shares: &mut SharesMut) -> Option<Best>
     requires beside { RowsBeside rows.now }
     requires room { CellsRoom rows.now shares.old }
     ensures lists { SameShares shares.old shares.new }
-    ensures bested { bested_as result shares.new.places.now shares.new.masses.now ≡ best_if true (best_rows (point_mass (row_jumps rows.now.xs) (row_jumps rows.now.ys)) rows.now values.now) shares.old.places.now shares.old.masses.now }
+    ensures bested { bested_in result shares.new ≡ best_over true (best_rows (point_mass (row_jumps rows.now.xs) (row_jumps rows.now.ys)) rows.now values.now) shares.old }
 {
     if rows.xs.targets.len() == 1 || rows.ys.targets.len() == 1 {
         return Some(best_alone(rows, values, shares));
@@ -153,7 +143,7 @@ fn cheapest(rows: &Rows, values: &[f64], shares: &mut SharesMut) -> Option<Best>
 // The cheapest coupling of two rows, over the front of two lists. None where the rows have over 32 entries or are no rows, there are over 4,096 codes, or a list is short: the lists are then as they were.
 pub(crate) fn best_coupling(rows: &Rows, values: &[f64], shares: &mut SharesMut) -> Option<Best>
     ensures lists { SameShares shares.old shares.new }
-    ensures bested { bested_as result shares.new.places.now shares.new.masses.now ≡ best_if (rows_fitting rows.now shares.old) (best_rows (point_mass (row_jumps rows.now.xs) (row_jumps rows.now.ys)) rows.now values.now) shares.old.places.now shares.old.masses.now }
+    ensures bested { bested_in result shares.new ≡ best_over (rows_fitting rows.now shares.old) (best_rows (point_mass (row_jumps rows.now.xs) (row_jumps rows.now.ys)) rows.now values.now) shares.old }
 {
     if !fits(rows, shares) {
         return None;

@@ -1,5 +1,5 @@
 // The cheapest coupling of a pair: its rows are read from two chains.
-ghost use Rattle.std.specs.Prelude.{◌≡◌};
+ghost use Rattle.std.specs.Prelude.{◌≡◌, None};
 ghost use Rattle.distance_theory.specs.Lent.{HasPair};
 ghost use Rattle.distance_theory.proofs.Bests.{bested_as};
 ghost use Rattle.distance_theory.proofs.PairRows.{best_pair_of};
@@ -16,7 +16,8 @@ pub fn best_pair(
     places: &mut [u32],
     masses: &mut [f64],
 ) -> Option<Best>
-    ensures { HasPair task.now k → bested_as result places.new masses.new ≡ best_pair_of task.now k values.now places.old masses.old }
+    ensures bested { HasPair task.now k → bested_as result places.new masses.new ≡ best_pair_of task.now k values.now places.old masses.old }
+    ensures none { (HasPair task.now k → ⊥) → (result ≡ None) × (places.new ≡ places.old) × (masses.new ≡ masses.old) }
 {
     let rows = task.rows(k)?;
     best_coupling(&rows, values, &mut SharesMut { places, masses })

@@ -1,5 +1,5 @@
 // Shares of couplings in two lists, places of pairs and masses.
-ghost use Rattle.std.specs.Prelude.{◌≡◌, ◌≤◌, length};
+ghost use Rattle.std.specs.Prelude.{◌≡◌, ◌*◌, ◌≤◌, length};
 ghost use Rattle.numbers.specs.Lists.{over};
 ghost use Rattle.distance_theory.specs.Pairs.{pair};
 ghost use Rattle.distance_theory.specs.Lent.{SameShares};
@@ -8,16 +8,24 @@ ghost use Rattle.distance_theory.proofs.Bests.{ats, parts, laid_as, lay_if};
 ghost use Rattle.distance_theory.proofs.RowsLent.{RowsBeside, CellsRoom, rows_fitting, independent_rows};
 
 use bisim_core::ids::StateId;
-use chain_theory::Row;
 use distance_pairs::index::place_of;
 use distance_theory::lent::{Rows, SharesMut};
 
-// The place of a pair, as it is stored.
+// The place of a pair, as it is stored; how many codes there are if none is its own.
+// Stays: no Option; the couplings of the definition have that number for such a pair, and their lists, which are lent, hold numbers alone.
 pub(crate) fn place(codes: &[u64], x: u32, y: u32) -> u32
     requires { length codes.now ≤ 4096 }
     ensures { result ≡ look_up codes.now (pair x y) }
 {
     place_of(codes, StateId(x), StateId(y)).unwrap_or(codes.len()) as u32
+}
+
+// How many cells two rows have: one for each entry of the one with each of the other.
+pub(crate) fn cells(rows: &Rows) -> usize
+    requires { (length rows.now.xs.targets.now ≤ 32) × (length rows.now.ys.targets.now ≤ 32) }
+    ensures { result ≡ length rows.now.xs.targets.now * length rows.now.ys.targets.now }
+{
+    rows.xs.targets.len() * rows.ys.targets.len()
 }
 
 // The independent coupling of two rows over the front of two lists: each entry with each, the probabilities multiplied.
@@ -30,8 +38,8 @@ pub(crate) fn lay_shares(rows: &Rows, shares: &mut SharesMut)
 {
     let Rows { xs, ys, codes } = *rows;
     let n = ys.targets.len();
-    let cells = xs.targets.len() * n;
-    for k in 0..cells {
+    // Stays: two lists are written at a time; by a zip of both they can't be, for the reason that `price_each` of distance_costs gives.
+    for k in 0..cells(rows) {
         let i = k / n;
         let j = k % n;
         shares.places[k] = place(codes, xs.targets[i], ys.targets[j]);
@@ -50,8 +58,8 @@ pub(crate) fn fits(rows: &Rows, shares: &SharesMut) -> bool
         && m <= 32
         && n <= 32
         && rows.codes.len() <= 4096
-        && m * n <= shares.places.len()
-        && m * n <= shares.masses.len()
+        && cells(rows) <= shares.places.len()
+        && cells(rows) <= shares.masses.len()
 }
 
 // The independent coupling of two rows, over the front of two lists. None where the rows have over 32 entries or are no rows, there are over 4,096 codes, or a list is short: the lists are then as they were.
@@ -63,5 +71,5 @@ pub fn lay_independent(rows: &Rows, shares: &mut SharesMut) -> Option<usize>
         return None;
     }
     lay_shares(rows, shares);
-    Some(rows.xs.targets.len() * rows.ys.targets.len())
+    Some(cells(rows))
 }

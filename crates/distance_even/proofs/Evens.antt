@@ -1,6 +1,4 @@
 -- The parts of the check of refusal 16, and that of a run it is the definition's.
-use Rattle.std.specs.Prelude.{Some}
-use Rattle.chain_theory.specs.declared.Row.{Row}
 use mathlib.Core.Path.{◌≡◌, refl, sym, ap, ap₂, ◌∙◌}
 use mathlib.Core.Logic.{◌⊎◌, inl, inr}
 use Prim.Native.Nat.{ℕ, zero, suc, ◌+◌, ◌≤◌, ◌<◌}
@@ -10,17 +8,16 @@ use native.Mathlib.Omega.{arith}
 use lib.Dec.{eqb}
 use lib.ListN.{length, get_or, drop, length-map}
 use lib.Ieee.{Float, nan, binary64, add, mul, lt}
-use borrow.Author.Tests.{eq-eqb, ne_eqb, le-leb, lt-leb, not-true, not-false}
+use borrow.Author.Tests.{eq-eqb, ne_eqb, le-leb}
 use Rattle.numbers.specs.Real.{nought, one, slack, sum, sum_from}
 use Rattle.numbers.specs.Choice.{larger, apart}
 use Rattle.numbers.specs.Lists.{every, all}
 use Rattle.numbers.proofs.Sums.{sum_next, sum_end}
-use Rattle.numbers.proofs.Bools.{and_first, and_second}
-use Rattle.numbers.proofs.Alls.{all_at, all_of, every_at, every_of, every_not, every_next}
+use Rattle.numbers.proofs.Bools.{and_second}
+use Rattle.numbers.proofs.Alls.{all_at, all_of, every_at, every_of}
 use Rattle.epsdelta_theory.specs.Jumps.{Jump, rates}
 use Rattle.epsdelta_theory.proofs.RowReads.{jumps_rates}
-use Rattle.chain_theory.specs.Columns.{ChainColumns, row_targets, row_rates, reads_row}
-use Rattle.chain_theory.specs.Lent.{RowRead}
+use Rattle.chain_theory.specs.Columns.{ChainColumns, row_targets, row_rates}
 use Rattle.transport_theory.specs.Refusal.{unequal}
 use Rattle.distance_theory.specs.Pairs.{pair, pair_at}
 use Rattle.distance_theory.specs.Couplings.{Metric, row_l, row_r, fitted, even}
@@ -59,31 +56,10 @@ module _ (ps qs : List Float) where
         ap₂ (λ (a b : Float). not (lt (mul binary64 slack a) b)) (ey ∙ ap (λ (a : Float). larger a one) ea) (ed ∙ ap₂ apart ea (et ∙ ap₂ (λ (a b : Float). sum (map (fitted_by a b) qs)) ea eb))
         ∙ rw (ne_eqb (length ps) 1 g, ne_eqb (length qs) 1 h)
 
--- ---- read from columns
-
-module _ (C D : ChainColumns) (x y : ℕ) where
-  abbrev rows : Bool
-  rows = even_rows (row_rates C x) (row_rates D y)
-
-  pub left_unread : reads_row C x ≡ false → true ≡ even_pair C D x y
-  left_unread h = ap (λ (b : Bool). even_when (b && reads_row D y) rows) (sym h)
-
-  pub right_unread : reads_row C x ≡ true → reads_row D y ≡ false → true ≡ even_pair C D x y
-  right_unread h k = ap₂ (λ (a b : Bool). even_when (a && b) rows) (sym h) (sym k)
-
-  pub pair_even : (R S : Row) → RowRead (Some R) C x → RowRead (Some S) D y → (r : Bool) → r ≡ even_rows R.probs.now S.probs.now → r ≡ even_pair C D x y
-  pair_even R S RL RR r e = e ∙ ap₂ even_rows RL.2 RR.2 ∙ ap₂ (λ (a b : Bool). even_when (a && b) rows) (sym RL.0) (sym RR.0)
-
 -- ---- all pairs
 
 module _ (n : ℕ) (lefts rights : List ℕ) (C D : ChainColumns) where
-  pub lefts_short : length lefts < n → false ≡ all_even n lefts rights C D
-  lefts_short h = let e = lt-leb n (length lefts) h in sym e ∙ and_first _ _ e
-
   module _ (a : n ≤ length lefts) where
-    pub rights_short : length rights < n → false ≡ all_even n lefts rights C D
-    rights_short h = let e = lt-leb n (length rights) h in and_second _ _ _ (le-leb n (length lefts) a) (sym e ∙ and_first _ _ e)
-
     module _ (b : n ≤ length rights) where
       pub told : (r : Bool) → r ≡ every (even_pairs lefts rights C D) n → r ≡ all_even n lefts rights C D
       told r e = and_second _ _ _ (le-leb n (length lefts) a) (and_second _ _ _ (le-leb n (length rights) b) e)

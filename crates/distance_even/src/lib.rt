@@ -1,12 +1,10 @@
 // Refusal 16 of `distance` (kantorovich.rs): whether the totals of two rows agree once one is fitted to the other.
 #![tactic(auto)]
 
-ghost use Rattle.std.specs.Prelude.{◌≡◌, map, ◌≤◌, length};
+ghost use Rattle.std.specs.Prelude.{◌≡◌, map};
 ghost use Rattle.numbers.specs.Real.{sum};
-ghost use Rattle.chain_theory.specs.Lent.{of_chain};
 ghost use Rattle.distance_theory.specs.Lent.{HasPair};
-ghost use Rattle.distance_words.proofs.Even.{fitted_by, even_rows, even_pairs, all_even};
-ghost use Rattle.distance_words.proofs.Even;
+ghost use Rattle.distance_words.proofs.Even.{fitted_by, even_rows, even_pair_of, all_even_of};
 
 use distance_theory::lent::Task;
 use numbers::{ONE, Real, SLACK, apart, larger};
@@ -38,7 +36,7 @@ fn even_rows(ps: &[f64], qs: &[f64]) -> bool
 // Pair k of a task; rows that can't be read are never asked for.
 fn even_pair(task: &Task, k: usize) -> bool
     requires { HasPair task.now k }
-    ensures { result ≡ even_pairs task.now.pairs.lefts.now task.now.pairs.rights.now (of_chain task.now.left) (of_chain task.now.right) k }
+    ensures { result ≡ even_pair_of task.now k }
 {
     task.rows(k)
         .is_none_or(|rows| even_rows(rows.xs.probs, rows.ys.probs))
@@ -46,7 +44,7 @@ fn even_pair(task: &Task, k: usize) -> bool
 
 // Whether 16 comes up for none of a task's pairs. False where a list is short.
 pub fn all_even(task: &Task) -> bool
-    ensures { result ≡ all_even (length task.now.pairs.lefts.now) task.now.pairs.lefts.now task.now.pairs.rights.now (of_chain task.now.left) (of_chain task.now.right) }
+    ensures { result ≡ all_even_of task.now }
 {
     let n = task.pairs.lefts.len();
     n <= task.pairs.rights.len() && (0..n).all(|k| even_pair(task, k))

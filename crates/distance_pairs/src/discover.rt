@@ -4,9 +4,9 @@ ghost use Rattle.numbers.specs.Refuse.{numbered};
 ghost use Rattle.chain_theory.specs.Lent.{of_chain};
 ghost use Rattle.distance_theory.specs.Lent.{SamePairs};
 ghost use Rattle.distance_theory.specs.Pairs.{pair};
-ghost use Rattle.distance_theory.proofs.Discovery.{Noting, Meets, Over, counted, crossing, row_in, Rowed, Explorable, Explores, found, found_in, discover};
+ghost use Rattle.distance_theory.proofs.Discovery.{Noting, Meets, Over, crossing, row_in, Rowed, ExplorableIn, ExploresIn, discoverable_in, discovered_as, found_as, found_in, CountLeft};
 ghost use Rattle.distance_theory.proofs.Discovery;
-ghost use Rattle.distance_theory.proofs.Index.{keyed};
+ghost use Rattle.distance_theory.proofs.Index.{keyed, past_keys};
 ghost use Rattle.distance_theory.proofs.Index;
 
 use crate::index::{code, goes_by, is_at, key};
@@ -19,7 +19,7 @@ use parts::rates::insert;
 
 // Where the codes of a key go among those of the pairs so far.
 fn goes(pairs: &PairsMut, key: u64) -> usize
-    requires { (key ≤ 8800387989504) × (pairs.now.count ≤ length pairs.now.codes.now) }
+    requires { (key ≤ past_keys) × (pairs.now.count ≤ length pairs.now.codes.now) }
     ensures { (result ≡ keyed (take pairs.now.count pairs.now.codes.now) key) × (result ≤ pairs.now.count) }
 {
     goes_by(&pairs.codes[..pairs.count], key)
@@ -91,9 +91,9 @@ fn row<'a>(chain: &Chain<'a>, x: usize) -> &'a [u32]
 // Discovery from the first pair on, which is noted.
 fn discover_in(left: &Chain, right: &Chain, pairs: &mut PairsMut) -> Result<(), Refusal>
     requires lists { (pairs.old.count ≡ 1) × Noting pairs.old }
-    requires explorable { Explorable left.now.offsets.now left.now.targets.now right.now.offsets.now right.now.targets.now pairs.old.lefts.now pairs.old.rights.now pairs.old.codes.now }
+    requires explorable { ExplorableIn left.now right.now pairs.old }
     ensures lists { SamePairs pairs.old pairs.new }
-    ensures explores { Over result × (pairs.new.count ≤ 4096) × Explores left.now.offsets.now left.now.targets.now right.now.offsets.now right.now.targets.now pairs.old.lefts.now pairs.old.rights.now pairs.old.codes.now (counted result pairs.new.count) pairs.new.lefts.now pairs.new.rights.now pairs.new.codes.now }
+    ensures explores { Over result pairs.new × (pairs.new.count ≤ 4096) × ExploresIn left.now right.now pairs.old result pairs.new }
 {
     let mut i = 0;
     // Stays: the list grows while it is walked, which a `for` over it or over its length can't do.
@@ -114,7 +114,7 @@ pub fn readable(chain: &Chain) -> bool
 }
 
 // Room for 4,096 pairs.
-fn roomy(pairs: &PairsMut) -> bool
+pub fn roomy(pairs: &PairsMut) -> bool
     ensures { result ≡ Discovery.long (length pairs.now.lefts.now) (length pairs.now.rights.now) (length pairs.now.codes.now) }
 {
     long(
@@ -125,9 +125,9 @@ fn roomy(pairs: &PairsMut) -> bool
 
 // The first pair is noted, and all that are met from it on.
 fn discover(left: &Chain, right: &Chain, pairs: &mut PairsMut) -> Result<(), Refusal>
-    requires { Discovery.discoverable left.now.shape (of_chain left.now) right.now.shape (of_chain right.now) pairs.old.lefts.now pairs.old.rights.now pairs.old.codes.now ≡ true }
+    requires { discoverable_in left.now right.now pairs.old ≡ true }
     ensures lists { SamePairs pairs.old pairs.new }
-    ensures discovered { Over result × (Discovery.discovered (counted result pairs.new.count) pairs.new.lefts.now pairs.new.rights.now pairs.new.codes.now ≡ discover left.now.shape (of_chain left.now) right.now.shape (of_chain right.now) pairs.old.lefts.now pairs.old.rights.now pairs.old.codes.now) }
+    ensures discovered { Over result pairs.new × (discovered_as result pairs.new ≡ Discovery.discover_in left.now right.now pairs.old) }
     ensures few { pairs.new.count ≤ 4096 }
 {
     let left_state = left.shape.initial.0;
@@ -143,7 +143,8 @@ fn discover(left: &Chain, right: &Chain, pairs: &mut PairsMut) -> Result<(), Ref
 // 4 where the chains are not as check 4 wants them, have over 2,000 states, or a list is short: the lists are then as they were.
 pub fn discover_from(left: &Chain, right: &Chain, pairs: &mut PairsMut) -> Result<usize, Refusal>
     ensures lists { SamePairs pairs.old pairs.new }
-    ensures found { found (numbered result) pairs.new.lefts.now pairs.new.rights.now pairs.new.codes.now ≡ found_in (discover left.now.shape (of_chain left.now) right.now.shape (of_chain right.now) pairs.old.lefts.now pairs.old.rights.now pairs.old.codes.now) }
+    ensures found { found_as (numbered result) pairs.new ≡ found_in (Discovery.discover_in left.now right.now pairs.old) }
+    ensures count { CountLeft result pairs.old pairs.new }
 {
     if !roomy(pairs) || !readable(left) || !readable(right) {
         return Err(Refusal::OutOfRange);

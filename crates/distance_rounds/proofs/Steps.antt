@@ -9,8 +9,9 @@ use mathlib.Core.List.{List, ◌++◌}
 use native.Mathlib.Omega.{arith}
 use native.Mathlib.Numerals.{add-one}
 use lib.Dec.{leb}
-use lib.ListN.{length, get_or, set, take, length-map, length-set}
-use lib.Seq.{take_at}
+use lib.ListN.{length, get_or, set, take, drop, length-map, length-set}
+use lib.Seq.{take_at, drop-drop}
+use borrow.Rule.Slice.PartMut.{put_mid, Post-is}
 use lib.Ieee.{Float, nan, binary64, add, sub, mul, lt}
 use borrow.Author.Tests.{leb-true, le-leb, lt-leb, not-true, not-false}
 use Rattle.numbers.specs.Real.{nought, eps}
@@ -19,12 +20,13 @@ use Rattle.numbers.specs.Lists.{over}
 use Rattle.numbers.proofs.Bools.{and_t, and_first, and_second}
 use Rattle.epsdelta_theory.specs.Jumps.{Jump, jumps_of, rates}
 use Rattle.epsdelta_theory.proofs.RowReads.{jumps_length}
-use Rattle.parts.proofs.Lent.{part, back, part_all, back_is}
 use Rattle.chain_theory.specs.Columns.{ChainColumns, row_targets, row_rates, reads_row}
+use Rattle.chain_theory.specs.Lent.{of_chain}
+use Rattle.distance_theory.specs.declared.lent.Task.{Task as Given}
 use Rattle.transport_theory.specs.Transport.{transport}
 use Rattle.distance_theory.specs.Pairs.{target_pair}
 use Rattle.distance_theory.specs.Couplings.{Share, share, expected, Best, fitted, point_mass, shares_of}
-use Rattle.distance_theory.specs.Lent.{Reads, Couples}
+use Rattle.distance_theory.specs.Lent.{Reads, Couples, HasPair}
 use Rattle.distance_theory.specs.declared.lent.Store.{Store}
 use Rattle.distance_theory.specs.declared.lent.StoreMut.{StoreMut}
 use Rattle.distance_theory.specs.declared.lent.Shares.{Shares}
@@ -33,14 +35,18 @@ use Rattle.distance_theory.proofs.Crossings.{cross_length}
 use Rattle.distance_theory.proofs.Held.{coupling}
 use Rattle.distance_theory.proofs.Store.{rates_length, fitted_length, transport_length}
 use Rattle.distance_theory.proofs.Bests.{Look, ats, parts, independent_by, values_by, planned_by, best_by, rows_fit, cells_fit, fitting, Bested, bested, bested_as, best_if, beside, cells_few}
-use Rattle.distance_theory.proofs.PairRows.{bested_when, best_pair}
-use Rattle.distance_words.proofs.Improving.{best_when, best_at, Adopted, adopted, gains, room_for, adopt_if, adopt, Bettered, bettered, better_from, best_of_pair, counted, better_if}
+use Rattle.distance_theory.proofs.PairRows.{bested_when, best_pair, best_pair_of}
+use Rattle.distance_words.proofs.Improving.{best_when, best_at, Adopted, adopted, gains, room_for, adopt_if, adopt, Bettered, bettered, better_from, best_in, counted, better_if}
 
 -- ---- a coupling for a pair
 
 -- what the coupling in the store comes to, as it is read
 pub current_is : (v : List Float) (S : StoreMut) (R : Store) (k : ℕ) → Reads S R → (C : Shares) → Couples R k C → {y : Float} → y ≡ expected v (shares_of C.places.now C.masses.now) → y ≡ expected v (coupling S.starts.now S.lengths.now S.places.now S.masses.now k)
 current_is v S R k (es, el, ep, em) C (a, b) e = e ∙ rw (a, b, es, el, ep, em)
+
+-- a part that is written over
+put_is : {A : Type 0} (a n : ℕ) (l u : List A) → n ≡ length u → put_mid a (a + n - a) l u ≡ take a l ++ over u (drop a l)
+put_is {A} a n l u e = ap (λ (z : List A). take a l ++ (u ++ z)) (Post-is a (a + n) l (omega arith) ∙ sym (drop-drop n a l) ∙ ap (λ (j : ℕ). drop j (drop a l)) e)
 
 module _ (x : Float) (js : List ℕ) (ms v : List Float) (k : ℕ) (s l p : List ℕ) (m : List Float) (y : Float) (ey : y ≡ expected v (coupling s l p m k)) where
   abbrev f : ℕ
@@ -69,10 +75,11 @@ module _ (x : Float) (js : List ℕ) (ms v : List Float) (k : ℕ) (s l p : List
       pub no_masses : length m < f + length js → adopted false l p m ≡ adopt x js ms v k s l p m
       no_masses h = ap adopting (and_second gain roomy false (sym gain_is ∙ g) (and_second _ _ _ (le-leb (get_or s k 0 + length js) (length p) (omega arith)) (sym (lt-leb (get_or s k 0 + length js) (length m) (omega arith)))))
 
-      pub adopts : f + length js ≤ length m → (u : List ℕ) (w : List Float) → u ≡ over js (part f p) → w ≡ over ms (part f m) → adopted true (set l k (length js)) (back f p u) (back f m w) ≡ adopt x js ms v k s l p m
-      adopts hm u w eu ew =
-          ap₂ (λ (a : List ℕ) (b : List Float). adopted true (set l k (length js)) a b)
-          (back_is f p u (omega arith) ∙ ap (λ (a : List ℕ). take f p ++ a) (eu ∙ ap (over js) (part_all f p))) (back_is f m w (omega arith) ∙ ap (λ (b : List Float). take f m ++ b) (ew ∙ ap (over ms) (part_all f m)))
+      pub adopts : f + length js ≤ length m → length ms ≡ length js → (u : List ℕ) (w : List Float) → u ≡ js → w ≡ ms
+          → adopted true (set l k (length js)) (put_mid f (f + length js - f) p u) (put_mid f (f + length js - f) m w) ≡ adopt x js ms v k s l p m
+      adopts hm z u w eu ew =
+          ap₂ (λ (a : List ℕ) (b : List Float). adopted true (set l k (length js)) (put_mid f (f + length js - f) p a) (put_mid f (f + length js - f) m b)) eu ew
+          ∙ ap₂ (λ (a : List ℕ) (b : List Float). adopted true (set l k (length js)) a b) (put_is f (length js) p js refl) (put_is f (length js) m ms (sym z))
           ∙ ap adopting (and_second gain roomy true (sym gain_is ∙ g) (and_second _ _ _ (le-leb (get_or s k 0 + length js) (length p) (omega arith)) (sym (le-leb (get_or s k 0 + length js) (length m) (omega arith)))))
 
 -- as many lengths as before
@@ -173,11 +180,11 @@ module _ (look : Look) (C D : ChainColumns) (codes : ℕ) (v : List Float) (x y 
       let q : best_if (reads && rows) whole p m ≡ bested z n js ms = sym (e ∙ pair_is) in
       subst (λ (r : Bested). Worked (best_at look C D codes v x y) r.value r.cells r.places r.masses) q (work_if (reads && rows) whole p m few_shares)
 
--- pair k of some lists
-pub worked_at : (lefts rights codes : List ℕ) (C D : ChainColumns) (v : List Float) (k x y : ℕ) → x ≡ get_or lefts k 0 → y ≡ get_or rights k 0 → (p : List ℕ) (m : List Float) → length p ≡ 1024 → length m ≡ 1024
-    → (z : Float) (n : ℕ) (js : List ℕ) (ms : List Float) → bested z n js ms ≡ best_pair (look_up codes) C D (length codes) x y v p m → Worked (best_of_pair lefts rights codes C D v k) z n js ms
-worked_at lefts rights codes C D v k x y ex ey p m zp zm z n js ms e =
-    subst (λ (b : Best). Worked b z n js ms) (ap₂ (best_at (look_up codes) C D (length codes) v) ex ey) (worked (look_up codes) C D (length codes) v x y p m zp zm z n js ms e)
+-- of a task's pair k, by what `best_pair` answers in work lists of 1,024 entries
+pub worked_in : (T : Given) (v : List Float) (k : ℕ) → k < length v → length v ≤ length T.pairs.lefts.now → length v ≤ length T.pairs.rights.now → (p : List ℕ) (m : List Float) → length p ≡ 1024 → length m ≡ 1024
+    → (r : Option Chosen) {b : Chosen} → b ≡ unwrap_or r (record { value = nought; cells = 0 }) → {js : List ℕ} {ms : List Float} → (HasPair T k → bested_as r js ms ≡ best_pair_of T k v p m) → Worked (best_in T v k) b.value b.cells js ms
+worked_in T v k h hl hr p m zp zm r {b} e {js} {ms} d =
+    worked (look_up T.pairs.codes.now) (of_chain T.left) (of_chain T.right) (length T.pairs.codes.now) v (get_or T.pairs.lefts.now k 0) (get_or T.pairs.rights.now k 0) p m zp zm b.value b.cells js ms (bested_or r e ∙ d (omega arith, omega arith))
 
 -- ---- the loop: at pair k of n
 

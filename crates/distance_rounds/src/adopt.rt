@@ -1,20 +1,9 @@
 // A pair gets another coupling where that is better.
 ghost use Rattle.std.specs.Prelude.{◌≡◌, ◌≤◌, ◌<◌, length};
-ghost use Rattle.numbers.specs.Lists.{over};
-ghost use Rattle.distance_theory.specs.Lent.{SameStore};
-ghost use Rattle.distance_words.proofs.Improving.{adopted_as, adopt_in};
+ghost use Rattle.distance_words.proofs.Improving.{SameStarts, adopted_as, adopt_in};
 
 use distance_theory::lent::{Shares, StoreMut};
 use numbers::EPS;
-
-// Shares over the front of two lists.
-fn put_shares(shares: &Shares, places: &mut [u32], masses: &mut [f64])
-    requires { (length shares.now.masses.now ≡ length shares.now.places.now) × (length shares.now.places.now ≤ length places.old) × (length shares.now.places.now ≤ length masses.old) }
-    ensures { (places.new ≡ over shares.now.places.now places.old) × (masses.new ≡ over shares.now.masses.now masses.old) }
-{
-    places[..shares.places.len()].copy_from_slice(shares.places);
-    masses[..shares.masses.len()].copy_from_slice(shares.masses);
-}
 
 // The coupling of these shares, which comes to `value`, for pair k where it is better by more than 1e-12.
 pub(crate) fn adopt(
@@ -25,8 +14,7 @@ pub(crate) fn adopt(
     store: &mut StoreMut,
 ) -> bool
     requires { (k < length store.old.starts.now) × (k < length store.old.lengths.now) × (length shares.now.masses.now ≡ length shares.now.places.now) × (length shares.now.places.now ≤ 1024) }
-    ensures lists { SameStore store.old store.new }
-    ensures starts { store.new.starts.now ≡ store.old.starts.now }
+    ensures kept { SameStarts store.old store.new }
     ensures adopted { adopted_as result store.new ≡ adopt_in value shares.now.places.now shares.now.masses.now values.now k store.old }
 {
     let current = store.read().shares(k).expected(values);
@@ -38,7 +26,8 @@ pub(crate) fn adopt(
     if from + n > store.places.len() || from + n > store.masses.len() {
         return false;
     }
-    put_shares(shares, &mut store.places[from..], &mut store.masses[from..]);
+    store.places[from..from + n].copy_from_slice(shares.places);
+    store.masses[from..from + n].copy_from_slice(shares.masses);
     store.lengths[k] = n as u32;
     true
 }

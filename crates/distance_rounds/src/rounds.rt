@@ -1,16 +1,17 @@
 // The rounds: the values of the couplings, and their improvement against these.
-ghost use Rattle.std.specs.Prelude.{◌≡◌, not, ◌||◌, length};
+ghost use Rattle.std.specs.Prelude.{◌≡◌, not, ◌||◌};
 ghost use Rattle.std.specs.Float.Ieee.{le};
-ghost use Rattle.distance_theory.specs.Lent.{SameStore};
-ghost use Rattle.distance_theory.specs.Rounds.{many};
-ghost use Rattle.distance_words.proofs.Valuing.{valued, evaluated};
-ghost use Rattle.distance_words.proofs.Iterating.{iterated_as, iterate_in};
+ghost use Rattle.numbers.specs.Refuse.{code};
+ghost use Rattle.distance_words.proofs.Valuing.{valued};
+ghost use Rattle.distance_words.proofs.Improving.{SameStarts};
+ghost use Rattle.distance_words.proofs.Iterating.{iterated_as, iterate_in, valued_in};
 
 use crate::improve::improve;
 use distance_theory::lent::{StoreMut, Task};
 use distance_values::values::{Costed, sweeps};
 use distance_words::told::{Improvement, Rounds};
 use numbers::infinity;
+use numbers::refusal::Refusal;
 
 // Whether a round is the last: no coupling has changed, or no value is off by more than the aim.
 fn ended(step: Improvement, aim: f64) -> bool
@@ -20,8 +21,8 @@ fn ended(step: Improvement, aim: f64) -> bool
 }
 
 // The values of the couplings of all pairs, to within tol or after 1,000,000 sweeps.
-fn evaluate(task: &Task, store: &StoreMut, tol: f64, value: &mut [f64]) -> bool
-    ensures { valued result value.new ≡ evaluated many store.now.starts.now store.now.lengths.now store.now.places.now store.now.masses.now task.now.cost.now task.now.gamma tol value.old (length value.old) }
+fn evaluate(task: &Task, store: &StoreMut, tol: f64, value: &mut [f64]) -> Result<(), Refusal>
+    ensures { valued (code result) value.new ≡ valued_in task.now store.now tol value.old }
 {
     let of = Costed {
         store: store.read(),
@@ -31,7 +32,7 @@ fn evaluate(task: &Task, store: &StoreMut, tol: f64, value: &mut [f64]) -> bool
     sweeps(1000000, &of, tol, value)
 }
 
-// At most max_rounds rounds on couplings in the store: values to within tol, improvement against these, up to a round that changes no coupling or leaves no value off by more than `aim`.
+// At most max_rounds rounds on couplings in the store: values to within tol, improvement against these, up to a round that changes no coupling or leaves no value off by more than `aim`. Where `sweeps` refuses, the values stay as they were, and the round goes on with them.
 pub fn iterate(
     max_rounds: usize,
     task: &Task,
@@ -40,13 +41,13 @@ pub fn iterate(
     store: &mut StoreMut,
     values: &mut [f64],
 ) -> Rounds
-    ensures lists { SameStore store.old store.new }
-    ensures starts { store.new.starts.now ≡ store.old.starts.now }
+    ensures kept { SameStarts store.old store.new }
     ensures iterated { iterated_as result values.new store.new ≡ iterate_in max_rounds task.now aim tol store.old values.old }
 {
     let mut residual = infinity();
     for rounds in 0..max_rounds {
-        evaluate(task, store, tol, values);
+        // Stays: the refusal is dropped, for `iterate` is public and could not fail before, and so it may not now; `sweeps` leaves the values as they were then.
+        let _ = evaluate(task, store, tol, values);
         let step = improve(task, values, store);
         residual = step.residual;
         if ended(step, aim) {

@@ -1,4 +1,3 @@
-pub mod Accounts
 pub mod Solving
 pub mod Founding
 pub mod Ways

@@ -6,9 +6,9 @@ use mathlib.Core.List.{List}
 use native.Mathlib.Omega.{arith}
 use lib.Dec.{leb}
 use lib.ListN.{length, take, replicate, length-take, length-map}
-use lib.Seq.{slice, length-slice}
+use lib.Seq.{slice, length-slice, length-take-le}
 use lib.Ieee.{Float}
-use borrow.Author.Tests.{leb-true, le-leb, not-true, not-false}
+use borrow.Author.Tests.{leb-true, le-leb, not-true}
 use Rattle.numbers.specs.Real.{nought}
 use Rattle.numbers.proofs.Bools.{and_t}
 use Rattle.numbers.proofs.Alls.{every_at, every_of}
@@ -28,10 +28,15 @@ use Rattle.std.specs.Prelude.{Result, Ok, Err}
 use Rattle.std.specs.Result.{IsErrAnd}
 use Rattle.numbers.specs.Refuse.{number, numbered}
 use Rattle.numbers.specs.declared.refusal.Refusal.{Refusal}
-use Rattle.distance_words.specs.Told.{Told, told_of, Ran, ran_as}
+use Rattle.distance_words.specs.Told.{Told, told_of, ran_as}
 use Rattle.distance_words.specs.declared.told.Answer.{Answer}
 use Rattle.distance_words.proofs.Found.{found_of}
-use Rattle.distance_words.proofs.Run.{slim, fits, roomy, runnable, ran_if, ran_of}
+use Rattle.distance_words.proofs.Run.{slim, fits, roomy, ran_if}
+use Rattle.chain_theory.specs.Lent.{of_chain}
+use Rattle.distance_theory.specs.declared.lent.PairsMut.{PairsMut}
+use Rattle.distance_theory.specs.declared.lent.Scratch.{Scratch}
+use Rattle.distance_run.specs.Asked.{ran_on, runnable_in}
+use Rattle.distance_run.specs.declared.question.Question.{Question}
 use Rattle.distance_run.proofs.Chains.{cut}
 use Rattle.distance_run.proofs.Explored.{explored_refused, explored_told, some, left_long, right_long, code_long}
 
@@ -78,15 +83,43 @@ module _ (H : ChainShape) (C : ChainColumns) where
 
 -- ---- both
 
-module _ (HL : ChainShape) (CL : ChainColumns) (HR : ChainShape) (CR : ChainColumns) (γ : Float) (o : MetricOptions) (l₀ r₀ c₀ p : List ℕ) (m : List Float) where
+-- what is told of two chains, with so much room in the coupling store
+abbrev answer_in : Question → ℕ → Told
+answer_in Q store = told_of (run (chain_of Q.left.shape (of_chain Q.left)) (chain_of Q.right.shape (of_chain Q.right)) Q.goal.gamma Q.goal.options store)
+
+module _ (Q : Question) (P : PairsMut) (p : List ℕ) (m : List Float) where
+  abbrev HL : ChainShape
+  HL = Q.left.shape
+
+  abbrev CL : ChainColumns
+  CL = of_chain Q.left
+
+  abbrev HR : ChainShape
+  HR = Q.right.shape
+
+  abbrev CR : ChainColumns
+  CR = of_chain Q.right
+
+  abbrev γ : Float
+  γ = Q.goal.gamma
+
+  abbrev o : MetricOptions
+  o = Q.goal.options
+
+  abbrev l₀ : List ℕ
+  l₀ = P.lefts.now
+
+  abbrev r₀ : List ℕ
+  r₀ = P.rights.now
+
+  abbrev c₀ : List ℕ
+  c₀ = P.codes.now
+
   abbrev able : Bool
-  able = runnable HL CL HR CR o.top (length l₀) (length r₀) (length c₀)
+  able = runnable_in Q (length l₀) (length r₀) (length c₀)
 
   abbrev answer : Told
-  answer = told_of (run (chain_of HL CL) (chain_of HR CR) γ o (min (length p) (length m)))
-
-  abbrev whole : Ran
-  whole = ran_of HL CL HR CR γ o l₀ r₀ c₀ p m
+  answer = answer_in Q (min (length p) (length m))
 
   module _ (e : able ≡ true) where
     fit_l : Fit HL CL
@@ -101,11 +134,14 @@ module _ (HL : ChainShape) (CL : ChainColumns) (HR : ChainShape) (CR : ChainColu
     long : roomy (length l₀) (length r₀) (length c₀) ≡ true
     long = (and_t (leb o.top 64) _ (and_t (fits HR CR) _ (and_t (fits HL CL) _ e).1).1).1
 
-    pub left_seen : HL.states ≤ length CL.observations
+    left_seen : HL.states ≤ length CL.observations
     left_seen = fit_l.seen
 
-    pub right_seen : HR.states ≤ length CR.observations
+    right_seen : HR.states ≤ length CR.observations
     right_seen = fit_r.seen
+
+    pub both_seen : (HL.states ≤ length CL.observations) × (HR.states ≤ length CR.observations)
+    both_seen = (left_seen, right_seen)
 
     -- discovery lists all pairs
     pub discovers : discover HL CL HR CR l₀ r₀ c₀ ≡ listed (pairs (chain_of HL CL) (chain_of HR CR)) l₀ r₀ c₀
@@ -140,17 +176,28 @@ module _ (HL : ChainShape) (CL : ChainColumns) (HR : ChainShape) (CR : ChainColu
       pairs_refused x d = explored_refused HL CL HR CR γ o fit_l.shape fit_r.shape fit_r.few fit_l.rows fit_r.rows left_seen right_seen asked l r c l₀ r₀ c₀ p m x (d ∙ ap found_in discovers)
 
       module _ (n : ℕ) (d : found (Ok n) l r c ≡ found_in (discover HL CL HR CR l₀ r₀ c₀)) where
-        pub pairs_few : n ≤ most
+        pairs_few : n ≤ most
         pairs_few = (some HL CL HR CR γ o fit_l.shape fit_r.shape fit_r.few fit_l.rows fit_r.rows left_seen right_seen asked l r c l₀ r₀ c₀ p m n (d ∙ ap found_in discovers)).1
 
-        pub in_lefts : n ≤ length l
+        in_lefts : n ≤ length l
         in_lefts = left_long HL CL HR CR γ o fit_l.shape fit_r.shape fit_r.few fit_l.rows fit_r.rows left_seen right_seen asked l r c l₀ r₀ c₀ p m n (d ∙ ap found_in discovers)
 
-        pub in_rights : n ≤ length r
+        in_rights : n ≤ length r
         in_rights = right_long HL CL HR CR γ o fit_l.shape fit_r.shape fit_r.few fit_l.rows fit_r.rows left_seen right_seen asked l r c l₀ r₀ c₀ p m n (d ∙ ap found_in discovers)
 
-        pub in_codes : n ≤ length c
+        in_codes : n ≤ length c
         in_codes = code_long HL CL HR CR γ o fit_l.shape fit_r.shape fit_r.few fit_l.rows fit_r.rows left_seen right_seen asked l r c l₀ r₀ c₀ p m n (d ∙ ap found_in discovers)
+
+        pub in_lists : (n ≤ length l) × (n ≤ length r) × (n ≤ length c)
+        in_lists = (in_lefts, in_rights, in_codes)
+
+        -- so many are run
+        pub run_few : {x y : List ℕ} → x ≡ take n l → y ≡ take n r → (length x ≤ 4096) × (length x ≤ length y)
+        run_few e f =
+            let few = pairs_few in
+            let i = ap length e ∙ length-take-le n l in_lefts in
+            let j = ap length f ∙ length-take-le n r in_rights in
+            (omega arith, omega arith)
 
         pub pairs_told : {x y z : List ℕ} → (x ≡ take n l) × (y ≡ take n r) × (z ≡ take n c) → {C D : ChainColumns} → C ≡ cut HL CL → D ≡ cut HR CR → {t : Told}
             → t ≡ found_of (length x) x y z C D C.observations D.observations γ o p m → t ≡ answer
@@ -158,12 +205,13 @@ module _ (HL : ChainShape) (CL : ChainColumns) (HR : ChainShape) (CR : ChainColu
             explored_told HL CL HR CR γ o fit_l.shape fit_r.shape fit_r.few fit_l.rows fit_r.rows left_seen right_seen asked l r c l₀ r₀ c₀ p m n (d ∙ ap found_in discovers) f g
             (k ∙ ap₂ (λ (i j : List ℕ). found_of (length i) i j z C D C.observations D.observations γ o p m) e₁ e₂ ∙ ap (λ (j : List ℕ). found_of (length (take n l)) (take n l) (take n r) j C D C.observations D.observations γ o p m) e₃)
 
-  -- ---- the ways that `run` ends
+-- ---- the ways that `run` ends
 
-  pub run_refused : able ≡ false → ran_as (Err 4) l₀ r₀ c₀ p m ≡ whole
-  run_refused h = ap (λ (x : Bool). ran_if x answer l₀ r₀ c₀ p m) (sym h)
+module _ (Q : Question) (S : Scratch) where
+  abbrev told : Told
+  told = answer_in Q (min (length S.places.now) (length S.masses.now))
 
-  pub run_clears : able ≡ true → {t : Told} → t ≡ answer → {l r c q : List ℕ} {w : List Float} {x y z u v : ℕ}
+  pub run_clears : runnable_in Q (length S.lefts.now) (length S.rights.now) (length S.codes.now) ≡ true → {t : Told} → t ≡ told → {l r c q : List ℕ} {w : List Float} {x y z u v : ℕ}
       → (l ≡ replicate x 0) × (r ≡ replicate y 0) × (c ≡ replicate z 0) × (q ≡ replicate u 0) × (w ≡ replicate v nought)
-      → x ≡ length l₀ → y ≡ length r₀ → z ≡ length c₀ → u ≡ length p → v ≡ length m → ran_as t l r c q w ≡ whole
-  run_clears h f (zl, zr, zc, zp, zm) hl hr hc hp hm = rw (f, zl, zr, zc, zp, zm, hl, hr, hc, hp, hm) (ap (λ (x : Bool). ran_if x answer l₀ r₀ c₀ p m) (sym h))
+      → x ≡ length S.lefts.now → y ≡ length S.rights.now → z ≡ length S.codes.now → u ≡ length S.places.now → v ≡ length S.masses.now → ran_as t l r c q w ≡ ran_on Q S
+  run_clears h f (zl, zr, zc, zp, zm) hl hr hc hp hm = rw (f, zl, zr, zc, zp, zm, hl, hr, hc, hp, hm) (ap (λ (x : Bool). ran_if x told S.lefts.now S.rights.now S.codes.now S.places.now S.masses.now) (sym h))

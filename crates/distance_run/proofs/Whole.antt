@@ -36,13 +36,13 @@ use Rattle.distance_words.proofs.Iterating.{Task, task, Iterated, iterate_from}
 use Rattle.distance_rounds.proofs.Rounded.{Serves, Solves, in_store}
 use Rattle.distance_rounds.proofs.Started.{solved}
 use Rattle.distance_words.proofs.Listing.{listing, listed_of}
-use Rattle.std.specs.Prelude.{Option}
+use Rattle.std.specs.Prelude.{Result, Ok}
 use Rattle.distance_words.specs.declared.told.Listed.{Listed}
-use Rattle.distance_words.proofs.Found.{account_of}
+use Rattle.distance_words.proofs.Found.{account_if, account_with, account_of}
 use Rattle.distance_words.proofs.Solve.{Solving, uneven, aim_of, fine_of, solve_if, solve_from}
 use Rattle.distance_words.specs.declared.told.Accounted.{Accounted}
-use Rattle.distance_words.specs.Told.{Told, told_of}
-use Rattle.distance_words.proofs.Found.{tell_if, tell_of, found_from}
+use Rattle.distance_words.specs.Told.{Told, told_of, row}
+use Rattle.distance_words.proofs.Found.{tell_if, tell_of, tell_from, found_from}
 use Rattle.distance_run.proofs.Ways.{time_in, run_of, way_18, way_16, way_19, way_0}
 
 -- ---- contributions look only at the pairs
@@ -150,7 +150,7 @@ module _ {G : Metric} {l r codes : List ℕ} {C D : ChainColumns} (Y : Ready G l
       abbrev X : Occupied
       X = visited many F.starts I.lengths I.places I.masses γ (take n (replicate most nought)) n
 
-      spends : (X.done ≡ true) × (X.mass ≡ (time_in G γ o).mass) × (X.spent ≡ over (time_in G γ o).spent (take n (replicate most nought)))
+      spends : (X.refusal ≡ 0) × (X.mass ≡ (time_in G γ o).mass) × (X.spent ≡ over (time_in G γ o).spent (take n (replicate most nought)))
       spends = visited_is (stays rp rm) (take n (replicate most nought)) γ fit (let z = length-take-le n (replicate most nought) (omega arith) in omega arith) refl
 
       spent_size : length (time_in G γ o).spent ≡ n
@@ -168,10 +168,12 @@ module _ {G : Metric} {l r codes : List ℕ} {C D : ChainColumns} (Y : Ready G l
           ∙ ap (listing true) (listed_front G o (time_in G γ o).spent _ (omega arith))
 
       abbrev account_as : Accounted
-      account_as = record { mass = (time_in G γ o).mass; listed = listing true cs }
+      account_as = record { mass = (time_in G γ o).mass; listed = record { count = length cs; records = row cs } }
 
-      account_as_lem : account_of n l r u w F.starts I.lengths I.places I.masses γ o ≡ account_as
-      account_as_lem = ap₂ (λ (x : Float) (y : Option Listed). record { mass = x; listed = y }) spends.1 listed_as
+      account_as_lem : account_of n l r u w F.starts I.lengths I.places I.masses γ o ≡ Ok account_as
+      account_as_lem =
+          ap (λ (i : ℕ). account_if i (account_with X.mass (listed_of n l r u w X.spent o))) spends.0
+          ∙ ap₂ (λ (x : Float) (y : Result Listed ℕ). account_with x y) spends.1 listed_as
 
       value_as : get_or (I.values ++ drop n (replicate most nought)) 0 nan ≡ get_or (solve G o).value 0 nan
       value_as = get_or-append I.values _ nan 0 (let z = (solution rp rm).values_size in omega arith) ∙ ap (λ (v : List Float). get_or v 0 nan) (solution rp rm).values_are
@@ -179,7 +181,7 @@ module _ {G : Metric} {l r codes : List ℕ} {C D : ChainColumns} (Y : Ready G l
       tells : odd ≡ false → found_from n l r u w γ o S ≡ tell_of n (get_or (solve G o).value 0 nan) γ (solve G o).residual (solve G o).rounds account_as
       tells h =
           ap (found_from n l r u w γ o) (solved_as true false (all_laid rp rm) h)
-          ∙ ap₂ (λ (x : Float) (a : Accounted). tell_of n x γ I.residual I.rounds a) value_as account_as_lem
+          ∙ ap₂ (λ (x : Float) (a : Result Accounted ℕ). tell_from n x γ I.residual I.rounds a) value_as account_as_lem
           ∙ ap₂ (λ (y : Float) (k : ℕ). tell_of n (get_or (solve G o).value 0 nan) γ y k account_as) (solution rp rm).residual_is (solution rp rm).rounds_are
 
       found_on : odd ≡ false → (b : Bool) → lt eps (time_in G γ o).mass ≡ b → found_from n l r u w γ o S ≡ R

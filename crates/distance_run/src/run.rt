@@ -1,54 +1,53 @@
 // The run of two chains, from the discovery of their pairs on.
-ghost use Rattle.std.specs.Prelude.{◌≡◌, true, ◌<◌, ◌≤◌, ◌+◌, min, leb, length, get_or, take};
-ghost use Rattle.numbers.specs.Lists.{every};
+ghost use Rattle.std.specs.Prelude.{◌≡◌, true, ◌<◌, ◌≤◌, min, length, take};
 ghost use Rattle.numbers.specs.Refuse.{numbered};
-ghost use Rattle.chain_theory.specs.Columns.{chain_columns, chain_of};
+ghost use Rattle.chain_theory.specs.Columns.{chain_of};
 ghost use Rattle.chain_theory.specs.Lent.{of_chain};
 ghost use Rattle.distance_theory.specs.Lent.{SamePairs, SameScratch};
 ghost use Rattle.distance_theory.specs.Outcome;
-ghost use Rattle.distance_run.specs.Asked.{ran_in, ran_on, runnable_in};
+ghost use Rattle.distance_run.specs.Asked.{Seen, ran_in, ran_on, runnable_in};
 ghost use Rattle.distance_words.specs.Told.{told_of};
 ghost use Rattle.distance_words.proofs.Run;
 
 use crate::found::run_found;
 use crate::question::Question;
 use crate::scratch::clear;
-use chain_check::shape::misshapen;
 use chain_theory::Chain;
-use distance_pairs::discover::discover_from;
+use distance_pairs::discover::{discover_from, readable};
 use distance_theory::lent::{Pairs, PairsMut, Scratch};
 use distance_theory::long;
 use distance_words::told::Answer;
 use numbers::refusal::Refusal;
 
 // Rows of at most 32 entries.
-fn slim(states: usize, offsets: &[u32]) -> bool
-    requires { states < length offsets.now }
-    ensures { result ≡ every (λ s. leb (get_or offsets.now (s + 1) 0) (get_or offsets.now s 0 + 32)) states }
+fn slim(chain: &Chain) -> bool
+    requires { chain.now.shape.states < length chain.now.offsets.now }
+    ensures { result ≡ Run.slim chain.now.shape (of_chain chain.now) }
 {
-    (0..states).all(|s| offsets[s + 1] as usize <= offsets[s] as usize + 32)
+    let offsets = chain.offsets;
+    (0..chain.shape.states).all(|s| offsets[s + 1] as usize <= offsets[s] as usize + 32)
 }
 
 // A chain of at most 2,000 states that check 4 lets pass, with rows of at most 32 entries and an observation of each state.
 fn fits(chain: &Chain) -> bool
     ensures { result ≡ Run.fits chain.now.shape (of_chain chain.now) }
 {
-    chain.shape.states <= 2000
-        && !misshapen(chain)
-        && slim(chain.shape.states, chain.offsets)
-        && chain.shape.states <= chain.observations.len()
+    readable(chain) && slim(chain) && chain.shape.states <= chain.observations.len()
 }
 
 // At least 4,096 entries of each list of pairs.
+// Stays: distance_pairs' `roomy` is of a `PairsMut`; `run` would lend scratch's lists to one before it knows whether the chains can be run.
 fn roomy(scratch: &Scratch) -> bool
     ensures { result ≡ Run.roomy (length scratch.now.lefts.now) (length scratch.now.rights.now) (length scratch.now.codes.now) }
 {
-    let lengths = [
-        scratch.lefts.len(),
-        scratch.rights.len(),
-        scratch.codes.len(),
-    ];
-    long(4096, &lengths)
+    long(
+        4096,
+        &[
+            scratch.lefts.len(),
+            scratch.rights.len(),
+            scratch.codes.len(),
+        ],
+    )
 }
 
 // Whether the chains can be run, with these lists of pairs and so many contributions asked for.
@@ -61,7 +60,7 @@ fn runnable(of: &Question, scratch: &Scratch) -> bool
 // The chain, with as many observations as it has states.
 fn seen<'a>(chain: &Chain<'a>) -> Chain<'a>
     requires { chain.now.shape.states ≤ length chain.now.observations.now }
-    ensures { (result.shape ≡ chain.now.shape) × (of_chain result ≡ chain_columns chain.now.offsets.now chain.now.targets.now chain.now.probs.now (take chain.now.shape.states chain.now.observations.now)) }
+    ensures { Seen chain.now result }
 {
     Chain {
         observations: &chain.observations[..chain.shape.states],
@@ -72,8 +71,8 @@ fn seen<'a>(chain: &Chain<'a>) -> Chain<'a>
 // The same of both chains.
 fn observed<'a>(of: &Question<'a>) -> Question<'a>
     requires { (of.now.left.shape.states ≤ length of.now.left.observations.now) × (of.now.right.shape.states ≤ length of.now.right.observations.now) }
-    ensures left { (result.left.shape ≡ of.now.left.shape) × (of_chain result.left ≡ chain_columns of.now.left.offsets.now of.now.left.targets.now of.now.left.probs.now (take of.now.left.shape.states of.now.left.observations.now)) }
-    ensures right { (result.right.shape ≡ of.now.right.shape) × (of_chain result.right ≡ chain_columns of.now.right.offsets.now of.now.right.targets.now of.now.right.probs.now (take of.now.right.shape.states of.now.right.observations.now)) }
+    ensures left { Seen of.now.left result.left }
+    ensures right { Seen of.now.right result.right }
     ensures goal { result.goal ≡ of.now.goal }
 {
     Question {
@@ -84,6 +83,7 @@ fn observed<'a>(of: &Question<'a>) -> Question<'a>
 }
 
 // The first n pairs, to be read.
+// Stays: n is the number that `discover_from` answers; read from `pairs.count`, that answer would be dropped, and the three bounds be proved of the count.
 fn first<'a>(pairs: &'a PairsMut, n: usize) -> Pairs<'a>
     requires { (n ≤ length pairs.now.lefts.now) × (n ≤ length pairs.now.rights.now) × (n ≤ length pairs.now.codes.now) }
     ensures { (result.lefts.now ≡ take n pairs.now.lefts.now) × (result.rights.now ≡ take n pairs.now.rights.now) × (result.codes.now ≡ take n pairs.now.codes.now) }
@@ -99,6 +99,7 @@ fn first<'a>(pairs: &'a PairsMut, n: usize) -> Pairs<'a>
 }
 
 // The run of chains that can be run. The lists are left as it leaves them.
+// Stays: `places` and `masses`, for the reason that `run_found` gives.
 fn run_pairs(
     of: &Question,
     pairs: &mut PairsMut,

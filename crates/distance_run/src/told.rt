@@ -4,7 +4,7 @@ ghost use Rattle.numbers.specs.Refuse.{numbered};
 ghost use Rattle.distance_words.proofs.Found.{tell_of};
 
 use distance_theory::Distance;
-use distance_words::told::{Accounted, Answer, Rounds, nothing_listed};
+use distance_words::told::{Accounted, Answer, Rounds};
 use numbers::refusal::Refusal;
 use numbers::{EPS, ONE};
 
@@ -21,8 +21,7 @@ pub(crate) fn tell(
     if EPS < account.mass {
         return Err(Refusal::Occupancy);
     }
-    let listed = account.listed.unwrap_or(nothing_listed());
-    let records = listed.records;
+    let listed = &account.listed;
     let distance = Distance {
         value,
         error_bound: made.residual / (ONE - gamma),
@@ -31,5 +30,8 @@ pub(crate) fn tell(
         contributions: listed.count,
         rounds: made.rounds,
     };
-    Ok(Answer { distance, records })
+    Ok(Answer {
+        distance,
+        records: listed.records,
+    })
 }

@@ -6,6 +6,9 @@ use mathlib.Core.List.{List, [], ◌∷◌, ◌++◌}
 use native.Mathlib.Omega.{arith}
 use native.Mathlib.Numerals.{add-one}
 use lib.Dec.{leb}
+use Rattle.std.specs.Prelude.{Option, Some, None, Result, Ok, Err}
+use Rattle.std.specs.Result.{IsErrAnd, is_ok}
+use Rattle.std.proofs.lemmas.Bool.{lt-leb}
 use lib.ListN.{length, get_or, set, take, drop, length-set, take-append-drop}
 use lib.Ieee.{Float}
 use borrow.Author.Tests.{leb-true, le-leb, not-true, not-false}
@@ -13,12 +16,20 @@ use Rattle.numbers.specs.Lists.{all}
 use Rattle.numbers.proofs.Bools.{and_t}
 use Rattle.parts.proofs.Lent.{part, back, part_length, part_all, back_is, back_length}
 use Rattle.chain_theory.specs.Columns.{ChainColumns}
+use Rattle.chain_theory.specs.Lent.{of_chain}
 use Rattle.distance_theory.specs.Pairs.{most}
 use Rattle.distance_theory.proofs.Longs.{all_one, all_more}
 use Rattle.distance_theory.proofs.Index.{look_up}
-use Rattle.distance_theory.proofs.Bests.{Laid, laid}
-use Rattle.distance_theory.proofs.PairRows.{lay_pair, part_fits, part_kept}
-use Rattle.distance_words.proofs.Store.{Filled, filled, Laying, fill_from, laying_of, counted, fill_if}
+use Rattle.distance_theory.specs.Lent.{HasPair}
+use Rattle.distance_theory.specs.declared.lent.Task.{Task}
+use Rattle.distance_theory.proofs.Bests.{Laid, laid, laid_as, laid_some, laid_none}
+use Rattle.distance_theory.proofs.PairRows.{lay_pair, lay_pair_of, part_fits, part_kept}
+use Rattle.distance_words.proofs.Store.{Filled, filled, Laying, fill_from, laying_of, laying_in, counted, fill_if}
+
+-- what ends in a refusal
+pub refused : {A E : Type 0} (r : Result A E) (P : E → Type 0) → IsErrAnd r P → {s l p : List ℕ} {m : List Float} {W : Filled} → filled false s l p m ≡ W → filled (is_ok r) s l p m ≡ W
+refused (Ok x) P h e = absurd h
+refused (Err x) P h e = e
 
 -- ---- any laying
 
@@ -81,13 +92,13 @@ module _ (lefts rights codes : List ℕ) (C D : ChainColumns) {n : ℕ} {s₀ l�
   one_more = omega arith
 
   -- it was laid: how long it is
-  pub cells_in : not d ≡ false → (n' ≤ 1024) × (at + n' ≤ length p) × (at + n' ≤ length m)
+  cells_in : not d ≡ false → (n' ≤ 1024) × (at + n' ≤ length p) × (at + n' ≤ length m)
   cells_in t =
       let (a, b, c) = part_fits (look_up codes) C D (length codes) x y (part at p) (part at m) R E (not-false d t) in
       let u = part_length at p in let w = part_length at m in let i = F.in_places in let j = F.in_masses in
       (a, omega arith, omega arith)
 
-  pub fills_next : not d ≡ false → length p' ≡ length (part at p) → length m' ≡ length (part at m) → Fills lay n s₀ l₀ p₀ m₀ (k + 1) (at + n') (set s k at) (set l k n') (back at p p') (back at m m')
+  fills_next : not d ≡ false → length p' ≡ length (part at p) → length m' ≡ length (part at m) → Fills lay n s₀ l₀ p₀ m₀ (k + 1) (at + n') (set s k at) (set l k n') (back at p p') (back at m m')
   fills_next t zp zm =
       let (a, b, c) = cells_in t in
       let q = F.in_places in let r = F.in_masses in
@@ -111,7 +122,7 @@ module _ (lefts rights codes : List ℕ) (C D : ChainColumns) {n : ℕ} {s₀ l�
       }
 
   -- it was not
-  pub fills_stop : not d ≡ true → filled false s l (back at p p') (back at m m') ≡ fill_from lay n 0 0 s₀ l₀ p₀ m₀
+  fills_stop : not d ≡ true → filled false s l (back at p p') (back at m m') ≡ fill_from lay n 0 0 s₀ l₀ p₀ m₀
   fills_stop t =
       let (a, b) = part_kept (look_up codes) C D (length codes) x y (part at p) (part at m) R E (not-true d t) in
       ap₂ (λ (u : List ℕ) (w : List Float). filled false s l u w)
@@ -119,13 +130,33 @@ module _ (lefts rights codes : List ℕ) (C D : ChainColumns) {n : ℕ} {s₀ l�
       (back_is at m m' F.in_masses ∙ ap (λ (u : List Float). take at m ++ u) (b ∙ part_all at m) ∙ take-append-drop at m)
       ∙ fill_none lay (n - (k + 1)) k at s l p m R is_part (not-true d t) ∙ ap (λ (v : ℕ). fill_from lay v k at s l p m) (sym one_more) ∙ F.comes
 
+-- the same by what `lay_pair` answers for pair k of a task
+module _ (T : Task) {s₀ l₀ p₀ : List ℕ} {m₀ : List Float} {k at : ℕ} {s l p : List ℕ} {m : List Float}
+    (F : Fills (laying_in T) (length T.pairs.lefts.now) s₀ l₀ p₀ m₀ k at s l p m) (h : k < length T.pairs.lefts.now) (b : length T.pairs.lefts.now ≤ length T.pairs.rights.now)
+    (o : Option ℕ) (p' : List ℕ) (m' : List Float) (L : HasPair T k → laid_as o p' m' ≡ lay_pair_of T k (part at p) (part at m)) where
+  answer : laid_as o p' m' ≡ lay_pair_of T k (part at p) (part at m)
+  answer = L (h, omega arith)
+
+  module _ {n' : ℕ} (e : o ≡ Some n') where
+    pub cells_here : (n' ≤ 1024) × (at + n' ≤ length p) × (at + n' ≤ length m)
+    cells_here = cells_in T.pairs.lefts.now T.pairs.rights.now T.pairs.codes.now (of_chain T.left) (of_chain T.right) F h _ _ refl refl true n' p' m' (laid_some e answer) refl
+
+    pub fills_on : length p' ≡ length (part at p) → length m' ≡ length (part at m) → Fills (laying_in T) (length T.pairs.lefts.now) s₀ l₀ p₀ m₀ (k + 1) (at + n') (set s k at) (set l k n') (back at p p') (back at m m')
+    fills_on = fills_next T.pairs.lefts.now T.pairs.rights.now T.pairs.codes.now (of_chain T.left) (of_chain T.right) F h _ _ refl refl true n' p' m' (laid_some e answer) refl
+
+  pub fills_ended : o ≡ None → filled false s l (back at p p') (back at m m') ≡ fill_from (laying_in T) (length T.pairs.lefts.now) 0 0 s₀ l₀ p₀ m₀
+  fills_ended e = fills_stop T.pairs.lefts.now T.pairs.rights.now T.pairs.codes.now (of_chain T.left) (of_chain T.right) F h _ _ refl refl false 0 p' m' (laid_none e answer) refl
+
 -- ---- the check of the counts
 
-pub counted_is : (n rights starts lengths : ℕ) → all (leb n) (most ∷ rights ∷ starts ∷ lengths ∷ []) ≡ counted n n rights starts lengths
-counted_is n rights starts lengths =
-    all_more (leb n) most (rights ∷ starts ∷ lengths ∷ []) (leb n rights && (leb n starts && leb n lengths))
-    (all_more (leb n) rights (starts ∷ lengths ∷ []) (leb n starts && leb n lengths) (all_more (leb n) starts (lengths ∷ []) (leb n lengths) (all_one (leb n) lengths)))
-    ∙ ap (λ (b : Bool). leb n most && (b && (leb n rights && (leb n starts && leb n lengths)))) (sym (le-leb n n (omega arith)))
+pub counted_is : (n rights starts lengths : ℕ) → n ≤ 4096 → all (leb n) (rights ∷ starts ∷ lengths ∷ []) ≡ counted n n rights starts lengths
+counted_is n rights starts lengths h =
+    all_more (leb n) rights (starts ∷ lengths ∷ []) (leb n starts && leb n lengths) (all_more (leb n) starts (lengths ∷ []) (leb n lengths) (all_one (leb n) lengths))
+    ∙ ap₂ (λ (a b : Bool). a && (b && (leb n rights && (leb n starts && leb n lengths)))) (sym (le-leb n most h)) (sym (le-leb n n (omega arith)))
+
+-- too many
+pub counted_not : (n rights starts lengths : ℕ) → 4096 < n → false ≡ counted n n rights starts lengths
+counted_not n rights starts lengths h = ap (λ (b : Bool). b && (leb n n && (leb n rights && (leb n starts && leb n lengths)))) (sym (lt-leb n most h))
 
 module _ (n lefts rights starts lengths : ℕ) (b : Bool) (e : b ≡ counted n lefts rights starts lengths) where
   pub counts_known : not b ≡ false → (n ≤ 4096) × (n ≤ rights) × (n ≤ starts) × (n ≤ lengths)

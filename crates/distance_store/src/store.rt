@@ -18,10 +18,9 @@ fn fill_each(task: &Task, store: &mut StoreMut) -> Result<(), Refusal>
 {
     let mut at = 0;
     for k in 0..task.pairs.lefts.len() {
-        let part = lay_pair(task, k, &mut store.places[at..], &mut store.masses[at..]);
-        let Some(cells) = part else {
-            return Err(Refusal::CouplingStore);
-        };
+        let cells = lay_pair(task, k, &mut store.places[at..], &mut store.masses[at..]).ok_or(
+            Refusal::CouplingStore,
+        )?;
         store.starts[k] = at as u32;
         store.lengths[k] = cells as u32;
         at += cells;
@@ -37,12 +36,11 @@ pub fn lay_store(task: &Task, store: &mut StoreMut) -> Result<(), Refusal>
 {
     let n = task.pairs.lefts.len();
     let lengths = [
-        4096,
         task.pairs.rights.len(),
         store.starts.len(),
         store.lengths.len(),
     ];
-    if !long(n, &lengths) {
+    if n > 4096 || !long(n, &lengths) {
         return Err(Refusal::CouplingStore);
     }
     fill_each(task, store)

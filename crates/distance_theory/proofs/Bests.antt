@@ -9,10 +9,10 @@ use lib.Dec.{eqb, leb}
 use lib.ListN.{length, get_or, set, length-map, get_or-map, get_or-append}
 use lib.Seq.{ext_get_or}
 use lib.Ieee.{Float, nan, binary64, mul, div}
-use borrow.Author.Tests.{eqb-true, leb-true, not-true, not-false}
+use borrow.Author.Tests.{eqb-true, leb-true, not-false}
 use Rattle.numbers.specs.Lists.{over, span}
 use Rattle.numbers.specs.Real.{nought, sum}
-use Rattle.numbers.proofs.Bools.{and_t, and_first, and_second}
+use Rattle.numbers.proofs.Bools.{and_t}
 use Rattle.numbers.proofs.Members.{in_at}
 use Rattle.numbers.proofs.Spans.{span_length}
 use Rattle.numbers.proofs.Over
@@ -138,18 +138,6 @@ module _ (look : Look) (xs : List ℕ) (ps : List Float) (ys : List ℕ) (qs : L
   -- the cheapest one
   abbrev pub best_on : List Float → Bested
   best_on v = best_if all_fits (best_by (point_mass (jumps_of xs ps) (jumps_of ys qs)) look v (jumps_of xs ps) (jumps_of ys qs)) places masses
-
--- the tests, one after the other
-module _ (xs ps ys qs codes places masses : ℕ) where
-  pub no_rows : (u : Bool) → u ≡ rows_fit xs ps ys qs codes → not u ≡ true → false ≡ fitting xs ps ys qs codes places masses
-  no_rows u e h = let f : rows_fit xs ps ys qs codes ≡ false = sym e ∙ not-true u h in sym f ∙ and_first _ _ f
-
-  module _ (u : Bool) (e : u ≡ rows_fit xs ps ys qs codes) (h : not u ≡ false) where
-    pub no_cells : (w : Bool) → w ≡ cells_fit xs ys places masses → not w ≡ true → false ≡ fitting xs ps ys qs codes places masses
-    no_cells w f k = and_second _ _ _ (sym e ∙ not-false u h) (sym (not-true w k) ∙ f)
-
-    pub both_fit : (w : Bool) → w ≡ cells_fit xs ys places masses → not w ≡ false → true ≡ fitting xs ps ys qs codes places masses
-    both_fit w f k = and_second _ _ _ (sym e ∙ not-false u h) (sym (not-false w k) ∙ f)
 
 pub cells_room : (m n places masses : ℕ) (w : Bool) → w ≡ cells_fit m n places masses → not w ≡ false → (m * n ≤ places) × (m * n ≤ masses)
 cells_room m n places masses w f k = let (a, b) = and_t (leb (m * n) places) _ (sym f ∙ not-false w k) in (leb-true (m * n) places a, leb-true (m * n) masses b)

@@ -16,8 +16,8 @@ use Rattle.numbers.specs.Refuse.{check, answered, number}
 use Rattle.numbers.specs.declared.refusal.Refusal.{Refusal}
 use Rattle.numbers.specs.Lists.{In, over}
 use Rattle.numbers.specs.Sort.{insert}
-use borrow.Author.Tests.{ltb-true, ltb-false, leb-true, not-true, lt-ltb, le-ltb, ne_eqb}
-use Rattle.numbers.proofs.Refuses.{check_hit, check_skip}
+use borrow.Author.Tests.{ltb-true, ltb-false, leb-true, not-true, le-ltb, ne_eqb}
+use Rattle.numbers.proofs.Refuses.{check_skip}
 use Rattle.numbers.proofs.Bools.{and_t}
 use Rattle.numbers.proofs.Members.{in_at, in_left, in_right, in_snoc, apart_snoc}
 use Rattle.numbers.proofs.Sorts.{insert_here, insert_past}
@@ -25,6 +25,8 @@ use Rattle.epsdelta_theory.specs.Jumps.{Jump, targets}
 use Rattle.epsdelta_theory.proofs.RowsIn.{pushed, put}
 use Rattle.epsdelta_theory.proofs.RowReads.{starts_up, jumps_targets}
 use Rattle.chain_theory.specs.Chain.{Chain}
+use Rattle.chain_theory.specs.declared.Chain.{Chain as Lent}
+use Rattle.chain_theory.specs.Lent.{of_chain}
 use Rattle.chain_theory.specs.Columns.{ChainColumns, begins, chain_of}
 use Rattle.chain_theory.specs.Check.{misshapen}
 use Rattle.chain_theory.specs.declared.ChainShape.{ChainShape}
@@ -77,6 +79,13 @@ discoverable HL CL HR CR l r c = long (length l) (length r) (length c) && (reada
 abbrev pub discover : ChainShape → ChainColumns → ChainShape → ChainColumns → List ℕ → List ℕ → List ℕ → Discovery
 discover HL CL HR CR l r c = listed_if (discoverable HL CL HR CR l r c) (pairs (chain_of HL CL) (chain_of HR CR)) l r c
 
+-- the same of chains and lists that are lent
+abbrev pub discoverable_in : Lent → Lent → PairsMut → Bool
+discoverable_in L R P = discoverable L.shape (of_chain L) R.shape (of_chain R) P.lefts.now P.rights.now P.codes.now
+
+abbrev pub discover_in : Lent → Lent → PairsMut → Discovery
+discover_in L R P = discover L.shape (of_chain L) R.shape (of_chain R) P.lefts.now P.rights.now P.codes.now
+
 -- ---- what they hold at every time
 
 -- the pairs found so far, of a and b states, over lists that were l₀, r₀ and c₀
@@ -104,11 +113,12 @@ Takes ps n l r c n' l' r' c' =
 abbrev pub Noting : PairsMut → Type 0
 Noting P = Lists P.count P.lefts.now P.rights.now P.codes.now
 
--- what a pair that is met answers, and how many pairs there are then: those that are noted, or one more for which 17 came up
-abbrev pub Over : Result (Unit {0}) Refusal → Type 0
-Over (Ok u) = Unit {0}
-Over (Err r) = number r ≡ 17
+-- a refusal is 17, and 4,096 pairs are noted then
+abbrev pub Over : Result (Unit {0}) Refusal → PairsMut → Type 0
+Over (Ok u) Q = Unit {0}
+Over (Err r) Q = (number r ≡ 17) × (Q.count ≡ most)
 
+-- how many pairs there are: those that are noted, or one more for which 17 came up
 abbrev pub counted : Result (Unit {0}) Refusal → ℕ → ℕ
 counted (Ok u) n = n
 counted (Err r) n = suc most
@@ -116,13 +126,17 @@ counted (Err r) n = suc most
 abbrev pub Taken : List Pair → Result (Unit {0}) Refusal → PairsMut → PairsMut → Type 0
 Taken ps a P Q = Takes ps P.count P.lefts.now P.rights.now P.codes.now (counted a Q.count) Q.lefts.now Q.rights.now Q.codes.now
 
+-- how many there are, and what the lists hold then
+abbrev pub discovered_as : Result (Unit {0}) Refusal → PairsMut → Discovery
+discovered_as a Q = discovered (counted a Q.count) Q.lefts.now Q.rights.now Q.codes.now
+
 abbrev pub Meets : List Pair → Result (Unit {0}) Refusal → PairsMut → PairsMut → Type 0
-Meets ps a P Q = Over a × Noting Q × Taken ps a P Q
+Meets ps a P Q = Over a Q × Noting Q × Taken ps a P Q
 
 -- 17 is handed on
 pub handed : (ps : List Pair) (P Q : PairsMut) (a : Result (Unit {0}) Refusal) (r : Refusal) → IsErrAnd a (λ e. e ≡ r) → Meets ps (Err r) P Q → Meets ps a P Q
 handed ps P Q (Ok u) r h M = absurd h
-handed ps P Q (Err s) r h (o, N, T) = (ap number h ∙ o, N, T)
+handed ps P Q (Err s) r h ((o, k), N, T) = ((ap number h ∙ o, k), N, T)
 
 -- the number of the refusal, or how many pairs were found; and the lists then
 pub record Found : Type 0 where
@@ -133,6 +147,19 @@ pub record Found : Type 0 where
 
 abbrev pub found : Result ℕ ℕ → List ℕ → List ℕ → List ℕ → Found
 found a l r c = record { answer = a; lefts = l; rights = r; codes = c }
+
+-- how many pairs are noted then: those that were found, 4,096 of more, and as many as before where nothing was looked for
+abbrev pub CountLeft : Result ℕ Refusal → PairsMut → PairsMut → Type 0
+CountLeft (Ok n) P Q = Q.count ≡ n
+CountLeft (Err r) P Q = (number r ≡ 17 → Q.count ≡ most) × (number r ≡ 4 → Q.count ≡ P.count)
+
+-- 17 is handed on
+pub count_left : (a : Result ℕ Refusal) (r : Refusal) (P Q : PairsMut) → IsErrAnd a (λ e. e ≡ r) → Over (Err r) Q → CountLeft a P Q
+count_left (Ok n) r P Q h o = absurd h
+count_left (Err s) r P Q h (o, k) = (λ e. k, λ e. absurd (let f = ap number h ∙ o in omega arith))
+
+abbrev pub found_as : Result ℕ ℕ → PairsMut → Found
+found_as a Q = found a Q.lefts.now Q.rights.now Q.codes.now
 
 -- 4 where nothing can be looked for, 17 where there are over 4,096 pairs
 abbrev pub found_refusal : ℕ → ℕ
@@ -446,6 +473,16 @@ abbrev pub Explores : List ℕ → List ℕ → List ℕ → List ℕ → List �
 Explores O T P U l r c n l' r' c' =
     (A B : Chain) (a b : ℕ) (l₀ r₀ c₀ : List ℕ) → Reads a A O T → Reads b B P U → Finds A B a b l₀ r₀ c₀ 0 1 l r c → Noted a b (pairs A B) l₀ r₀ c₀ n l' r' c'
 
+-- the same of chains and lists that are lent
+abbrev pub ExplorableIn : Lent → Lent → PairsMut → Type 0
+ExplorableIn L R P = Explorable L.offsets.now L.targets.now R.offsets.now R.targets.now P.lefts.now P.rights.now P.codes.now
+
+abbrev pub DiscoversIn : Lent → Lent → PairsMut → ℕ → PairsMut → Type 0
+DiscoversIn L R P i Q = Discovers L.offsets.now L.targets.now R.offsets.now R.targets.now P.lefts.now P.rights.now P.codes.now i Q.count Q.lefts.now Q.rights.now Q.codes.now
+
+abbrev pub ExploresIn : Lent → Lent → PairsMut → Result (Unit {0}) Refusal → PairsMut → Type 0
+ExploresIn L R P a Q = Explores L.offsets.now L.targets.now R.offsets.now R.targets.now P.lefts.now P.rights.now P.codes.now (counted a Q.count) Q.lefts.now Q.rights.now Q.codes.now
+
 module _ (A B : Chain) (a b : ℕ) (O T P U : List ℕ) (Ra : Reads a A O T) (RB : Reads b B P U) where
   -- the initial pair
   pub finds_start : (x y : ℕ) → A.initial ≡ x → B.initial ≡ y → (l r c : List ℕ) → most ≤ length l → most ≤ length r → most ≤ length c → Finds A B a b l r c 0 1 (set l 0 x) (set r 0 y) (set c 0 (code (pair x y) 0))
@@ -549,9 +586,9 @@ module _ {O T P U l r c : List ℕ} {i n : ℕ} {l' r' c' : List ℕ} (D : Disco
   discovers_end h A B a b l₀ r₀ c₀ Ra RB F = finds_end A B a b O T P U Ra RB l₀ r₀ c₀ i n l' r' c' (D A B a b l₀ r₀ c₀ Ra RB F) h
 
 -- 17 is handed on
-pub explored : {O T P U l r c : List ℕ} {i : ℕ} {l' r' c' : List ℕ} (a : Result (Unit {0}) Refusal) (e : Refusal) (n : ℕ) → IsErrAnd a (λ d. d ≡ e) → number e ≡ 17 → Discovers O T P U l r c i (suc most) l' r' c' → Over a × Explores O T P U l r c (counted a n) l' r' c'
-explored (Ok u) e n h f D = absurd h
-explored (Err s) e n h f D = (ap number h ∙ f, discovers_full D (omega arith))
+pub explored : {O T P U l r c : List ℕ} {i : ℕ} {l' r' c' : List ℕ} (a : Result (Unit {0}) Refusal) (e : Refusal) (Q : PairsMut) → IsErrAnd a (λ d. d ≡ e) → Over (Err e) Q → Discovers O T P U l r c i (suc most) l' r' c' → Over a Q × Explores O T P U l r c (counted a Q.count) l' r' c'
+explored (Ok u) e Q h f D = absurd h
+explored (Err s) e Q h (f, k) D = ((ap number h ∙ f, k), discovers_full D (omega arith))
 
 -- ---- the whole
 
@@ -583,10 +620,6 @@ roomy l r c e =
     (leb-true most l a₁, leb-true most r a₃, leb-true most c a₄)
 
 module _ (HL : ChainShape) (CL : ChainColumns) (HR : ChainShape) (CR : ChainColumns) (l r c : List ℕ) where
-  -- nothing is looked for where it can't be
-  pub undiscovered : discoverable HL CL HR CR l r c ≡ false → found (Err 4) l r c ≡ found_in (discover HL CL HR CR l r c)
-  undiscovered e = ap (λ (b : Bool). found_in (listed_if b (pairs (chain_of HL CL) (chain_of HR CR)) l r c)) (sym e)
-
   module _ (h : discoverable HL CL HR CR l r c ≡ true) where
     rooms : long (length l) (length r) (length c) ≡ true
     rooms = (and_t (long (length l) (length r) (length c)) _ h).0
@@ -625,6 +658,3 @@ module _ (HL : ChainShape) (CL : ChainColumns) (HR : ChainShape) (CR : ChainColu
 
     pub found_few : n ≤ most → found (Ok n) l₁ r₁ c₁ ≡ found_in (discover HL CL HR CR l r c)
     found_few k = let s = some_found in with_refusal 0 (check_skip 4 (eqb n 0) _ 0 (ne_eqb n 0 (λ q. absurd (omega arith))) (check_skip 17 (ltb most n) 0 0 (le-ltb most n k) refl))
-
-    pub found_many : most < n → found (Err 17) l₁ r₁ c₁ ≡ found_in (discover HL CL HR CR l r c)
-    found_many k = let s = some_found in with_refusal 17 (check_skip 4 (eqb n 0) _ 17 (ne_eqb n 0 (λ q. absurd (omega arith))) (check_hit 17 (ltb most n) 0 (lt-ltb most n k)))

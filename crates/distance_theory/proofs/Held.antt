@@ -5,12 +5,11 @@ use Prim.Native.Nat.{ℕ, zero, suc, ◌+◌, ◌-◌, ◌≤◌, ◌<◌, min}
 use mathlib.Core.List.{List, [], ◌∷◌, map}
 use native.Mathlib.Omega.{arith}
 use native.Mathlib.Nat.{le_of_suc-le-suc, not-suc-le-zero}
-use lib.ListN.{length, get_or, set, take, drop, length-map, length-take}
-use lib.Seq.{slice, length-slice, get_or-drop, get_or-take, take-set-le, take-set-lt, drop-set-lt}
+use lib.ListN.{length, get_or, take, drop, length-map, length-take}
+use lib.Seq.{slice, length-slice, get_or-drop, get_or-take}
 use lib.Ieee.{Float, nan}
 use Rattle.std.proofs.lemmas.List.{drop-take, take_min, drop_min}
 use Rattle.numbers.specs.Lists.{span}
-use Rattle.numbers.proofs.Bools.{lt_or_ge}
 use Rattle.numbers.proofs.Spans.{span_length}
 use Rattle.epsdelta_theory.proofs.Rows.{at_map_span}
 use Rattle.distance_theory.specs.Couplings.{Share, share, shares_of}
@@ -95,10 +94,7 @@ leads_past H = record { each = λ i h. H.each (suc i) (omega arith) }
 pub part_is : {A : Type 0} (a b : ℕ) (l : List A) → a ≤ b → take (b - a) (drop a l) ≡ slice a b l
 part_is a b l h = let e : a + (b - a) ≡ b = omega arith in sym (drop-take a (b - a) l) ∙ ap (λ (n : ℕ). slice a n l) e
 
--- a coupling that lies in the store, in parts of two lists: what it holds, and that each of its places is that of a pair
-pub part_shares : (P : List ℕ) (M : List Float) (a b : ℕ) → a ≤ b → shares_of (take (b - a) (drop a P)) (take (b - a) (drop a M)) ≡ shares_in P M a b
-part_shares P M a b h = ap₂ shares_of (part_is a b P h) (part_is a b M h)
-
+-- each place of a coupling that lies in the store is that of a pair
 pub part_leads : {P : List ℕ} {M : List Float} {n a b : ℕ} → Lies P M n a b → Leads n (take (b - a) (drop a P))
 part_leads {P} {M} {n} {a} {b} H = rw (part_is a b P H.ordered) (record { each = λ i h. low i h })
   where
@@ -108,28 +104,13 @@ part_leads {P} {M} {n} {a} {b} H = rw (part_is a b P H.ordered) (record { each =
         let z : a + i - a ≡ i = omega arith in
         subst (λ (j : ℕ). get_or (slice a b P) j 0 < n) z (rw (slice_at a b (a + i) P 0 (omega arith) (omega arith)) (H.leads (a + i) (omega arith) (omega arith)))
 
--- how many shares there are from a to b, and the one at place i
+-- the share at place i
 module _ {P : List ℕ} {M : List Float} {n a b : ℕ} (H : Lies P M n a b) where
-  pub in_length : length (shares_in P M a b) ≡ b - a
-  in_length = shares_length (slice a b P) (slice a b M) (length-slice a b P H.in_places ∙ sym (length-slice a b M H.in_masses)) ∙ length-slice a b P H.in_places
-
   pub in_at : (i : ℕ) → a ≤ i → i < b → share_at (shares_in P M a b) (i - a) ≡ share (get_or P i 0) (get_or M i nan)
   in_at i h k =
       let p = length-slice a b P H.in_places in
       let m = length-slice a b M H.in_masses in
       shares_at (slice a b P) (slice a b M) (i - a) (omega arith) (omega arith) ∙ ap₂ share (slice_at a b i P 0 h k) (slice_at a b i M nan h k)
-
--- what a write elsewhere leaves
-slice_kept : {A : Type 0} (a b : ℕ) (l : List A) (i : ℕ) (x : A) → (i < a) ⊎ (b ≤ i) → slice a b (set l i x) ≡ slice a b l
-slice_kept a b l i x (inr h) = ap (drop a) (take-set-le b l i x h)
-slice_kept a b l i x (inl h) = pick (lt_or_ge i b)
-  where
-    pick : (i < b) ⊎ (b ≤ i) → slice a b (set l i x) ≡ slice a b l
-    pick (inl k) = ap (drop a) (take-set-lt b l i x k) ∙ drop-set-lt a (take b l) i x h
-    pick (inr k) = ap (drop a) (take-set-le b l i x k)
-
-pub in_kept : (P : List ℕ) (M : List Float) (a b i p : ℕ) (m : Float) → (i < a) ⊎ (b ≤ i) → shares_in (set P i p) (set M i m) a b ≡ shares_in P M a b
-in_kept P M a b i p m h = ap₂ shares_of (slice_kept a b P i p h) (slice_kept a b M i m h)
 
 -- of the entries from a to b those that there are, as code lends them
 pub part_there : {A : Type 0} (a b : ℕ) (l : List A) {m n : ℕ} → n ≡ min b (length l) → m ≡ min a n → take (n - m) (drop m l) ≡ slice a b l

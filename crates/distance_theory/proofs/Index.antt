@@ -11,7 +11,9 @@ use lib.ListN.{length, get_or}
 use borrow.Author.Tests.{ltb-true, lt-ltb, le-ltb, eqb-true, eq-eqb}
 use Rattle.numbers.specs.Lists.{In}
 use Rattle.numbers.specs.Sort.{put, insert, sort}
-use Rattle.numbers.proofs.Bools.{and_t, lt_or_ge, eq_or_ne}
+use Rattle.numbers.proofs.Bools.{and_t, and_first, and_second, lt_or_ge, eq_or_ne}
+use Rattle.std.specs.Prelude.{Option, None, unwrap_or}
+use Rattle.std.specs.Bool.{then_some}
 use Rattle.numbers.proofs.Members.{Apart, in_at, at_in}
 use Rattle.numbers.proofs.Sorts.{All, Sorted, sort_sorted, sort_length, sort_mid, all_sort, all_at, sorted_at}
 use Rattle.distance_theory.specs.Pairs.{Pair, pair, pair_at, place, most}
@@ -23,6 +25,10 @@ use Rattle.distance_theory.proofs.Explore.{place_in, place_at, place_of, place_n
 -- a pair as one number; its right state is below 2,048
 abbrev pub key : Pair → ℕ
 key p = p.left * 2048 + p.right
+
+-- 2,049 × 2^32: above the keys of all pairs of u32
+abbrev pub past_keys : ℕ
+past_keys = 8800387989504
 
 -- pair p, which is number k
 abbrev pub code : Pair → ℕ → ℕ
@@ -62,7 +68,12 @@ abbrev pub number_if : Bool → ℕ → ℕ → ℕ
 number_if true c n = c % 4096
 number_if false c n = n
 
--- the number of a pair: how many codes there are if none is its own
+-- the number of a pair, none if no code is its own
+unfoldable pub looked : List ℕ → Pair → Option ℕ
+unfolding keyed
+looked l p = let at = keyed l (key p) in then_some (ltb p.right 2048 && is_at l at (key p)) (get_or l at 0 % 4096)
+
+-- the same: how many codes there are if none is its own
 unfoldable pub look_up : List ℕ → Pair → ℕ
 unfolding keyed
 look_up l p = let at = keyed l (key p) in number_if (ltb p.right 2048 && is_at l at (key p)) (get_or l at 0) (length l)
@@ -78,7 +89,7 @@ unfolding below
 below_ge c k h = rw (le-ltb (c / 4096) k h, below)
 
 -- the sign of a difference
-pub below_sign : (c k : ℕ) → c < 18446744073709551616 → k ≤ 8800387989504 → (k + 9223372036854775807 - c / 4096) / 9223372036854775808 ≡ below c k
+pub below_sign : (c k : ℕ) → c < 18446744073709551616 → k ≤ past_keys → (k + 9223372036854775807 - c / 4096) / 9223372036854775808 ≡ below c k
 below_sign c k g h = pick (lt_or_ge (c / 4096) k)
   where
     pick : (c / 4096 < k) ⊎ (k ≤ c / 4096) → (k + 9223372036854775807 - c / 4096) / 9223372036854775808 ≡ below c k
@@ -98,25 +109,39 @@ module _ (l : List ℕ) (k : ℕ) where
 -- ---- what a look-up answers
 
 module _ (l : List ℕ) (p : Pair) (k at : ℕ) (ek : k ≡ key p) (ea : at ≡ keyed l k) where
-  abbrev answer : ℕ → ℕ
-  answer j = number_if (ltb p.right 2048 && is_at l j (key p)) (get_or l j 0) (length l)
+  abbrev found_by : Bool → ℕ → ℕ → Option ℕ
+  found_by b i j = then_some (b && is_at l i j) (get_or l i 0 % 4096)
 
-  answered : answer at ≡ look_up l p
-  unfolding look_up
-  answered = ap answer (ea ∙ ap (keyed l) ek)
+  looked_so : found_by (ltb p.right 2048) at k ≡ looked l p
+  unfolding looked
+  looked_so = ap₂ (found_by (ltb p.right 2048)) (ea ∙ ap (keyed l) ek) ek
 
-  pub look_hit : p.right < 2048 → is_at l at k ≡ true → get_or l at 0 % 4096 ≡ look_up l p
-  look_hit h e = rw (lt-ltb p.right 2048 h, sym (ap (is_at l at) ek) ∙ e) at answered
+  module _ (h : p.right < 2048) where
+    in_reach : (b : Bool) → b ≡ is_at l at k → then_some b (get_or l at 0 % 4096) ≡ looked l p
+    in_reach b e = ap (λ (z : Bool). then_some z (get_or l at 0 % 4096)) e ∙ ap (λ (z : Bool). found_by z at k) (sym (lt-ltb p.right 2048 h)) ∙ looked_so
 
-  pub look_other : p.right < 2048 → is_at l at k ≡ false → length l ≡ look_up l p
-  look_other h e = rw (lt-ltb p.right 2048 h, sym (ap (is_at l at) ek) ∙ e) at answered
+    -- no code stands there
+    pub look_past : length l ≤ at → None ≡ looked l p
+    look_past g = let e = le-ltb at (length l) g in in_reach false (sym e ∙ and_first (ltb at (length l)) (eqb (get_or l at 0 / 4096) k) e)
 
-  pub is_within : is_at l at k ≡ true → at < length l
-  is_within e = ltb-true at (length l) (and_t (ltb at (length l)) (eqb (get_or l at 0 / 4096) k) e).0
+    -- code c does, and it is the pair's or is not
+    pub look_there : at < length l → (c : ℕ) (b : Bool) → c ≡ get_or l at 0 → b ≡ eqb (c / 4096) k → then_some b (c % 4096) ≡ looked l p
+    look_there g c b e f =
+        ap (λ (z : ℕ). then_some b (z % 4096)) e
+        ∙ in_reach b (and_second _ _ b (lt-ltb at (length l) g) (f ∙ ap (λ (z : ℕ). eqb (z / 4096) k) e))
 
-pub look_high : (l : List ℕ) (p : Pair) → 2048 ≤ p.right → length l ≡ look_up l p
-unfolding look_up
+pub look_high : (l : List ℕ) (p : Pair) → 2048 ≤ p.right → None ≡ looked l p
+unfolding looked
 look_high l p h = rw (le-ltb p.right 2048 h)
+
+-- the number, where it is told by how many codes there are that there is none
+pub number_looked : (l : List ℕ) (p : Pair) → unwrap_or (looked l p) (length l) ≡ look_up l p
+unfolding looked look_up
+number_looked l p = pick (ltb p.right 2048 && is_at l (keyed l (key p)) (key p))
+  where
+    pick : (b : Bool) → unwrap_or (then_some b (get_or l (keyed l (key p)) 0 % 4096)) (length l) ≡ number_if b (get_or l (keyed l (key p)) 0) (length l)
+    pick true = refl
+    pick false = refl
 
 -- an answer is small
 pub look_few : (l : List ℕ) (p : Pair) (n : ℕ) → length l ≤ n → 4096 ≤ n → look_up l p ≤ n

@@ -47,21 +47,9 @@ module _ (look : Look) (C D : ChainColumns) (codes x y : ℕ) where
   abbrev pub best_pair : List Float → List ℕ → List Float → Bested
   best_pair v p m = bested_when (reads_row C x && reads_row D y) (best_read v p m) p m
 
--- ---- what is laid where a row is read, or is not
+-- ---- what is laid where both rows are read
 
 module _ (look : Look) (C D : ChainColumns) (codes x y : ℕ) where
-  pub left_unlaid : reads_row C x ≡ false → (p : List ℕ) (m : List Float) → laid false 0 p m ≡ lay_pair look C D codes x y p m
-  left_unlaid h p m = ap (λ (b : Bool). laid_when (b && reads_row D y) (lay_read look C D codes x y p m) p m) (sym h)
-
-  pub left_unbested : reads_row C x ≡ false → (v : List Float) (p : List ℕ) (m : List Float) → bested nought 0 p m ≡ best_pair look C D codes x y v p m
-  left_unbested h v p m = ap (λ (b : Bool). bested_when (b && reads_row D y) (best_read look C D codes x y v p m) p m) (sym h)
-
-  pub right_unlaid : reads_row C x ≡ true → reads_row D y ≡ false → (p : List ℕ) (m : List Float) → laid false 0 p m ≡ lay_pair look C D codes x y p m
-  right_unlaid h k p m = ap₂ (λ (a b : Bool). laid_when (a && b) (lay_read look C D codes x y p m) p m) (sym h) (sym k)
-
-  pub right_unbested : reads_row C x ≡ true → reads_row D y ≡ false → (v : List Float) (p : List ℕ) (m : List Float) → bested nought 0 p m ≡ best_pair look C D codes x y v p m
-  right_unbested h k v p m = ap₂ (λ (a b : Bool). bested_when (a && b) (best_read look C D codes x y v p m) p m) (sym h) (sym k)
-
   module _ (R S : Row) (RL : RowRead (Some R) C x) (RR : RowRead (Some S) D y) where
     pub pair_laid : (p : List ℕ) (m : List Float) (r : Laid) → r ≡ lay_on look R.targets.now R.probs.now S.targets.now S.probs.now codes p m → r ≡ lay_pair look C D codes x y p m
     pair_laid p m r e =

@@ -6,12 +6,14 @@ use mathlib.Core.List.{List}
 use lib.ListN.{length, get_or}
 use lib.Ieee.{Float}
 use Rattle.numbers.proofs.Bools.{and_t}
+use Rattle.std.specs.Prelude.{Option}
+use Rattle.distance_theory.specs.declared.lent.Best.{Best as Chosen}
 use Rattle.distance_theory.specs.declared.lent.Rows.{Rows}
 use Rattle.distance_theory.specs.declared.lent.SharesMut.{SharesMut}
 use Rattle.distance_theory.specs.Couplings.{Share, Best}
 use Rattle.distance_theory.proofs.Index.{look_up}
 use Rattle.distance_theory.proofs.PairRows.{row_jumps}
-use Rattle.distance_theory.proofs.Bests.{independent_by, best_by, values_by, rows_fit, fitting, Beside, beside, cells_room}
+use Rattle.distance_theory.proofs.Bests.{independent_by, best_by, values_by, rows_fit, fitting, Bested, bested_as, best_if, Beside, beside, cells_room}
 
 -- rows side by side, of few entries
 abbrev pub RowsBeside : Rows → Type 0
@@ -39,6 +41,13 @@ values_rows R v = values_by (look_up R.codes.now) v (row_jumps R.xs) (row_jumps 
 
 abbrev pub best_rows : Bool → Rows → List Float → Best
 best_rows b R v = best_by b (look_up R.codes.now) v (row_jumps R.xs) (row_jumps R.ys)
+
+-- what is answered, with the lists that are lent; and the cheapest coupling over their front, if they fit
+abbrev pub bested_in : Option Chosen → SharesMut → Bested
+bested_in r S = bested_as r S.places.now S.masses.now
+
+abbrev pub best_over : Bool → Best → SharesMut → Bested
+best_over b B S = best_if b B S.places.now S.masses.now
 
 module _ (R : Rows) (S : SharesMut) (e : rows_fitting R S ≡ true) where
   pub fitting_beside : RowsBeside R

@@ -34,10 +34,6 @@ pub independent_length : (found : List Pair) (es fs : List Jump) → length (ind
 unfolding independent
 independent_length found es fs = cross_length _ es fs
 
-pub values_length : (found : List Pair) (v : List Float) (es fs : List Jump) → length (values_at found v es fs) ≡ length es * length fs
-unfolding values_at
-values_length found v es fs = cross_length _ es fs
-
 pub rates_length : (es : List Jump) → length (rates es) ≡ length es
 rates_length es = length-map es (λ (j : Jump). j.rate)
 

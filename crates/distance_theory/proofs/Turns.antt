@@ -1,17 +1,17 @@
 -- One turn of each loop over places: the definition on what is still to come from place k is the definition on what comes from k + 1, with item k taken in.
 use mathlib.Core.Path.{◌≡◌, sym, ap, ◌∙◌}
 use Prim.Native.Nat.{ℕ, ◌<◌, ◌≤◌, ◌+◌, ◌*◌}
-use mathlib.Core.List.{List, [], ◌∷◌, map}
+use mathlib.Core.List.{List, [], ◌∷◌}
 use native.Mathlib.Numerals.{add-one}
-use lib.ListN.{length, get_or, set, drop, drop_of_length-le}
+use lib.ListN.{length, get_or, drop, drop_of_length-le}
 use lib.Seq.{drop-cons}
-use lib.Ieee.{Float, nan, binary64, add, mul, lt}
-use Rattle.numbers.specs.Real.{nought, is_zero, sum_from}
+use lib.Ieee.{Float, nan, lt}
+use Rattle.numbers.specs.Real.{nought, is_zero}
 use Rattle.transport_theory.specs.Transport.{keep}
-use Rattle.distance_theory.specs.Pairs.{Pair, pair, pair_at, meet, meet_all}
-use Rattle.distance_theory.specs.Couplings.{Share, share, weighed, Metric, row_l, row_r, room}
+use Rattle.distance_theory.specs.Pairs.{Pair, pair, pair_at}
+use Rattle.distance_theory.specs.Couplings.{Share, share, Metric, row_l, row_r, room}
 use Rattle.distance_theory.specs.Rounds.{Values, update, sweep, Improvement, improve, improve_all}
-use Rattle.distance_theory.specs.Contributions.{pour, Stay, stay, stay_all, contribution, contributions}
+use Rattle.distance_theory.specs.Contributions.{Stay, stay, stay_all, contribution, contributions}
 use Rattle.distance_theory.specs.declared.PairContribution.{PairContribution}
 
 abbrev pub share_at : List Share → ℕ → Share
@@ -27,15 +27,6 @@ module _ {A B : Type 0} (f : List A → B) (l : List A) (k : ℕ) where
 
   pub no_item : length l ≤ k → f (drop k l) ≡ f []
   no_item h = ap f (drop_of_length-le l h)
-
-pub meet_next : (ps l : List Pair) (k : ℕ) → k < length ps → meet_all (drop k ps) l ≡ meet_all (drop (k + 1) ps) (meet (pair_at ps k) l)
-unfolding meet_all
-meet_next ps l k h = next_item (λ (x : List Pair). meet_all x l) ps k (pair 0 0) h
-
-pub expected_next : (v : List Float) (cs : List Share) (x : Float) (i : ℕ) → i < length cs
-    → sum_from x (map (weighed v) (drop i cs)) ≡ sum_from (add binary64 x (weighed v (share_at cs i))) (map (weighed v) (drop (i + 1) cs))
-unfolding sum_from
-expected_next v cs x i h = next_item (λ (l : List Share). sum_from x (map (weighed v) l)) cs i (share 0 nan) h
 
 module _ (G : Metric) where
   pub sweep_next : (policy : List (List Share)) (k : ℕ) (w : Values) → k < length policy → sweep G k (drop k policy) w ≡ sweep G (k + 1) (drop (k + 1) policy) (update G k (coupling_at policy k) w)
@@ -56,11 +47,6 @@ module _ (G : Metric) where
   pub room_next : (ps : List Pair) (k : ℕ) → k < length ps → room G (drop k ps) ≡ length (row_l G (pair_at ps k)) * length (row_r G (pair_at ps k)) + room G (drop (k + 1) ps)
   unfolding room
   room_next ps k h = next_item (room G) ps k (pair 0 0) h
-
-pub pour_next : (x : Float) (cs : List Share) (next : List Float) (i : ℕ) → i < length cs
-    → pour x (drop i cs) next ≡ pour x (drop (i + 1) cs) (set next (share_at cs i).at (add binary64 (get_or next (share_at cs i).at nan) (mul binary64 x (share_at cs i).mass)))
-unfolding pour
-pour_next x cs next i h = next_item (λ (l : List Share). pour x l next) cs i (share 0 nan) h
 
 pub stay_next : (γ : Float) (now : List Float) (policy : List (List Share)) (k : ℕ) (w : Stay) → k < length policy
     → stay_all γ now k (drop k policy) w ≡ stay_all γ now (k + 1) (drop (k + 1) policy) (stay (is_zero (get_or now k nan)) γ (get_or now k nan) k (coupling_at policy k) w)

@@ -1,4 +1,4 @@
--- What is lent to be written.
+-- What is lent, to be read or written.
 use Rattle.std.specs.Prelude.{◌≡◌, ◌+◌, ◌<◌, ◌&&◌, false, ℕ, Option, Some, None, length, get_or}
 use Rattle.chain_theory.specs.Columns.{reads_row}
 use Rattle.chain_theory.specs.Lent.{of_chain, RowRead}

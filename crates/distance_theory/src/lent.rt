@@ -51,7 +51,7 @@ pub struct PairsMut<'a> {
 }
 
 // The coupling of each pair: where its shares start and how many they are, in lists of places of pairs and of masses.
-// Stays: places and masses are flat, though `Shares` is those two: `StoreMut::read` makes it of a `StoreMut`, which can't be nested.
+// Stays: places and masses are flat, though `Shares` is those two: with `shares: Shares` here `StoreMut::read` would make one of its two lists, which can't be nested, and `shares`, distance_values' `lies` and `coupling` would cut `shares.places` and `shares.masses` as they cut the two lists now; no line would go.
 #[derive(Clone, Copy, Debug)]
 pub struct Store<'a> {
     pub starts: &'a [u32],
@@ -161,7 +161,7 @@ impl<'a> Task<'a> {
 }
 
 // The lists that a run takes as scratch: those that its pairs are noted in, and the places and masses of couplings.
-// Stays: flat, as `StoreMut`; the lists of pairs too, though `PairsMut` is those three.
+// Stays: flat, as `StoreMut`; the lists of pairs too, though `PairsMut` is those three and a count.
 #[derive(Drop)]
 pub struct Scratch<'a> {
     pub lefts: &'a mut [u32],

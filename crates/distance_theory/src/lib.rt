@@ -7,7 +7,7 @@ ghost use Rattle.numbers.specs.Lists.{all};
 ghost use Rattle.distance_theory.specs.Rounds;
 ghost use Rattle.distance_theory.specs.Refusal;
 
-pub mod lent; // lent.rt: rows, pairs and couplings
+pub mod lent; // lent.rt: rows, pairs, couplings, the task of a run and its scratch
 
 use bisim_core::ids::StateId;
 use numbers::{EPS, larger};
@@ -64,6 +64,7 @@ pub fn excessive(options: MetricOptions) -> bool
 }
 
 // Whether each of these lengths is at least n.
+// Stays: n is no count of entries of `lengths` that are in use; it is what each of them is compared with.
 pub fn long(n: usize, lengths: &[usize]) -> bool
     ensures { result ≡ all (leb n) lengths.now }
 {

@@ -1,43 +1,20 @@
--- The loops of `sweeps` over rows: one share is one item of the sum, one pair one `update` of the definition, one sweep one `swept`.
-use mathlib.Core.Path.{◌≡◌, refl, sym, subst, ap, ◌∙◌}
+-- The loops of `sweeps` over rows: one pair is one `update` of the definition, one sweep one `swept`.
+use mathlib.Core.Path.{◌≡◌, refl, sym, ap, ◌∙◌}
 use Prim.Native.Nat.{ℕ, suc, ◌+◌, ◌-◌, ◌≤◌, ◌<◌}
 use mathlib.Core.Bool.{true, false}
-use mathlib.Core.List.{List, [], ◌∷◌, map}
-use mathlib.Core.Logic.{◌⊎◌}
+use mathlib.Core.List.{List, []}
 use native.Mathlib.Omega.{arith}
-use lib.ListN.{length, get_or, set, take, drop, length-set}
+use lib.ListN.{length, get_or, set, drop, length-set}
 use lib.Seq.{slice}
 use lib.Ieee.{Float, nan, binary64, add, mul, le}
-use Rattle.numbers.specs.Real.{nought, sum_from, sum}
 use Rattle.numbers.specs.Choice.{larger, apart}
-use Rattle.distance_theory.specs.Couplings.{Share, Metric, weighed, expected, shares_of}
+use Rattle.distance_theory.specs.Couplings.{Share, Metric, expected, shares_of}
 use Rattle.distance_theory.specs.Rounds.{Values, backup, update, sweep, swept, sweeps}
 use Rattle.distance_theory.proofs.Turns.{coupling_at, no_item, sweep_next}
 use Rattle.distance_theory.proofs.Lengths.{sweeps_on, sweeps_end}
-use Rattle.distance_theory.proofs.Held.{no_shares, coupling, policy_in, Leads, leads_past, part_is, part_leads, Holds, policy_length, policy_at}
+use Rattle.distance_theory.proofs.Held.{coupling, policy_in, Holds, policy_length, policy_at}
 use Rattle.distance_theory.proofs.ValueRows.{Swept}
 use Rattle.distance_words.proofs.Valuing.{priced}
-
--- ---- the shares of a coupling
-
--- what is still to come, places ps and masses ms, added to this is the sum of all
-pub record Adding (v : List Float) (P : List ℕ) (M : List Float) (x : Float) (ps : List ℕ) (ms : List Float) : Type 0 where
-  pub leads : Leads (length v) ps
-  pub same : sum_from x (map (weighed v) (shares_of ps ms)) ≡ expected v (shares_of P M)
-
-module _ {v : List Float} {P : List ℕ} {M : List Float} where
-  pub adding_starts : {ps : List ℕ} {ms : List Float} → ps ≡ P → ms ≡ M → Leads (length v) P → Adding v P M nought ps ms
-  unfolding expected sum
-  adding_starts e f H = rw (e, f) (record { leads = H; same = refl })
-
-  module _ {x : Float} {ps : List ℕ} {ms : List Float} (I : Adding v P M x ps ms) where
-    pub adding_on : {p : ℕ} {m : Float} {ps' : List ℕ} {ms' : List Float} → ps ≡ p ∷ ps' → ms ≡ m ∷ ms' → Adding v P M (add binary64 x (mul binary64 m (get_or v p nan))) ps' ms'
-    unfolding shares_of sum_from
-    adding_on e f = let J = rw (e, f) at I in record { leads = leads_past J.leads; same = J.same }
-
-    pub adding_ends : (ps ≡ []) ⊎ (ms ≡ []) → x ≡ expected v (shares_of P M)
-    unfolding sum_from shares_of
-    adding_ends h = ap (λ (l : List Share). sum_from x (map (weighed v) l)) (sym (no_shares ps ms h)) ∙ I.same
 
 -- ---- the pairs of a sweep
 
@@ -56,9 +33,6 @@ pub record Sweeping (S L P : List ℕ) (M c : List Float) (γ : Float) (v₀ v :
   pub same : sweep (priced γ c) k (drop k (policy_in S L P M (length v₀))) (values v d) ≡ swept (priced γ c) (policy_in S L P M (length v₀)) v₀
 
 module _ {S L P : List ℕ} {M c : List Float} {γ : Float} {v₀ : List Float} where
-  pub sweeping_starts : Sweeping S L P M c γ v₀ v₀ nought 0
-  sweeping_starts = record { ends = omega arith; size = refl; same = refl }
-
   module _ {v : List Float} {d : Float} {k : ℕ} (I : Sweeping S L P M c γ v₀ v d k) where
     -- pair k is one of them, and its coupling can be read
     pub pair_in_lem : k < length v → k < length v₀
@@ -66,9 +40,6 @@ module _ {S L P : List ℕ} {M c : List Float} {γ : Float} {v₀ : List Float} 
 
     pub pair_coupled : Holds S L P M (length v₀) → k < length v → (k < length S) × (k < length L) × (get_or S k 0 + get_or L k 0 ≤ length P) × (get_or S k 0 + get_or L k 0 ≤ length M)
     pair_coupled H l = let h = pair_in_lem l in let e = H.each k h in let a = H.in_starts in let b = H.in_lengths in (omega arith, omega arith, e.in_places, e.in_masses)
-
-    pub pair_leads : Holds S L P M (length v₀) → k < length v → {ps : List ℕ} {ms : List Float} → (let a = get_or S k 0 in let b = a + get_or L k 0 in (ps ≡ slice a b P) × (ms ≡ slice a b M)) → Leads (length v) ps
-    pair_leads H l (ep, em) = rw I.size (subst (Leads (length v₀)) (part_is (get_or S k 0) (get_or S k 0 + get_or L k 0) P (omega arith) ∙ sym ep) (part_leads (H.each k (pair_in_lem l))))
 
     pub sweeping_on : k < length v → {y z e : Float} {ps : List ℕ} {ms : List Float} → (let a = get_or S k 0 in let b = a + get_or L k 0 in (ps ≡ slice a b P) × (ms ≡ slice a b M)) → y ≡ expected v (shares_of ps ms) → z ≡ apart (add binary64 (get_or c k nan) (mul binary64 γ y)) (get_or v k nan) → e ≡ larger d z
         → Sweeping S L P M c γ v₀ (set v k (add binary64 (get_or c k nan) (mul binary64 γ y))) e (k + 1)

@@ -1,7 +1,7 @@
 -- For a caller that has the couplings of a run in the store: the check passes, and what `sweeps` and `visits` leave, with the limit of `evaluate` and `occupancy`, is what the definitions say of the run.
 use mathlib.Core.Path.{◌≡◌, refl, sym, subst, ap, ◌∙◌}
 use Prim.Native.Nat.{ℕ, zero, suc, ◌+◌, ◌≤◌, ◌<◌}
-use mathlib.Core.Bool.{Bool, true, false}
+use mathlib.Core.Bool.{true, false}
 use mathlib.Core.List.{List, [], ◌∷◌}
 use native.Mathlib.Omega.{arith}
 use lib.ListN.{length, get_or, take}
@@ -90,24 +90,24 @@ module _ {G : Metric} {policy : List (List Share)} {S L P : List ℕ} {M : List 
 
   -- ---- what is left behind
 
-  pub evaluated_is : (c v : List Float) (γ tol : Float) → n ≤ length c → n ≤ length v → take n c ≡ G.cost → γ ≡ G.gamma → {r : Bool} {u : List Float} → valued r u ≡ evaluated many S L P M c γ tol v n
-      → (r ≡ true) × (u ≡ over (evaluate G policy tol (take n v)) v)
+  pub evaluated_is : (c v : List Float) (γ tol : Float) → n ≤ length c → n ≤ length v → take n c ≡ G.cost → γ ≡ G.gamma → {r : ℕ} {u : List Float} → valued r u ≡ evaluated many S L P M c γ tol v n
+      → (r ≡ 0) × (u ≡ over (evaluate G policy tol (take n v)) v)
   unfolding evaluate
   evaluated_is c v γ tol p q k g {r} {u} e =
       let o : evaluable S L P M c v n ≡ true = rw (le-leb n (length c) p, le-leb n (length v) q) stored_held in
-      let f : valued r u ≡ valued true (over (evaluate (priced γ (take n c)) (policy_in S L P M n) tol (take n v)) v) = e ∙ rw o in
+      let f : valued r u ≡ valued 0 (over (evaluate (priced γ (take n c)) (policy_in S L P M n) tol (take n v)) v) = e ∙ rw o in
       let a : evaluate (priced γ (take n c)) (policy_in S L P M n) tol (take n v) ≡ evaluate G policy tol (take n v)
       = evaluate_alike (priced γ (take n c)) G k g (policy_in S L P M n) tol (take n v) ∙ ap (λ (ps : List (List Share)). evaluate G ps tol (take n v)) I.same in
-      (ap (λ (x : Valued). x.done) f, ap (λ (x : Valued). x.value) f ∙ ap (λ (x : List Float). over x v) a)
+      (ap (λ (x : Valued). x.refusal) f, ap (λ (x : Valued). x.value) f ∙ ap (λ (x : List Float). over x v) a)
 
-  pub visited_is : (l : List Float) (γ : Float) → n ≤ most → n ≤ length l → {r : Bool} {m : Float} {u : List Float} → occupied r m u ≡ visited many S L P M γ l n
-      → (r ≡ true) × (m ≡ (occupancy γ n policy).mass) × (u ≡ over (occupancy γ n policy).spent l)
+  pub visited_is : (l : List Float) (γ : Float) → n ≤ most → n ≤ length l → {r : ℕ} {m : Float} {u : List Float} → occupied r m u ≡ visited many S L P M γ l n
+      → (r ≡ 0) × (m ≡ (occupancy γ n policy).mass) × (u ≡ over (occupancy γ n policy).spent l)
   unfolding occupancy
   visited_is l γ p q {r} {m} {u} e =
       let o : occupiable S L P M l n ≡ true = rw (le-leb n most p, le-leb n (length l) q) stored_held in
       let w = occupancy γ n (policy_in S L P M n) in
-      let f : occupied r m u ≡ occupied true w.mass (over w.spent l) = e ∙ rw o in (
-        ap (λ (x : Occupied). x.done) f,
+      let f : occupied r m u ≡ occupied 0 w.mass (over w.spent l) = e ∙ rw o in (
+        ap (λ (x : Occupied). x.refusal) f,
         ap (λ (x : Occupied). x.mass) f ∙ ap (λ (ps : List (List Share)). (occupancy γ n ps).mass) I.same,
         ap (λ (x : Occupied). x.spent) f ∙ ap (λ (ps : List (List Share)). over (occupancy γ n ps).spent l) I.same,
       )

@@ -9,7 +9,7 @@ use lib.ListN.{length, get_or, set, take, drop, replicate, length-set, length-re
 use lib.Seq.{slice, take-set-lt}
 use lib.Ieee.{Float, nan, binary64, add, sub, mul, lt, eq, ne}
 use Rattle.numbers.specs.Real.{nought, one, eps, is_zero, sum}
-use Rattle.numbers.proofs.Parts.{take_replicate, take_replicate_length}
+use Rattle.numbers.proofs.Parts.{take_replicate}
 use Rattle.distance_theory.specs.Pairs.{most}
 use Rattle.distance_theory.specs.Couplings.{Share, shares_of}
 use Rattle.distance_theory.specs.Contributions.{Visits, pour, Stay, stay, stay_all, onward, visits, depart}
@@ -26,9 +26,6 @@ pub record Pouring (P : List ℕ) (M : List Float) (x : Float) (l₀ l : List Fl
   pub same : pour x (shares_of ps ms) l ≡ pour x (shares_of P M) l₀
 
 module _ {P : List ℕ} {M : List Float} {x : Float} {l₀ : List Float} where
-  pub pouring_starts : {ps : List ℕ} {ms : List Float} → ps ≡ P → ms ≡ M → Leads (length l₀) P → Pouring P M x l₀ l₀ ps ms
-  pouring_starts e f H = rw (e, f) (record { leads = H; same = refl })
-
   module _ {l : List Float} {ps : List ℕ} {ms : List Float} (I : Pouring P M x l₀ l ps ms) where
     pub pouring_on : {p : ℕ} {m : Float} {ps' : List ℕ} {ms' : List Float} → ps ≡ p ∷ ps' → ms ≡ m ∷ ms' → Pouring P M x l₀ (set l p (add binary64 (get_or l p nan) (mul binary64 x m))) ps' ms'
     unfolding shares_of pour
@@ -117,15 +114,6 @@ unfolding onward
 onward_is γ policy s c m r e = ap (λ (w : Stay). visiting w.spent w.next (sum w.next)) (sym e)
 
 module _ {limit : ℕ} {S L P : List ℕ} {M : List Float} {γ m₀ : Float} {c₀ s₀ : List Float} where
-  pub going_starts : {x : List Float} → x ≡ replicate (length c₀) nought → length s₀ ≡ length c₀ → Going limit S L P M γ m₀ c₀ s₀ m₀ c₀ x s₀ 0
-  going_starts n m = record {
-    ends = omega arith;
-    current_size = refl;
-    next_is = n;
-    spent_size = m;
-    same = let z : limit - 0 ≡ limit = omega arith in ap (λ (j : ℕ). visits γ (policy_in S L P M (length c₀)) j (visiting s₀ c₀ m₀)) z;
-  }
-
   module _ {m : Float} {c x s : List Float} {k : ℕ} (I : Going limit S L P M γ m₀ c₀ s₀ m c x s k) where
     pub next_long : length x ≡ length c
     next_long = ap length I.next_is ∙ length-replicate (length c₀) nought ∙ sym I.current_size
@@ -178,9 +166,6 @@ module _ (limit : ℕ) (S L P : List ℕ) (M : List Float) (γ : Float) (l : Lis
 
   pub first_size : length first ≡ length l
   first_size = ap length (first_mass (length l) most (sub binary64 one γ) few) ∙ length-set (replicate (length l) nought) 0 (sub binary64 one γ) ∙ length-replicate (length l) nought
-
-  pub blank_front : length (take (length l) (replicate most nought)) ≡ length l
-  blank_front = take_replicate_length (length l) most nought few
 
   module _ {s : List Float} (e : s ≡ replicate (length l) nought) where
     pub departing : Holds S L P M (length l) → Holds S L P M (length first) × ((take (length l) (replicate most nought) ≡ replicate (length first) nought) × (length s ≡ length first))

@@ -1,14 +1,14 @@
 // Gauss-Seidel sweeps over the pairs, up to one that moves no value by more than tol.
 ghost use Rattle.std.specs.Prelude.{◌≡◌, ◌≤◌, length};
-ghost use Rattle.distance_theory.specs.Couplings;
-ghost use Rattle.distance_theory.specs.Couplings.{shares_of};
 ghost use Rattle.distance_theory.specs.Rounds;
-ghost use Rattle.distance_theory.proofs.Held.{policy_of, Leads, StoreHolds};
+ghost use Rattle.numbers.specs.Refuse.{code};
+ghost use Rattle.distance_theory.proofs.Held.{policy_of, StoreHolds};
 ghost use Rattle.distance_theory.proofs.ValueRows.{Swept};
-ghost use Rattle.distance_words.proofs.Valuing.{priced, valued, evaluated};
+ghost use Rattle.distance_words.proofs.Valuing.{priced, valued, evaluated_in};
 
 use crate::store::{coupling, held};
-use distance_theory::lent::{Shares, Store};
+use distance_theory::lent::Store;
+use numbers::refusal::Refusal;
 use numbers::{apart, larger};
 
 // What a sweep reads: the coupling of each pair, its cost, and the discount.
@@ -17,18 +17,6 @@ pub struct Costed<'a> {
     pub store: Store<'a>,
     pub cost: &'a [f64],
     pub gamma: f64,
-}
-
-// The sum of mass × value over the shares.
-fn expected(shares: &Shares, value: &[f64]) -> f64
-    requires { Leads (length value.now) shares.now.places.now }
-    ensures { result ≡ Couplings.expected value.now (shares_of shares.now.places.now shares.now.masses.now) }
-{
-    let mut total = 0.0;
-    for (place, mass) in shares.places.iter().zip(shares.masses) {
-        total += *mass * value[*place as usize];
-    }
-    total
 }
 
 // A sweep: each pair in turn gets cost + γ × what its coupling expects. Gives by how much a value has moved at most.
@@ -40,7 +28,7 @@ fn sweep(of: &Costed, value: &mut [f64]) -> f64
     let Costed { store, cost, gamma } = *of;
     let mut delta = 0.0;
     for k in 0..value.len() {
-        let x = cost[k] + gamma * expected(&coupling(&store, k), value);
+        let x = cost[k] + gamma * coupling(&store, k).expected(value);
         delta = larger(delta, apart(x, value[k]));
         value[k] = x;
     }
@@ -60,18 +48,18 @@ fn sweeps_in(limit: usize, of: &Costed, tol: f64, value: &mut [f64])
     }
 }
 
-// The values of the pairs, each with its cost and its coupling, after at most `limit` sweeps; gives whether these could be read. If not, nothing changes.
-pub fn sweeps(limit: usize, of: &Costed, tol: f64, value: &mut [f64]) -> bool
-    ensures { valued result value.new ≡ evaluated limit of.now.store.starts.now of.now.store.lengths.now of.now.store.places.now of.now.store.masses.now of.now.cost.now of.now.gamma tol value.old (length value.old) }
+// The values of the pairs, each with its cost and its coupling, after at most `limit` sweeps. 18, and nothing changes, where these can't be read.
+pub fn sweeps(limit: usize, of: &Costed, tol: f64, value: &mut [f64]) -> Result<(), Refusal>
+    ensures { valued (code result) value.new ≡ evaluated_in limit of.now.store of.now.cost.now of.now.gamma tol value.old }
 {
     let n = value.len();
     if n > of.cost.len() || !held(&of.store, n) {
-        return false;
+        return Err(Refusal::CouplingStore);
     }
     let cut = Costed {
         cost: &of.cost[..n],
         ..*of
     };
     sweeps_in(limit, &cut, tol, value);
-    true
+    Ok(())
 }

@@ -6,10 +6,12 @@ ghost use Rattle.distance_theory.specs.Contributions;
 ghost use Rattle.distance_theory.specs.Couplings.{shares_of};
 ghost use Rattle.distance_theory.proofs.Held.{policy_of, Leads, StoreHolds};
 ghost use Rattle.distance_theory.proofs.ValueRows.{staying, Stayed, Advanced, visiting, Rested};
-ghost use Rattle.distance_words.proofs.Valuing.{occupied_as, visited};
+ghost use Rattle.numbers.specs.Refuse.{numbered};
+ghost use Rattle.distance_words.proofs.Valuing.{occupied_as, visited_in};
 
 use crate::store::{coupling, held};
 use distance_theory::lent::{Shares, Store};
+use numbers::refusal::Refusal;
 use numbers::{EPS, ONE, Real};
 
 // What a round reads: the coupling of each pair, and the discount.
@@ -94,13 +96,13 @@ fn visits_in(limit: usize, of: &Policy, spent: &mut [f64]) -> f64
     rounds(limit, of, p, &mut current[..n], &mut next[..n], spent)
 }
 
-// The time spent in each of at most 4,096 pairs, each with its coupling, in at most `limit` rounds from the first pair on; gives the mass that is left. None, and nothing changes, where the couplings cannot be read.
-pub fn visits(limit: usize, of: &Policy, spent: &mut [f64]) -> Option<f64>
-    ensures { occupied_as result spent.new ≡ visited limit of.now.store.starts.now of.now.store.lengths.now of.now.store.places.now of.now.store.masses.now of.now.gamma spent.old (length spent.old) }
+// The time spent in each of at most 4,096 pairs, each with its coupling, in at most `limit` rounds from the first pair on; gives the mass that is left. 18, and nothing changes, where there are more or the couplings can't be read.
+pub fn visits(limit: usize, of: &Policy, spent: &mut [f64]) -> Result<f64, Refusal>
+    ensures { occupied_as (numbered result) spent.new ≡ visited_in limit of.now.store of.now.gamma spent.old }
 {
     let n = spent.len();
     if n > 4096 || !held(&of.store, n) {
-        return None;
+        return Err(Refusal::CouplingStore);
     }
-    Some(visits_in(limit, of, spent))
+    Ok(visits_in(limit, of, spent))
 }

@@ -8,6 +8,8 @@ use lib.Ieee.{Float, binary64, mul, div}
 use Rattle.numbers.specs.Real.{sum}
 use Rattle.numbers.specs.Lists.{every}
 use Rattle.chain_theory.specs.Columns.{ChainColumns, row_rates, reads_row}
+use Rattle.chain_theory.specs.Lent.{of_chain}
+use Rattle.distance_theory.specs.declared.lent.Task.{Task}
 use Rattle.transport_theory.specs.Refusal.{unequal}
 
 -- × ta, then / tb
@@ -33,3 +35,10 @@ even_pairs lefts rights C D k = even_pair C D (get_or lefts k 0) (get_or rights 
 -- the first n pairs
 abbrev pub all_even : ℕ → List ℕ → List ℕ → ChainColumns → ChainColumns → Bool
 all_even n lefts rights C D = leb n (length lefts) && (leb n (length rights) && every (even_pairs lefts rights C D) n)
+
+-- the same of a task
+abbrev pub even_pair_of : Task → ℕ → Bool
+even_pair_of T = even_pairs T.pairs.lefts.now T.pairs.rights.now (of_chain T.left) (of_chain T.right)
+
+abbrev pub all_even_of : Task → Bool
+all_even_of T = all_even (length T.pairs.lefts.now) T.pairs.lefts.now T.pairs.rights.now (of_chain T.left) (of_chain T.right)

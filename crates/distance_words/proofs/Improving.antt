@@ -14,6 +14,8 @@ use Rattle.chain_theory.specs.Lent.{of_chain}
 use Rattle.distance_theory.specs.declared.lent.StoreMut.{StoreMut}
 use Rattle.distance_theory.specs.declared.lent.Task.{Task as Given}
 use Rattle.distance_words.specs.declared.told.Improvement.{Improvement}
+use Rattle.std.specs.Prelude.{◌≡◌}
+use Rattle.distance_theory.specs.Lent.{SameStore}
 use Rattle.distance_theory.specs.Couplings.{expected, Best, point_mass}
 use Rattle.distance_theory.proofs.Index.{look_up}
 use Rattle.distance_theory.proofs.Held.{shares_in}
@@ -95,6 +97,10 @@ improve n lefts rights codes C D v cost γ s l p m =
     better_if (counted n (length lefts) (length rights) (length v) (length cost) (length s) (length l)) (better_from (best_of_pair lefts rights codes C D v) v γ cost s n 0 nought false l p m) l p m
 
 -- ---- the same of a task's pairs, in the lists that are lent
+
+-- the same lists, and where each coupling starts
+abbrev pub SameStarts : StoreMut → StoreMut → Type 0
+SameStarts a b = SameStore a b × (b.starts.now ≡ a.starts.now)
 
 abbrev pub adopted_as : Bool → StoreMut → Adopted
 adopted_as b S = adopted b S.lengths.now S.places.now S.masses.now

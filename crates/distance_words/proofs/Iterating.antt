@@ -10,7 +10,7 @@ use Rattle.distance_theory.specs.declared.lent.StoreMut.{StoreMut}
 use Rattle.distance_theory.specs.declared.lent.Task.{Task as Given}
 use Rattle.distance_words.specs.declared.told.Rounds.{Rounds}
 use Rattle.distance_theory.specs.Rounds.{many}
-use Rattle.distance_words.proofs.Valuing.{evaluated}
+use Rattle.distance_words.proofs.Valuing.{Valued, evaluated}
 use Rattle.distance_words.proofs.Improving.{Bettered, improve}
 
 -- what a run reads and never writes: the number of pairs, their states and codes, the chains, costs and discount, where each coupling starts, and how near the values are wanted
@@ -68,6 +68,10 @@ task_of T n s aim fine = task n T.pairs.lefts.now T.pairs.rights.now T.pairs.cod
 
 abbrev pub iterated_as : Rounds → List Float → StoreMut → Iterated
 iterated_as r v S = iterated r.residual r.rounds v S.lengths.now S.places.now S.masses.now
+
+-- the values of all pairs
+abbrev pub valued_in : Given → StoreMut → Float → List Float → Valued
+valued_in T S tol v = evaluated many S.starts.now S.lengths.now S.places.now S.masses.now T.cost.now T.gamma tol v (length v)
 
 abbrev pub iterate_in : ℕ → Given → Float → Float → StoreMut → List Float → Iterated
 iterate_in k T aim fine S v = iterate_from (task_of T (length v) S.starts.now aim fine) k (inf false) 0 v S.lengths.now S.places.now S.masses.now

@@ -13,7 +13,7 @@ use Rattle.distance_theory.specs.Couplings.{Metric}
 use Rattle.distance_theory.specs.Contributions.{contribution, listed}
 use Rattle.distance_theory.specs.declared.MetricOptions.{MetricOptions}
 use Rattle.distance_theory.specs.declared.PairContribution.{PairContribution}
-use Rattle.std.specs.Prelude.{Option, Some, None}
+use Rattle.std.specs.Prelude.{Result, Ok, Err}
 use Rattle.distance_words.specs.Told.{row}
 use Rattle.distance_words.specs.declared.told.Listed.{Listed}
 
@@ -50,11 +50,11 @@ known n states count = leb n (length states) && all (below count) (take n states
 abbrev pub listable : ℕ → List ℕ → List ℕ → List Float → List Float → List Float → ℕ → Bool
 listable n lefts rights seenL seenR spent top = leb n most && (leb top 64 && (leb n (length spent) && (known n lefts (length seenL) && known n rights (length seenR))))
 
--- what is answered: these contributions, or none where they can't be told
-abbrev pub listing : Bool → List PairContribution → Option Listed
-listing true cs = Some (record { count = length cs; records = row cs })
-listing false cs = None
+-- what is answered: these contributions, or 4 where they can't be told
+abbrev pub listing : Bool → List PairContribution → Result Listed ℕ
+listing true cs = Ok (record { count = length cs; records = row cs })
+listing false cs = Err 4
 
 -- the contributions of the first n pairs, as many as the options ask for
-abbrev pub listed_of : ℕ → List ℕ → List ℕ → List Float → List Float → List Float → MetricOptions → Option Listed
+abbrev pub listed_of : ℕ → List ℕ → List ℕ → List Float → List Float → List Float → MetricOptions → Result Listed ℕ
 listed_of n lefts rights seenL seenR spent o = listing (listable n lefts rights seenL seenR spent o.top) (listed (observing seenL seenR (pairs_in lefts rights n)) o spent)

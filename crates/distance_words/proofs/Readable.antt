@@ -7,6 +7,7 @@ use lib.ListN.{length, get_or}
 use lib.Seq.{slice}
 use lib.Ieee.{Float}
 use Rattle.numbers.specs.Lists.{all, every}
+use Rattle.distance_theory.specs.declared.lent.Store.{Store}
 
 abbrev pub below : ℕ → ℕ → Bool
 below n j = ltb j n
@@ -21,3 +22,11 @@ lies starts lengths places masses n k =
 -- so does the coupling of each of them
 abbrev pub held : List ℕ → List ℕ → List ℕ → List Float → ℕ → Bool
 held starts lengths places masses n = leb n (length starts) && (leb n (length lengths) && every (lies starts lengths places masses n) n)
+
+-- ---- the same of couplings that are lent
+
+abbrev pub lies_in : Store → ℕ → ℕ → Bool
+lies_in R = lies R.starts.now R.lengths.now R.places.now R.masses.now
+
+abbrev pub held_in : Store → ℕ → Bool
+held_in R = held R.starts.now R.lengths.now R.places.now R.masses.now

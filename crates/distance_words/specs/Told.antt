@@ -1,5 +1,5 @@
 -- What a run answers: a refusal's number, or the distance and 64 records, the contributions first.
-use Rattle.std.specs.Prelude.{ℕ, zero, suc, List, [], replicate, Float, Option, Some, None, Result, Ok, Err}
+use Rattle.std.specs.Prelude.{ℕ, zero, suc, List, [], replicate, Float, Result, Ok, Err}
 use Rattle.numbers.specs.Real.{nought}
 use Rattle.numbers.specs.Lists.{over}
 use Rattle.distance_theory.specs.declared.PairContribution.{PairContribution}
@@ -21,10 +21,6 @@ row cs = over cs (replicate 64 nothing)
 -- no contribution, and records of zeros
 abbrev pub nothing_listed : Listed
 nothing_listed = record { count = 0; records = row [] }
-
-abbrev pub listed_or_none : Option Listed → Listed
-listed_or_none (Some l) = l
-listed_or_none None = nothing_listed
 
 -- of a run
 abbrev pub told_if : ℕ → Run → Told

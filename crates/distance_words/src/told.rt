@@ -28,11 +28,11 @@ pub struct Listed {
     pub records: [PairContribution; 64],
 }
 
-// How the distance arises: the mass that is left in `occupancy`, and the contributions, where they can be listed.
+// How the distance arises: the mass that is left in `occupancy`, and the contributions.
 #[derive(Clone, Copy, Debug)]
 pub struct Accounted {
     pub mass: f64,
-    pub listed: Option<Listed>,
+    pub listed: Listed,
 }
 
 // The distance, and 64 records, the contributions first.
@@ -44,15 +44,17 @@ pub struct Answer {
 }
 
 // No contribution, and records of zeros.
-pub fn nothing_listed() -> Listed
-    ensures { result ≡ nothing_listed }
-{
-    let records = [PairContribution {
-        left: StateId(0),
-        right: StateId(0),
-        gap: 0.0,
-        occupancy: 0.0,
-        contribution: 0.0,
-    }; 64];
-    Listed { count: 0, records }
+impl Default for Listed {
+    ghost is_default = { λ listed. listed ≡ nothing_listed };
+
+    fn default() -> Listed {
+        let records = [PairContribution {
+            left: StateId(0),
+            right: StateId(0),
+            gap: 0.0,
+            occupancy: 0.0,
+            contribution: 0.0,
+        }; 64];
+        Listed { count: 0, records }
+    }
 }

@@ -1,30 +1,32 @@
 -- From two models that pass their checks to lists that a relation can be made of.
 use mathlib.Core.Path.{◌≡◌, refl, sym, ap, subst, subst⁻¹, ◌∙◌}
 use Prim.Native.Nat.{ℕ, zero, suc, ◌+◌, ◌≤◌, ◌<◌}
-use mathlib.Core.Bool.{Bool, true, false, ◌&&◌, ◌||◌, true≢false}
+use mathlib.Core.Bool.{Bool, true, false, not, ◌&&◌, ◌||◌, true≢false}
 use mathlib.Core.List.{List, [], ◌∷◌, ◌++◌}
 use native.Mathlib.Omega.{arith}
-use lib.Dec.{T}
-use lib.Ieee.{Float, of_bits, le}
+use lib.Dec.{T, ltb}
+use lib.Ieee.{Float, of_bits, le, nan}
 use lib.ListN.{length, get_or, take}
-use lib.Seq.{slice, length-slice}
-use borrow.Author.Tests.{le-ltb, le-leb, lt-leb, eq-eqb}
+use lib.Seq.{slice, length-slice, length-take-le, get_or-take, ext_get_or}
+use borrow.Author.Tests.{le-ltb, le-leb, lt-leb, lt-ltb, eq-eqb, ltb-false}
 use Rattle.std.specs.Prelude.{Result, Ok, Err, OnOk, IsErrAnd}
 use Rattle.std.specs.Result.{is_ok}
 use Rattle.numbers.specs.declared.refusal.Refusal.{Refusal}
 use Rattle.numbers.specs.Real.{nought, greatest_weight}
-use Rattle.numbers.specs.Lists.{every, all}
-use Rattle.numbers.specs.Refuse.{check, number, numbered}
-use Rattle.numbers.proofs.Bools.{and_second}
+use Rattle.numbers.specs.Bits.{packed}
+use Rattle.numbers.specs.Lists.{every, all, over}
+use Rattle.numbers.specs.Refuse.{check, number, numbered, code}
+use Rattle.numbers.proofs.Bools.{and_second, or_f}
 use Rattle.numbers.proofs.Alls.{every_of}
-use Rattle.numbers.proofs.Refuses.{first, number_positive, none}
+use Rattle.numbers.proofs.Refuses.{first, number_positive, none, check_none}
 use Rattle.bisim_core.specs.Data.{Columns, columns_of}
 use Rattle.bisim_core.specs.declared.wlts.Shape.{Shape}
 use Rattle.bisim_core.specs.declared.wlts.Wlts.{Wlts}
 use Rattle.bisim_core.specs.Model.{large, unfit, weights_outside, crowded, model}
 use Rattle.bisim_core.proofs.Accepted.{Accepted}
 use Rattle.epsdelta_theory.specs.Jumps.{Jumps, union, jumps_of, no_row}
-use Rattle.epsdelta_theory.specs.Refusal.{tolerances_outside, models_refusal, later_refusal, relation_refusal, epsdelta_refusal}
+use Rattle.epsdelta_theory.specs.Refusal.{short, tolerances_outside, models_refusal, later_refusal, relation_refusal, epsdelta_refusal}
+use Rattle.epsdelta_theory.specs.Relation.{relation_bytes}
 use Rattle.epsdelta_theory.specs.Epsdelta.{given, given_rows, epsdelta}
 use Rattle.epsdelta_theory.proofs.Unrefused.{models_passed}
 use Rattle.epsdelta_theory.proofs.FlowTests.{AllInRange}
@@ -36,10 +38,12 @@ use Rattle.epsdelta_jumps.specs.declared.jumps.Fault.{Fault}
 use Rattle.epsdelta_jumps.specs.declared.store.RowStore.{RowStore}
 use Rattle.epsdelta_jumps.specs.Store.{cramped, LaidIn}
 use Rattle.epsdelta_jumps.specs.Union as joins
-use Rattle.flow_links.proofs.RowsRead.{entries, rows_in, row_stands}
-use Rattle.epsdelta_sweeps.proofs.Reading.{held_rows}
+use Rattle.flow_links.proofs.RowsRead.{entries, rows_in, row_stands, readable, relation_in, written}
+use Rattle.epsdelta_sweeps.proofs.Reading.{held_rows, rows_length, rows_at}
 use Rattle.flow_links.specs.Fits.{row_fits}
-use Rattle.epsdelta.specs.Outcome.{Outcome, Roomy, ends, settled, outcome_unless, outcome}
+use Rattle.epsdelta.specs.declared.asked.Settings.{Settings}
+use Rattle.epsdelta.specs.Outcome.{Outcome, Roomy, ends, settled, later_of, outcome_unless, outcome}
+use Rattle.epsdelta.specs.Sides.{together, classes_of}
 
 -- ---- the checks of both models come first
 
@@ -89,6 +93,67 @@ rows_stand {J} {n} {E} {S} {T'} {P} H rows = every_of (row_stands S T' P) n stan
     stand s h =
         let b = get_or S (s + 1) 0 in
         sym (and_second _ _ true (le-leb (get_or S s 0) b (H.rise s h)) (and_second _ _ true (le-leb b (length T') (row_in H s h).0) (and_second _ _ true (le-leb b (length P) (row_in H s h).1) (fits s h))))
+
+-- the front of the exit rates is all of them that is read
+rows_front : (n : ℕ) (E : List Float) (S T' : List ℕ) (P : List Float) → n ≤ length E → rows_in (length (take n E)) (take n E) S T' P ≡ rows_in n E S T' P
+rows_front n E S T' P h =
+    let z = length-take-le n E h in
+    let k = length (take n E) in
+    let x = rows_length k [] (take n E) S T' P nan nan in
+    let y = rows_length n [] E S T' P nan nan in
+    ext_get_or no_row (rows_in k (take n E) S T' P) (rows_in n E S T' P) (x ∙ z ∙ sym y) (λ s l. same s (omega arith) (omega arith))
+  where
+    same : (s : ℕ) → s < n → s < length (take n E) → get_or (rows_in (length (take n E)) (take n E) S T' P) s no_row ≡ get_or (rows_in n E S T' P) s no_row
+    same s i j =
+        rows_at _ [] (take n E) S T' P nan nan s j
+        ∙ ap (λ (e : Float). record { exit = e; prob = jumps_of (entries S T' s) (entries S P s) }) (get_or-take n E s nan i)
+        ∙ sym (rows_at n [] E S T' P nan nan s i)
+
+-- a run that is not refused, by the one check that it makes
+not_refused : (a : Result (Unit {0}) Refusal) (b : Bool) → b ≡ true → code a ≡ check 7 (not b) 0 → numbered a ≡ Ok tt
+not_refused (Ok x) b h e = refl
+not_refused (Err r) true h e = absurd (number_positive r e)
+not_refused (Err r) false h e = absurd (true≢false (sym h))
+
+-- what checks 7 and 10 find none of
+later_passed : (S : Settings) (bytes : ℕ) → 0 ≡ later_of S bytes → (together S.sides.now ≤ 2000) × (relation_bytes (together S.sides.now) ≤ bytes)
+later_passed S bytes e =
+    let L = S.sides.now.left in
+    let R = S.sides.now.right in
+    let N = together S.sides.now in
+    let f = check_none 6 (short L.model.shape.states R.model.shape.states (length L.classes.now) (length R.classes.now) bytes) _ (sym e) in
+    let g = check_none 7 S.absent _ f.1 in
+    let h = check_none 8 (tolerances_outside S.tolerances.epsilon S.tolerances.rho) _ g.1 in
+    let i = check_none 9 (ltb 2000 N) 0 h.1 in
+    let o = or_f (ltb (length R.classes.now) R.model.shape.states) _ (or_f (ltb (length L.classes.now) L.model.shape.states) _ f.0).1 in
+    (ltb-false 2000 N i.0, ltb-false bytes (relation_bytes N) o.1)
+
+-- a run over the front of the exit rates, once checks 7 to 10 have passed
+pub finished : (S : Settings) (n : ℕ) (E : List Float) (A T' : List ℕ) (P : List Float) (C store new : List ℕ) (a : Result (Unit {0}) Refusal) (J : Jumps) → n ≡ together S.sides.now
+    → 0 ≡ later_of S (length store)
+    → (together S.sides.now ≤ 2000 → (every (row_stands A T' P) (together S.sides.now) ≡ true) × (together S.sides.now ≤ length E) × (together S.sides.now < length A) × (together S.sides.now ≤ length C))
+    → take (together S.sides.now) C ≡ classes_of S.sides.now
+    → (together S.sides.now ≤ 2000 → rows_in (together S.sides.now) E A T' P ≡ J)
+    → (code a ≡ check 7 (not (readable C (take n E) A T' P (length store))) 0) × (new ≡ written (readable C (take n E) A T' P (length store)) (relation_in (length (take n E)) C (take n E) A T' P S.tolerances.epsilon S.tolerances.rho) store)
+    → ends (numbered a) new ≡ settled (later_of S (length store)) store (epsdelta (given_rows J (classes_of S.sides.now) S.tolerances.epsilon S.tolerances.rho)).relation
+finished S n E A T' P C store new a J e z rows c are r =
+    let N = together S.sides.now in
+    let ε = S.tolerances.epsilon in
+    let ρ = S.tolerances.rho in
+    let K = classes_of S.sides.now in
+    let k = length (take n E) in
+    let (few, bytes) = later_passed S (length store) z in
+    let (stand, exits, starts, classes) = rows few in
+    let v : k ≡ N = length-take-le n E (omega arith) ∙ e in
+    let b = readable C (take n E) A T' P (length store) in
+    let h : b ≡ true = sym (and_second _ _ true (le-leb k 2000 (omega arith)) (and_second _ _ true (le-leb k (length C) (omega arith)) (and_second _ _ true (lt-ltb k (length A) (omega arith)) (and_second _ _ true (le-leb (relation_bytes k) (length store) (rw v bytes)) (sym (rw v stand)))))) in
+    let x : rows_in k (take n E) A T' P ≡ J = rows_front n E A T' P (omega arith) ∙ ap (λ (i : ℕ). rows_in i E A T' P) e ∙ are few in
+    let y : take k C ≡ K = ap (λ (i : ℕ). take i C) v ∙ c in
+    ap (λ (o : Result (Unit {0}) ℕ). ends o new) (not_refused a b h r.0)
+    ∙ ap (ends (Ok tt)) (r.1 ∙ ap (λ (d : Bool). written d (relation_in k C (take n E) A T' P ε ρ) store) h)
+    ∙ ap (λ (X : Jumps). ends (Ok tt) (over (packed (epsdelta (given_rows X (take k C) ε ρ)).relation) store)) x
+    ∙ ap (λ (Y : List ℕ). ends (Ok tt) (over (packed (epsdelta (given_rows J Y ε ρ)).relation) store)) y
+    ∙ ap (λ (i : ℕ). settled i store (epsdelta (given_rows J K ε ρ)).relation) z
 
 -- ---- what `union` answers, and what it leaves in lists that are long enough
 

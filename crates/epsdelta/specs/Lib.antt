@@ -1,2 +1,3 @@
 pub mod Sides
 pub mod Outcome
+pub mod Rows

@@ -1,13 +1,14 @@
 -- What `epsdelta` answers, and what it leaves in the bytes of the relation.
-use Rattle.std.specs.Prelude.{ℕ, zero, suc, ◌+◌, ◌<◌, ◌≤◌, Bool, Result, Ok, Err, List, length, Float}
+use Rattle.std.specs.Prelude.{◌≡◌, ℕ, zero, suc, ◌+◌, ◌<◌, ◌≤◌, Bool, Result, Ok, Err, List, length, Float}
 use Rattle.numbers.specs.Bits.{packed}
 use Rattle.numbers.specs.Lists.{over}
+use Rattle.numbers.specs.Refuse.{numbered}
+use Rattle.numbers.specs.declared.refusal.Refusal.{Refusal}
 use Rattle.bisim_core.specs.Data.{Columns}
 use Rattle.bisim_core.specs.declared.wlts.Shape.{Shape}
 use Rattle.epsdelta_theory.specs.Refusal.{tolerances_outside, later_refusal, relation_refusal, epsdelta_refusal}
 use Rattle.epsdelta_theory.specs.Epsdelta.{given, epsdelta}
 use Rattle.epsdelta.specs.declared.asked.Settings.{Settings}
-use Rattle.epsdelta.specs.declared.asked.Sides.{Sides}
 use Rattle.epsdelta.specs.Sides.{of_sides}
 
 -- the answer of an entry, and the bytes
@@ -33,13 +34,19 @@ Roomy SL SR exits starts targets probs classes =
 abbrev pub outcome_unless : Bool → Shape → Columns → Shape → Columns → List ℕ → List ℕ → Float → Float → List ℕ → Outcome (Result (Unit {0}) ℕ)
 outcome_unless fails8 SL ML SR MR cl cr ε ρ store = settled (relation_refusal fails8 (tolerances_outside ε ρ) SL ML SR MR cl cr (length store)) store (epsdelta (given SL ML SR MR cl cr ε ρ)).relation
 
--- the same of two models side by side
-abbrev pub outcome_of : Settings → Sides → List ℕ → Outcome (Result (Unit {0}) ℕ)
-outcome_of S B store = of_sides (outcome_unless S.absent) B S.tolerances.epsilon S.tolerances.rho store
+-- the same of what is asked
+abbrev pub outcome_of : Settings → List ℕ → Outcome (Result (Unit {0}) ℕ)
+outcome_of S store = of_sides (outcome_unless S.absent) S.sides.now S.tolerances.epsilon S.tolerances.rho store
+
+-- an answer, and what it leaves of the bytes, are so
+abbrev pub AnswersTo : Settings → List ℕ → Result (Unit {0}) Refusal → List ℕ → Type 0
+AnswersTo S old answer new = ends (numbered answer) new ≡ outcome_of S old
 
 -- checks 7 to 10
-abbrev pub later_of : Settings → Sides → ℕ → ℕ
-later_of S B bytes = later_refusal S.absent (tolerances_outside S.tolerances.epsilon S.tolerances.rho) B.left.model.shape.states B.right.model.shape.states (length B.left.classes.now) (length B.right.classes.now) bytes
+abbrev pub later_of : Settings → ℕ → ℕ
+later_of S bytes =
+    let B = S.sides.now in
+    later_refusal S.absent (tolerances_outside S.tolerances.epsilon S.tolerances.rho) B.left.model.shape.states B.right.model.shape.states (length B.left.classes.now) (length B.right.classes.now) bytes
 
 -- `epsdelta` asks for no initial state
 abbrev pub outcome : Shape → Columns → Shape → Columns → List ℕ → List ℕ → Float → Float → List ℕ → Outcome (Result (Unit {0}) ℕ)

@@ -3,6 +3,7 @@ ghost use Rattle.std.specs.Prelude.{◌≡◌};
 ghost use Rattle.epsdelta.specs.Sides.{EachFew, together};
 
 use bisim_core::wlts::Wlts;
+use epsdelta_theory::tolerances::Tolerances;
 
 // A model, and the class of each of its states.
 #[derive(Clone, Copy, Debug)]
@@ -28,16 +29,10 @@ impl Sides<'_> {
     }
 }
 
-// ε and ρ.
-#[derive(Clone, Copy, Debug, PartialEq)]
-pub struct Tolerances {
-    pub epsilon: f64,
-    pub rho: f64,
-}
-
-// The tolerances, and whether an initial state that is asked for is absent (check 8).
-#[derive(Clone, Copy, Debug, PartialEq)]
-pub struct Settings {
-    pub absent: bool,
+// Two models side by side, the tolerances, and whether an initial state that is asked for is absent (check 8).
+#[derive(Clone, Copy, Debug)]
+pub struct Settings<'a> {
+    pub sides: &'a Sides<'a>,
     pub tolerances: Tolerances,
+    pub absent: bool,
 }

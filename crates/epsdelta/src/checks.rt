@@ -1,12 +1,13 @@
 // Checks 7 to 10, which come after those of both models.
-ghost use Rattle.std.specs.Prelude.{◌≡◌, ◌≤◌, length};
+ghost use Rattle.std.specs.Prelude.{◌≡◌, length};
 ghost use Rattle.numbers.specs.Refuse.{code};
 ghost use Rattle.epsdelta_theory.specs.Refusal.{short, tolerances_outside};
 ghost use Rattle.epsdelta.specs.Outcome.{later_of};
 ghost use Rattle.epsdelta.specs.Sides.{EachFew};
 
-use crate::asked::{Settings, Sides, Tolerances};
+use crate::asked::{Settings, Sides};
 use epsdelta_theory::relation_bytes;
+use epsdelta_theory::tolerances::Tolerances;
 use numbers::bounds::Bounds;
 use numbers::refusal::Refusal;
 use numbers::{GREATEST_FACTOR, ONE, Real};
@@ -24,8 +25,8 @@ fn lacking(sides: &Sides, bytes: usize) -> bool
 {
     let states = sides.states();
     sides.left.classes.len() < sides.left.model.shape.states
-        || (sides.right.classes.len() < sides.right.model.shape.states
-            || bytes < relation_bytes(states))
+        || sides.right.classes.len() < sides.right.model.shape.states
+        || bytes < relation_bytes(states)
 }
 
 // 9: ε is no finite number from 0 on, or ρ is not from 1 to 2^20.
@@ -36,10 +37,11 @@ fn outside(of: Tolerances) -> bool
 }
 
 // The first of the four that fails, where the settings say whether 8 does.
-pub(crate) fn later(settings: Settings, sides: &Sides, bytes: usize) -> Result<(), Refusal>
-    requires { EachFew sides.now }
-    ensures { code result ≡ later_of settings sides.now bytes }
+pub(crate) fn later(settings: &Settings, bytes: usize) -> Result<(), Refusal>
+    requires { EachFew settings.now.sides.now }
+    ensures { code result ≡ later_of settings.now bytes }
 {
+    let sides = settings.sides;
     if lacking(sides, bytes) {
         return Err(Refusal::Store);
     }

@@ -1,5 +1,5 @@
 // The relation of two models: their checks, their rows side by side, and the relation over these.
-ghost use Rattle.std.specs.Prelude.{◌≡◌, ℕ, Bool, ◌≤◌, ◌<◌, ◌+◌, true, ◌||◌, ltb, length, take};
+ghost use Rattle.std.specs.Prelude.{◌≡◌, ℕ, Bool, ◌≤◌, ◌<◌, true, ◌||◌, ltb, length, take};
 ghost use Rattle.numbers.specs.Lists.{every};
 ghost use Rattle.numbers.specs.Refuse.{code, numbered};
 ghost use Rattle.epsdelta_theory.specs.Jumps.{Jumps};
@@ -7,15 +7,16 @@ ghost use Rattle.epsdelta_theory.specs.Refusal.{epsdelta_refusal};
 ghost use Rattle.epsdelta_theory.specs.Claim.{Sound};
 ghost use Rattle.epsdelta_theory.specs.Epsdelta.{given, given_rows, epsdelta};
 ghost use Rattle.epsdelta_jumps.specs.Union;
-ghost use Rattle.flow_links.proofs.RowsRead.{rows_in, row_stands};
-ghost use Rattle.epsdelta.specs.Outcome.{Roomy, ends, settled, later_of, outcome_of, outcome};
+ghost use Rattle.epsdelta.specs.Outcome.{Roomy, ends, settled, later_of, AnswersTo, outcome};
+ghost use Rattle.epsdelta.specs.Rows.{stands_in, rows_in};
 ghost use Rattle.epsdelta.specs.Sides.{EachFew, together, classes_of, of_sides};
 
-use crate::asked::{Settings, Sides, Tolerances};
+use crate::asked::{Settings, Sides};
 use crate::checks::later;
 use epsdelta_jumps::jumps::{Fault, union};
 use epsdelta_jumps::store::RowStore;
 use epsdelta_sweeps::relate::relate;
+use epsdelta_theory::tolerances::Tolerances;
 use flow_links::rows::Rows;
 use numbers::refusal::Refusal;
 
@@ -33,33 +34,24 @@ fn join_classes(sides: &Sides, classes: &mut [u32])
 
 // What is left once the checks of both models have passed: what checks 7 to 10 say, or the relation; `classes` is work space.
 fn finish(
-    settings: Settings,
-    sides: &Sides,
+    settings: &Settings,
     rows: &RowStore,
     classes: &mut [u32],
     relation: &mut [u8],
 ) -> Result<(), Refusal>
-    requires models { EachFew sides.now }
-    requires rows { (together sides.now ≤ 2000) → (every (row_stands rows.now.starts.now rows.now.targets.now rows.now.probs.now) (together sides.now) ≡ true) × (together sides.now ≤ length rows.now.exits.now) × (together sides.now < length rows.now.starts.now) × (together sides.now ≤ length classes.old) }
-    ensures { (J : Jumps) → (together sides.now ≤ 2000 → rows_in (together sides.now) rows.now.exits.now rows.now.starts.now rows.now.targets.now rows.now.probs.now ≡ J) → ends (numbered result) relation.new ≡ settled (later_of settings sides.now (length relation.old)) relation.old (epsdelta (given_rows J (classes_of sides.now) settings.tolerances.epsilon settings.tolerances.rho)).relation }
+    requires models { EachFew settings.now.sides.now }
+    requires rows { (together settings.now.sides.now ≤ 2000) → (every (stands_in rows.now) (together settings.now.sides.now) ≡ true) × (together settings.now.sides.now ≤ length rows.now.exits.now) × (together settings.now.sides.now < length rows.now.starts.now) × (together settings.now.sides.now ≤ length classes.old) }
+    ensures { (J : Jumps) → (together settings.now.sides.now ≤ 2000 → rows_in rows.now (together settings.now.sides.now) ≡ J) → ends (numbered result) relation.new ≡ settled (later_of settings.now (length relation.old)) relation.old (epsdelta (given_rows J (classes_of settings.now.sides.now) settings.now.tolerances.epsilon settings.now.tolerances.rho)).relation }
 {
-    later(settings, sides, relation.len())?;
-    join_classes(sides, classes);
+    later(settings, relation.len())?;
+    join_classes(settings.sides, classes);
     let read = Rows {
-        states: sides.states(),
-        exits: rows.exits,
+        exits: &rows.exits[..settings.sides.states()],
         starts: rows.starts,
         targets: rows.targets,
         probs: rows.probs,
     };
-    relate(
-        &read,
-        classes,
-        settings.tolerances.epsilon,
-        settings.tolerances.rho,
-        relation,
-    );
-    Ok(())
+    relate(&read, classes, settings.tolerances, relation)
 }
 
 // What `union` refused: lists are short only where check 10 fails, which comes later.
@@ -68,35 +60,33 @@ fn refused(joined: Result<(), Fault>) -> Result<(), Refusal>
 {
     match joined {
         Err(Fault::Refused(refusal)) => Err(refusal),
-        Err(Fault::Short) => Ok(()),
-        Ok(()) => Ok(()),
+        Err(Fault::Short) | Ok(()) => Ok(()),
     }
 }
 
 // The relation of two models, unless a check fails; the last two are work space.
 fn epsdelta_in(
-    settings: Settings,
-    sides: &Sides,
+    settings: &Settings,
     relation: &mut [u8],
     rows: &mut RowStore,
     classes: &mut [u32],
 ) -> Result<(), Refusal>
-    requires { Roomy sides.now.left.model.shape sides.now.right.model.shape (length rows.old.exits.now) (length rows.old.starts.now) (length rows.old.targets.now) (length rows.old.probs.now) (length classes.old) }
-    ensures { ends (numbered result) relation.new ≡ outcome_of settings sides.now relation.old }
+    requires { Roomy settings.now.sides.now.left.model.shape settings.now.sides.now.right.model.shape (length rows.old.exits.now) (length rows.old.starts.now) (length rows.old.targets.now) (length rows.old.probs.now) (length classes.old) }
+    ensures { AnswersTo settings.now relation.old result relation.new }
 {
+    let sides = settings.sides;
     refused(union(&sides.left.model, &sides.right.model, rows))?;
-    finish(settings, sides, rows, classes, relation)
+    finish(settings, rows, classes, relation)
 }
 
 // In work space for so many states, their starts and so many edges.
 fn epsdelta_with<const STATES: usize, const STARTS: usize, const EDGES: usize>(
-    settings: Settings,
-    sides: &Sides,
+    settings: &Settings,
     relation: &mut [u8],
 ) -> Result<(), Refusal>
     requires sizes { (STATES ≤ 2000) × (STARTS ≤ 2001) × (EDGES ≤ 8192) }
-    requires room { Roomy sides.now.left.model.shape sides.now.right.model.shape STATES STARTS EDGES EDGES STATES }
-    ensures { ends (numbered result) relation.new ≡ outcome_of settings sides.now relation.old }
+    requires room { Roomy settings.now.sides.now.left.model.shape settings.now.sides.now.right.model.shape STATES STARTS EDGES EDGES STATES }
+    ensures { AnswersTo settings.now relation.old result relation.new }
 {
     let mut exits = [0.0; STATES];
     let mut starts = [0u32; STARTS];
@@ -109,7 +99,7 @@ fn epsdelta_with<const STATES: usize, const STARTS: usize, const EDGES: usize>(
         targets: &mut targets,
         probs: &mut probs,
     };
-    epsdelta_in(settings, sides, relation, &mut rows, &mut classes)
+    epsdelta_in(settings, relation, &mut rows, &mut classes)
 }
 
 // Whether a model has over 32 states or 200 edges, which none of a card has.
@@ -118,21 +108,17 @@ fn larger(sides: &Sides) -> bool
 {
     let left = sides.left.model.shape;
     let right = sides.right.model.shape;
-    32 < left.states || (200 < left.edges || (32 < right.states || 200 < right.edges))
+    32 < left.states || 200 < left.edges || 32 < right.states || 200 < right.edges
 }
 
 // The relation of two models, unless a check fails. The entries that ask for initial states say by `settings` that check 8 fails, so that they refuse before anything is written.
-pub fn epsdelta_unless(
-    settings: Settings,
-    sides: &Sides,
-    relation: &mut [u8],
-) -> Result<(), Refusal>
-    ensures { ends (numbered result) relation.new ≡ outcome_of settings sides.now relation.old }
+pub fn epsdelta_unless(settings: &Settings, relation: &mut [u8]) -> Result<(), Refusal>
+    ensures { AnswersTo settings.now relation.old result relation.new }
 {
-    if larger(sides) {
-        return epsdelta_with::<2000, 2001, 8192>(settings, sides, relation);
+    if larger(settings.sides) {
+        return epsdelta_with::<2000, 2001, 8192>(settings, relation);
     }
-    epsdelta_with::<64, 65, 400>(settings, sides, relation)
+    epsdelta_with::<64, 65, 400>(settings, relation)
 }
 
 // The relation of two models, of every pair of states of both, the right one's numbered after the left's. A refusal leaves the bytes as they were, and bytes past the relation's are kept.
@@ -141,8 +127,9 @@ pub fn epsdelta(sides: &Sides, tolerances: Tolerances, relation: &mut [u8]) -> R
     ensures sound { of_sides epsdelta_refusal sides.now tolerances.epsilon tolerances.rho (length relation.old) ≡ 0 → Sound (of_sides given sides.now tolerances.epsilon tolerances.rho) }
 {
     let settings = Settings {
-        absent: false,
+        sides: &*sides,
         tolerances,
+        absent: false,
     };
-    epsdelta_unless(settings, sides, relation)
+    epsdelta_unless(&settings, relation)
 }

@@ -46,7 +46,7 @@ turned_back L R b {x} {y} a r l m n h = refused (models_refusal L.shape (columns
 
 -- neither is refused
 module _ (L R : Wlts) {x y : ℕ} (l : x ≡ model_refusal L.shape (columns_of L)) (m : y ≡ model_refusal R.shape (columns_of R)) (n : 0 ≡ earlier x y) where
-  pub both_accepted : Accepted L.shape (columns_of L) × Accepted R.shape (columns_of R)
+  both_accepted : Accepted L.shape (columns_of L) × Accepted R.shape (columns_of R)
   both_accepted = models_accepted L.shape (columns_of L) R.shape (columns_of R) x y 0 l m n refl
 
   pub few_together : (L.shape.states + R.shape.states ≤ 4000) × (L.shape.edges + R.shape.edges ≤ 8192)
@@ -57,7 +57,12 @@ module _ (L R : Wlts) {x y : ℕ} (l : x ≡ model_refusal L.shape (columns_of L
   unfolding joined
   by_lists {b} e = ap (settled 0) (sym e) ∙ ap (λ (k : ℕ). settled k b) (models_number L.shape (columns_of L) R.shape (columns_of R) x y 0 l m n)
 
-module _ (L R : Wlts) (A : Accepted L.shape (columns_of L)) (B : Accepted R.shape (columns_of R)) where
+  abbrev A : Accepted L.shape (columns_of L)
+  A = both_accepted.0
+
+  abbrev B : Accepted R.shape (columns_of R)
+  B = both_accepted.1
+
   -- ---- the rows can be made
 
   pub ready : HasRows L × HasRows R

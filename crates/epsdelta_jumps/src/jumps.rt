@@ -1,5 +1,5 @@
 // `Jumps::union` of epsdelta.rs: two models side by side, in lists that the caller lends.
-ghost use Rattle.std.specs.Prelude.{◌≡◌, ◌+◌, ◌≤◌, OnOk, OnErr};
+ghost use Rattle.std.specs.Prelude.{◌≡◌, ◌+◌, OnOk, OnErr};
 ghost use Rattle.bisim_core.specs.Data.{columns_of};
 ghost use Rattle.bisim_core.specs.Model.{model};
 ghost use Rattle.epsdelta_theory.specs.Jumps;
@@ -33,7 +33,9 @@ fn short(states: usize, edges: usize, rows: &RowStore) -> bool
     ensures { result ≡ cramped states edges rows.now }
 {
     rows.exits.len() < states
-        || (rows.starts.len() <= states || (rows.targets.len() < edges || rows.probs.len() < edges))
+        || rows.starts.len() <= states
+        || rows.targets.len() < edges
+        || rows.probs.len() < edges
 }
 
 // The rows of two models, the right one's states numbered after the left's. `exits` then has the exit rate of each state, and its jumps are at starts[s]..starts[s + 1] of `targets` and `probs`.

@@ -1,15 +1,15 @@
 -- Noted strikes as code reads and writes them: a sweep that is over, and what a turn leaves noted.
 use mathlib.Core.Path.{◌≡◌, sym, ap, subst⁻¹, ◌∙◌}
-use Rattle.epsdelta_sweeps.specs.Place.{words}
+use Rattle.epsdelta_sweeps.specs.Place.{none, Aged, words}
 use Rattle.epsdelta_sweeps.specs.declared.changes.Strikes.{Strikes}
-use Rattle.epsdelta_sweeps.proofs.Words.{none, words_length, recent_at, before_at, again_at}
+use Rattle.epsdelta_sweeps.proofs.Words.{words_length, recent_at, before_at, again_at}
 use mathlib.Core.Logic.{◌⊎◌, inl, inr, ◌≢◌}
 use mathlib.Core.Bool.{Bool, true, false, true≢false}
 use mathlib.Core.List.{List}
 use Prim.Native.Nat.{ℕ, ◌+◌, ◌*◌, ◌≤◌, ◌<◌}
 use native.Mathlib.Omega.{arith}
 use lib.Ieee.{Float, nan}
-use lib.ListN.{length, get_or, set, replicate, length-set, length-replicate}
+use lib.ListN.{length, get_or, set, length-set}
 use lib.Seq.{get_or-set_same, get_or-set_other}
 use Rattle.numbers.specs.Real.{is_zero}
 use Rattle.numbers.specs.Bits.{bit_at}
@@ -19,11 +19,8 @@ use Rattle.epsdelta_theory.proofs.TasksIn.{RowsFit}
 use Rattle.epsdelta_theory.proofs.Unchanged.{Noted, noted_next}
 
 -- the words of n states, at first
-pub first_words : (n m : ℕ) → n ≤ m → (2 * n < length (words n (replicate m none) false)) × (get_or (words n (replicate m none) false) (2 * n) 0 ≡ 0)
-first_words n m h =
-    let z = length-replicate m none in
-    let e = words_length n (replicate m none) false (omega arith) in
-    (omega arith, again_at n (replicate m none) false (omega arith))
+pub first_words : (n : ℕ) (l : List Strikes) → length l ≡ n → (2 * n < length (words n l false)) × (get_or (words n l false) (2 * n) 0 ≡ 0)
+first_words n l h = let e = words_length n l false h in (omega arith, again_at n l false h)
 
 -- the strikes of the states before u are those of the sweep before, the others not yet
 pub record Fading (C out : List Strikes) (u : ℕ) : Type 0 where
@@ -49,11 +46,11 @@ fades C out u h F = record {
     pick v l (inr d) = ap (λ (y : Strikes). y.before) (get_or-set_other out u v x none d) ∙ F.faded v (omega arith)
 
 -- as words
-pub fades_words : (n : ℕ) (C out : List Strikes) (b d : Bool) (u : ℕ) → n ≤ length C → n ≤ u → Fading C out u → (v : ℕ) → v < n → get_or (words n out d) (2 * v + 1) 0 ≡ get_or (words n C b) (2 * v) 0
-fades_words n C out b d u k h F v l = let z = F.long in before_at n out d v l (omega arith) ∙ F.faded v (omega arith) ∙ sym (recent_at n C b v l k)
+pub fades_words : (n : ℕ) (C out : List Strikes) (b d : Bool) → length C ≡ n → Aged C out → (v : ℕ) → v < n → get_or (words n out d) (2 * v + 1) 0 ≡ get_or (words n C b) (2 * v) 0
+fades_words n C out b d k A v l = let z = A.0 in before_at n out d v l (omega arith) ∙ A.1 v (omega arith) ∙ sym (recent_at n C b v l k)
 
-pub fades_length : (n : ℕ) (C out : List Strikes) (b d : Bool) (u : ℕ) → n ≤ length C → Fading C out u → length (words n out d) ≡ length (words n C b)
-fades_length n C out b d u k F = let z = F.long in words_length n out d (omega arith) ∙ sym (words_length n C b k)
+pub fades_length : (n : ℕ) (C out : List Strikes) (b d : Bool) → length C ≡ n → Aged C out → length (words n out d) ≡ length (words n C b)
+fades_length n C out b d k A = let z = A.0 in words_length n out d (omega arith) ∙ sym (words_length n C b k)
 
 -- ---- after a turn without a strike
 

@@ -8,7 +8,7 @@ use lib.Dec.{eqb, leb, ltb, leb→le}
 use lib.Ieee.{Float, nan, binary64, le, sub}
 use lib.Ieee.Fits.{sub-fits}
 use lib.ListN.{length, get_or, take, length-map}
-use lib.Seq.{get_or-take, length-slice, ext_get_or}
+use lib.Seq.{get_or-take, length-slice, length-take-le, ext_get_or}
 use borrow.Author.Tests.{ltb-true}
 use Rattle.numbers.specs.Lists.{span, every, all}
 use Rattle.numbers.proofs.Bools.{and_t, t_of}
@@ -29,7 +29,7 @@ use Rattle.epsdelta_theory.proofs.RowsIn.{HoldsTo}
 use Rattle.epsdelta_theory.proofs.Runs.{run_bytes}
 use Rattle.flow_duality.proofs.Plenty.{Formed, Even, symmetric_even}
 use Rattle.flow_links.specs.Fits.{rate_fits, row_fits}
-use Rattle.flow_links.proofs.RowsRead.{entries, row_at, rows_in, row_stands, readable}
+use Rattle.flow_links.proofs.RowsRead.{entries, row_at, rows_in, row_stands}
 use Rattle.flow_duality.proofs.Places.{Bytes}
 
 -- ---- marks
@@ -46,6 +46,18 @@ unfolding marked
 marks_even n C E ρ store m =
     let Q : Task = record { states = n; class = λ s. get_or C s 0; rates_pass = λ s t. rates_close (get_or E s nan) (get_or E t nan) ρ; no_exit = λ s. true; test = λ R s t. true } in
     symmetric_even n store (marks Q) (m Q (record { states = refl; mark = λ s t h k. refl })) (marks_symmetric Q)
+
+-- and the front of the classes is enough
+pub of_front : {n : ℕ} {C : List ℕ} {E : List Float} {ρ : Float} {X : Task → Type 0} → n ≤ length C → ((Q : Task) → MarksIn Q (length (take n C)) (take n C) E ρ → X Q) → (Q : Task) → MarksIn Q n C E ρ → X Q
+of_front {n} {C} {E} {ρ} h f Q M =
+    let z = length-take-le n C h in
+    f Q (record {
+      states = M.states ∙ sym z;
+      mark = λ s t i j.
+          let k : s < n = omega arith in
+          let l : t < n = omega arith in
+          rw (get_or-take n C s 0 k, get_or-take n C t 0 l) (M.mark s t k l);
+    })
 
 -- what a flow has to come to is a number of the format
 pub needed_formed : {need : Float} (ε : Float) → need ≡ needed ε → Formed need
@@ -129,25 +141,12 @@ held_rows {J} {n} {E} {S} {T} {P} H e =
 
 -- ---- what is checked
 
-module _ (n : ℕ) (C : List ℕ) (E : List Float) (S T : List ℕ) (P : List Float) (bytes : ℕ) where
-  -- the tests of the lengths come first
-  pub lengths_first : {b c : Bool} → b ≡ (leb n 2000 && (leb n (length C) && (leb n (length E) && (ltb n (length S) && leb (relation_bytes n) bytes)))) → c ≡ every (row_stands S T P) n → (b && c) ≡ readable n C E S T P bytes
-  lengths_first p q = rw (p, q) (regroup (leb n 2000) (leb n (length C)) (leb n (length E)) (ltb n (length S)) (leb (relation_bytes n) bytes) (every (row_stands S T P) n))
-    where
-      regroup : (a b c d e f : Bool) → ((a && (b && (c && (d && e)))) && f) ≡ (a && (b && (c && (d && (e && f)))))
-      regroup false b c d e f = refl
-      regroup true false c d e f = refl
-      regroup true true false d e f = refl
-      regroup true true true false e f = refl
-      regroup true true true true e f = refl
-
-pub lengths_known : (n c e s bytes : ℕ) → (leb n 2000 && (leb n c && (leb n e && (ltb n s && leb (relation_bytes n) bytes)))) ≡ true → (n ≤ 2000) × (n ≤ c) × (n ≤ e) × (n < s) × (relation_bytes n ≤ bytes)
-lengths_known n c e s bytes h =
-    let (p, i) = and_t (leb n 2000) (leb n c && (leb n e && (ltb n s && leb (relation_bytes n) bytes))) h in
-    let (q, j) = and_t (leb n c) (leb n e && (ltb n s && leb (relation_bytes n) bytes)) i in
-    let (r, k) = and_t (leb n e) (ltb n s && leb (relation_bytes n) bytes) j in
-    let (t, l) = and_t (ltb n s) (leb (relation_bytes n) bytes) k in
-    (leb→le n 2000 (t_of p), leb→le n c (t_of q), leb→le n e (t_of r), ltb-true n s t, leb→le (relation_bytes n) bytes (t_of l))
+pub lengths_known : (n c s bytes : ℕ) → (leb n 2000 && (leb n c && (ltb n s && leb (relation_bytes n) bytes))) ≡ true → (n ≤ 2000) × (n ≤ c) × (n < s) × (relation_bytes n ≤ bytes)
+lengths_known n c s bytes h =
+    let (p, i) = and_t (leb n 2000) (leb n c && (ltb n s && leb (relation_bytes n) bytes)) h in
+    let (q, j) = and_t (leb n c) (ltb n s && leb (relation_bytes n) bytes) i in
+    let (t, l) = and_t (ltb n s) (leb (relation_bytes n) bytes) j in
+    (leb→le n 2000 (t_of p), leb→le n c (t_of q), ltb-true n s t, leb→le (relation_bytes n) bytes (t_of l))
 
 stands_known : (S T : List ℕ) (P : List Float) (s : ℕ) → row_stands S T P s ≡ true
     → (get_or S s 0 ≤ get_or S (s + 1) 0) × (get_or S (s + 1) 0 ≤ length T) × (get_or S (s + 1) 0 ≤ length P) × (row_fits (entries S T s) (entries S P s) ≡ true)

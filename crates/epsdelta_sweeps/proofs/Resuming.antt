@@ -23,6 +23,7 @@ use Rattle.epsdelta_theory.proofs.TasksIn.{RowsFit, SweepsIn, Stored, test_in, R
 use Rattle.epsdelta_theory.proofs.Unchanged.{Noted, noted, noted_next, noted_strike, noted_row, noted_again, noted_start}
 use Rattle.flow_duality.proofs.Plenty.{Plenty, Even, even_strike}
 use Rattle.flow_duality.proofs.Places.{row_from, rows_from, ending, from_turn, At, Bytes, standing, Held, room, weight, Moves}
+use Rattle.flow_links.proofs.RowsRead.{states_of}
 use Rattle.epsdelta_sweeps.specs.declared.place.Asked.{Asked}
 use Rattle.epsdelta_sweeps.specs.declared.place.Place.{Place}
 use Rattle.epsdelta_sweeps.specs.declared.place.Terms.{Terms}
@@ -483,8 +484,8 @@ sweep_again F {struck₁ = struck₁} C' M h i k z f N =
     moves_then M (omega arith) (moves_then A (omega arith) N)
 
 -- from a place to the turn of another, and the sweeps from there
-pub ended_then : (terms : Terms) (old mid new : Memory) (p q : Place) (b asks : Bool) (w : ℕ) (r : Result ⊤ Asked) → Moving terms old p b asks w mid q.s q.t false q.struck false → ToEnd (FromTurn terms mid q new) terms.rows.states r
-    → ToEnd (Moving terms old p b asks w new) terms.rows.states r
+pub ended_then : (terms : Terms) (old mid new : Memory) (p q : Place) (b asks : Bool) (w : ℕ) (r : Result ⊤ Asked) → Moving terms old p b asks w mid q.s q.t false q.struck false → ToEnd (FromTurn terms mid q new) (states_of terms.rows) r
+    → ToEnd (Moving terms old p b asks w new) (states_of terms.rows) r
 ended_then terms old mid new p q b asks w (Ok x) M E = (E.0, E.1, E.2, E.3, moves_then M (omega arith) E.4)
 ended_then terms old mid new p q b asks w (Err a) M N = moves_then M (omega arith) N
 

@@ -11,11 +11,11 @@ use Rattle.epsdelta_theory.proofs.TasksIn.{test_in, RunsTo}
 use Rattle.flow_duality.specs.Spare.{row_most}
 use Rattle.flow_duality.proofs.Plenty.{Plenty, Even, LightRow}
 use Rattle.flow_duality.proofs.Places.{Held, Moves, weight}
-use Rattle.flow_links.proofs.RowsRead.{Fitting, entries}
+use Rattle.flow_links.proofs.RowsRead.{Fitting, entries, states_of}
 use Rattle.flow_links.specs.declared.rows.Rows.{Rows}
 use Rattle.flow_core.specs.declared.Flow.{Flow}
 use Rattle.flow_direct.specs.Reaches.{at_least}
-use Rattle.epsdelta_sweeps.specs.Place.{words_of}
+use Rattle.epsdelta_sweeps.specs.Place.{Same, count, words_of}
 use Rattle.epsdelta_sweeps.specs.declared.place.Place.{Place}
 use Rattle.epsdelta_sweeps.specs.declared.place.Asked.{Asked}
 use Rattle.epsdelta_sweeps.specs.declared.place.Terms.{Terms}
@@ -23,21 +23,17 @@ use Rattle.epsdelta_sweeps.specs.declared.changes.Memory.{Memory}
 
 -- ---- rows
 
--- rows that can be read, with an exit rate for each state
-abbrev pub Whole : Rows → Type 0
-Whole rows = Fitting rows × (rows.states ≤ length rows.exits.now)
-
--- the same, and two of their states
+-- rows that can be read, and two of their states
 abbrev pub Paired : Rows → ℕ → ℕ → Type 0
-Paired rows s t = Fitting rows × (s < rows.states) × (t < rows.states)
+Paired rows s t = Fitting rows × (s < states_of rows) × (t < states_of rows)
 
 -- whether the flow test from s to t passes against a relation
 abbrev pub passes_in : Rows → Float → List Bool → ℕ → ℕ → Bool
-passes_in rows need R s t = test_in rows.states rows.starts.now rows.targets.now rows.probs.now need R s t
+passes_in rows need R s t = test_in (states_of rows) rows.starts.now rows.targets.now rows.probs.now need R s t
 
 -- the jumps of s are to states, with rates that are shares
 abbrev pub LightIn : Rows → ℕ → Type 0
-LightIn rows s = LightRow rows.states rows.starts.now rows.targets.now rows.probs.now s
+LightIn rows s = LightRow (states_of rows) rows.starts.now rows.targets.now rows.probs.now s
 
 -- s has at most `row_most` jumps
 abbrev pub Short : Rows → ℕ → Type 0
@@ -45,13 +41,13 @@ Short rows s = length (entries rows.starts.now rows.targets.now s) ≤ row_most
 
 -- so much flow is plenty, if any is
 abbrev pub Enough : Rows → Float → Option Float → Type 0
-Enough rows need plenty = IfSome plenty (Plenty rows.states rows.starts.now rows.targets.now rows.probs.now need)
+Enough rows need plenty = IfSome plenty (Plenty (states_of rows) rows.starts.now rows.targets.now rows.probs.now need)
 
 -- ---- the memory
 
--- strikes for so many states
+-- strikes of so many states
 abbrev pub Worded : ℕ → Memory → Type 0
-Worded states memory = (states ≤ 2000) × (states ≤ length memory.strikes.now)
+Worded states memory = (states ≤ 2000) × (count memory ≡ states)
 
 -- how the flow test from s to t ended, against whatever relation the bytes are
 abbrev pub Tested : Terms → Memory → ℕ → ℕ → Bool → Type 0
@@ -60,6 +56,10 @@ Tested terms memory s t b = (R : List Bool) → memory.relation.now ≡ packed R
 -- the place whose pair is tested
 abbrev pub place_of : Asked → Place
 place_of a = record { s = a.s; t = a.t; struck = a.struck }
+
+-- the flow test of a place's pair, or the one back
+abbrev pub asked_at : Place → Bool → Asked
+asked_at p back = record { s = p.s; t = p.t; struck = p.struck; back = back }
 
 -- an answer says whether the flow of the test that is asked for is enough
 abbrev pub Answers : Rows → Memory → Asked → Result Flow ℕ → Type 0
@@ -72,7 +72,7 @@ Ample terms a answer = (x : Float) × (terms.plenty ≡ Some x) × (at_least x a
 
 -- what holds at a place, where it is the turn of its pair, or a flow test of it is asked for
 abbrev pub Holding : Terms → Memory → Place → Bool → Bool → Type 0
-Holding terms memory p back asks = Held terms.rows.states terms.rows.exits.now terms.rows.starts.now terms.rows.targets.now terms.rows.probs.now terms.need terms.plenty memory.relation.now (words_of terms.rows.states memory) p.s p.t back asks
+Holding terms memory p back asks = Held (states_of terms.rows) terms.rows.exits.now terms.rows.starts.now terms.rows.targets.now terms.rows.probs.now terms.need terms.plenty memory.relation.now (words_of (states_of terms.rows) memory) p.s p.t back asks
 
 abbrev pub AtTurn : Terms → Memory → Place → Type 0
 AtTurn terms memory p = Holding terms memory p false false
@@ -80,19 +80,23 @@ AtTurn terms memory p = Holding terms memory p false false
 abbrev pub AtTest : Terms → Memory → Asked → Type 0
 AtTest terms memory a = Holding terms memory (place_of a) a.back true
 
+-- the rows can be read, and a flow test is asked for
+abbrev pub Asking : Terms → Memory → Asked → Type 0
+Asking terms memory a = Fitting terms.rows × AtTest terms memory a
+
 -- the rows can be read, and the pair at the place is that of a state and a higher one, or of none where the sweep is over
 abbrev pub Sweepable : Terms → Memory → Place → Type 0
-Sweepable terms memory p = Whole terms.rows × (p.s < p.t) × (p.s ≤ terms.rows.states) × (p.s < terms.rows.states → p.t ≤ terms.rows.states) × AtTurn terms memory p
+Sweepable terms memory p = Fitting terms.rows × (p.s < p.t) × (p.s ≤ states_of terms.rows) × (p.s < states_of terms.rows → p.t ≤ states_of terms.rows) × AtTurn terms memory p
 
 -- ---- from place to place
 
 -- what is left from a place
 abbrev pub left : Terms → Memory → Place → Bool → ℕ
-left terms memory p back = weight terms.rows.states memory.relation.now p.s p.t back p.struck
+left terms memory p back = weight (states_of terms.rows) memory.relation.now p.s p.t back p.struck
 
 -- from a place to the pair (s, t), with less than w left
 abbrev pub Moving : Terms → Memory → Place → Bool → Bool → ℕ → Memory → ℕ → ℕ → Bool → Bool → Bool → Type 0
-Moving terms old p b asks w new s t c struck d = Moves terms.rows.states terms.rows.exits.now terms.rows.starts.now terms.rows.targets.now terms.rows.probs.now terms.need terms.plenty old.relation.now p.s p.t b p.struck asks w new.relation.now (words_of terms.rows.states new) s t c struck d
+Moving terms old p b asks w new s t c struck d = Moves (states_of terms.rows) terms.rows.exits.now terms.rows.starts.now terms.rows.targets.now terms.rows.probs.now terms.need terms.plenty old.relation.now p.s p.t b p.struck asks w new.relation.now (words_of (states_of terms.rows) new) s t c struck d
 
 -- from the turn of its pair
 abbrev pub FromTurn : Terms → Memory → Place → Memory → ℕ → ℕ → Bool → Bool → Bool → Type 0
@@ -125,12 +129,16 @@ abbrev pub ToEnd : (ℕ → ℕ → Bool → Bool → Bool → Type 0) → ℕ �
 ToEnd F n (Ok _) = Past F n false
 ToEnd F n (Err a) = F a.s a.t a.back a.struck true
 
+-- from a flow test that is asked for until a sweep without a strike
+abbrev pub RunsOut : Terms → Memory → Asked → Memory → Type 0
+RunsOut terms old a new = Past (FromAsked terms old a new) (states_of terms.rows) false × Same old new
+
 -- ---- a run
 
 -- the bytes are those of a symmetric relation, and so much flow is plenty
 abbrev pub Runnable : Terms → List ℕ → Type 0
-Runnable terms store = Whole terms.rows × Enough terms.rows terms.need terms.plenty × Even terms.rows.states store
+Runnable terms store = Fitting terms.rows × Enough terms.rows terms.need terms.plenty × Even (states_of terms.rows) store
 
 -- they are those that the definition's sweeps come to
 abbrev pub RunsIn : Terms → List ℕ → List ℕ → Type 0
-RunsIn terms old new = RunsTo terms.rows.states terms.rows.exits.now terms.rows.starts.now terms.rows.targets.now terms.rows.probs.now terms.need old new
+RunsIn terms old new = RunsTo (states_of terms.rows) terms.rows.exits.now terms.rows.starts.now terms.rows.targets.now terms.rows.probs.now terms.need old new

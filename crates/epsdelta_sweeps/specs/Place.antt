@@ -1,18 +1,31 @@
 -- Where sweeps stand, and what they write.
-use Rattle.std.specs.Prelude.{ℕ, zero, suc, Bool, true, cond, List, [], ◌∷◌, ◌&&◌, ◌≡◌, ⊤}
+use Rattle.std.specs.Prelude.{ℕ, zero, suc, ◌<◌, get_or, Bool, true, cond, List, [], ◌∷◌, length, ◌&&◌, ◌≡◌, ⊤}
 use Rattle.flow_direct.specs.declared.reach.Ways.{Ways}
 use Rattle.flow_direct.specs.declared.reach.Ways.TheVariants as ways
 use Rattle.epsdelta_sweeps.specs.declared.changes.Memory.{Memory}
 use Rattle.epsdelta_sweeps.specs.declared.changes.Strikes.{Strikes}
 
+-- how many states the strikes are of
+abbrev pub count : Memory → ℕ
+count memory = length memory.strikes.now
+
 -- the strikes of n states as words: two of each state, and behind them one that is 0 in the first sweep alone
 unfoldable pub words : ℕ → List Strikes → Bool → List ℕ
-words zero l again = cond again 1 0 ∷ []
+words zero [] again = cond again 1 0 ∷ []
+words zero (x ∷ l) again = []
 words (suc n) [] again = []
 words (suc n) (x ∷ l) again = x.recent ∷ x.before ∷ words n l again
 
 abbrev pub words_of : ℕ → Memory → List ℕ
 words_of n memory = words n memory.strikes.now memory.again
+
+-- no strikes
+abbrev pub none : Strikes
+none = record { recent = 0; before = 0 }
+
+-- a sweep is over: its strikes are those of the sweep before
+abbrev pub Aged : List Strikes → List Strikes → Type 0
+Aged old new = (length new ≡ length old) × ((u : ℕ) → u < length old → (get_or new u none).before ≡ (get_or old u none).recent)
 
 -- the same lent bytes of a relation
 abbrev pub Same : Memory → Memory → Type 0

@@ -3,9 +3,9 @@
 ghost use Rattle.std.specs.Prelude.{◌≡◌, ℕ, ◌≤◌, ◌<◌, ◌+◌, ◌*◌, ◌%◌, true, false, length, get_or, IfSome};
 ghost use Rattle.numbers.specs.Bits.{bit_at, cleared};
 ghost use Rattle.epsdelta_theory.proofs.Unchanged.{Off, Told, Missed, QuietAt, Quiet, noted};
-ghost use Rattle.epsdelta_sweeps.specs.Place.{Same, words_of};
-ghost use Rattle.epsdelta_sweeps.specs.Leading.{Worded};
-ghost use Rattle.flow_links.proofs.RowsRead.{Fitting};
+ghost use Rattle.epsdelta_sweeps.specs.Place.{Same, Aged, count, words_of};
+ghost use Rattle.flow_links.proofs.RowsRead.{states_of};
+ghost use Rattle.epsdelta_sweeps.specs.Leading.{Paired};
 
 use crate::rows::row;
 use flow_links::rows::Rows;
@@ -34,19 +34,20 @@ pub(crate) struct Memory<'a> {
 }
 
 impl Memory<'_> {
-    // Whether the pair (s, t) of so many states stands.
-    pub(crate) fn holds(&self, states: usize, s: usize, t: usize) -> bool
-        requires { (states ≤ 2000) × (s < states) × (t < states) }
-        ensures { result ≡ bit_at self.now.relation.now (s * states + t) }
+    // Whether the pair (s, t) stands.
+    pub(crate) fn holds(&self, s: usize, t: usize) -> bool
+        requires { (count self.now ≤ 2000) × (s < count self.now) × (t < count self.now) }
+        ensures { result ≡ bit_at self.now.relation.now (s * count self.now + t) }
     {
-        bit(self.relation, s * states + t)
+        bit(self.relation, s * self.strikes.len() + t)
     }
 
     // Strikes (s, t): both orders are cleared, and the strike is noted.
-    pub(crate) fn strike(&mut self, states: usize, s: usize, t: usize)
-        requires { Worded states self.old × (s < states) × (t < states) }
-        ensures { (self.new.relation.now ≡ cleared (cleared self.old.relation.now (s * states + t)) (t * states + s)) × (words_of states self.new ≡ noted (words_of states self.old) s t) × Same self.old self.new }
+    pub(crate) fn strike(&mut self, s: usize, t: usize)
+        requires { (count self.old ≤ 2000) × (s < count self.old) × (t < count self.old) }
+        ensures { (self.new.relation.now ≡ cleared (cleared self.old.relation.now (s * count self.old + t)) (t * count self.old + s)) × (words_of (count self.old) self.new ≡ noted (words_of (count self.old) self.old) s t) × Same self.old self.new }
     {
+        let states = self.strikes.len();
         clear_bit(self.relation, s * states + t);
         clear_bit(self.relation, t * states + s);
         self.strikes[s].recent |= 1 << (t % 64);
@@ -65,19 +66,16 @@ fn not_below(u: usize, s: usize, word: u64) -> u64
 }
 
 // The strikes of these targets, if all of them are states.
-fn strikes_of(row: &[u32], states: usize, memory: &Memory, s: usize) -> Option<Strikes>
-    requires { Worded states memory.now }
-    ensures { IfSome result (λ m. (i : ℕ) → i < length row.now → Told states (words_of states memory.now) s (get_or row.now i 0) m.recent m.before) }
+fn strikes_of(row: &[u32], memory: &Memory, s: usize) -> Option<Strikes>
+    ensures { IfSome result (λ m. (i : ℕ) → i < length row.now → Told (count memory.now) (words_of (count memory.now) memory.now) s (get_or row.now i 0) m.recent m.before) }
 {
     let mut recent = 0;
     let mut before = 0;
     for u in row {
         let u = *u as usize;
-        if states <= u {
-            return None;
-        }
-        recent |= memory.strikes[u].recent;
-        before |= not_below(u, s, memory.strikes[u].before);
+        let strikes = memory.strikes.get(u)?;
+        recent |= strikes.recent;
+        before |= not_below(u, s, strikes.before);
     }
     Some(Strikes { recent, before })
 }
@@ -86,13 +84,7 @@ fn strikes_of(row: &[u32], states: usize, memory: &Memory, s: usize) -> Option<S
 fn since(m: Strikes, v: usize, s: usize) -> bool
     ensures { result ≡ false → Off m.recent (v % 64) × (s ≤ v → Off m.before (v % 64)) }
 {
-    if (m.recent >> (v % 64)) & 1 == 1 {
-        return true;
-    }
-    if v < s {
-        return false;
-    }
-    (m.before >> (v % 64)) & 1 == 1
+    (m.recent >> (v % 64)) & 1 == 1 || (s <= v && (m.before >> (v % 64)) & 1 == 1)
 }
 
 // True only if these targets are states, and none of them is among these strikes.
@@ -104,31 +96,38 @@ fn untouched(row: &[u32], states: usize, m: Strikes, s: usize) -> bool
 }
 
 // True only if s and t have targets, and no entry that their flow tests read was struck since their turn in the sweep before.
+// Stays: of a closure in `is_some_and` that calls `untouched` the check learns nothing, since what that promises is an implication.
 pub(crate) fn unchanged(rows: &Rows, memory: &Memory, s: usize, t: usize) -> bool
-    requires { Fitting rows.now × (rows.now.states ≤ length memory.now.strikes.now) × (s < rows.now.states) × (t < rows.now.states) }
-    ensures { result ≡ true → Quiet rows.now.starts.now rows.now.targets.now (QuietAt rows.now.states (words_of rows.now.states memory.now) s) s t }
+    requires { Paired rows.now s t × (count memory.now ≡ states_of rows.now) }
+    ensures { result ≡ true → Quiet rows.now.starts.now rows.now.targets.now (QuietAt (states_of rows.now) (words_of (states_of rows.now) memory.now) s) s t }
 {
     let us = row(rows, s).targets;
     let vs = row(rows, t).targets;
     if !memory.again || us.is_empty() || vs.is_empty() {
         return false;
     }
-    match strikes_of(us, rows.states, memory, s) {
-        Some(m) => untouched(vs, rows.states, m, s),
+    match strikes_of(us, memory, s) {
+        Some(m) => untouched(vs, rows.exits.len(), m, s),
         None => false,
     }
 }
 
-// A sweep is over: its strikes are those of the sweep before.
-pub(crate) fn fade(states: usize, memory: &mut Memory)
-    requires { Worded states memory.old }
-    ensures { ((u : ℕ) → u < states → get_or (words_of states memory.new) (2 * u + 1) 0 ≡ get_or (words_of states memory.old) (2 * u) 0) × (length (words_of states memory.new) ≡ length (words_of states memory.old)) × (memory.new.relation.now ≡ memory.old.relation.now) × Same memory.old memory.new }
+// The strikes of a sweep that is over, as those of the sweep before.
+fn age(strikes: &mut [Strikes])
+    ensures { Aged strikes.old strikes.new }
 {
-    for u in 0..states {
-        memory.strikes[u] = Strikes {
+    for x in strikes.iter_mut() {
+        *x = Strikes {
             recent: 0,
-            before: memory.strikes[u].recent,
+            before: x.recent,
         };
     }
+}
+
+// A sweep is over: its strikes are those of the sweep before.
+pub(crate) fn fade(memory: &mut Memory)
+    ensures { ((u : ℕ) → u < count memory.old → get_or (words_of (count memory.old) memory.new) (2 * u + 1) 0 ≡ get_or (words_of (count memory.old) memory.old) (2 * u) 0) × (length (words_of (count memory.old) memory.new) ≡ length (words_of (count memory.old) memory.old)) × (memory.new.relation.now ≡ memory.old.relation.now) × Same memory.old memory.new }
+{
+    age(memory.strikes);
     memory.again = true;
 }

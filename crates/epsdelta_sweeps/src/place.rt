@@ -1,10 +1,11 @@
 // Where sweeps stand, and what they ask for.
 ghost use Rattle.std.specs.Prelude.{◌≡◌};
+ghost use Rattle.epsdelta_sweeps.specs.Leading.{place_of, asked_at};
 
 use flow_links::rows::Rows;
 
 // The rows of a run, how much flow a test needs, and how much is plenty, if any is.
-// Stays: a parameter of its own beside Memory, since both as one struct lent by &mut would have each contract promise too that the terms are kept.
+// Stays: a parameter of its own beside Memory: of both as one struct lent by &mut, `Same` would promise too that the terms are kept, and each invariant and law that now has the terms as they came would carry them along that equation.
 #[derive(Clone, Copy)]
 pub(crate) struct Terms<'a> {
     pub(crate) rows: Rows<'a>,
@@ -27,6 +28,19 @@ impl Place {
         t: 1,
         struck: false,
     };
+
+    // The flow test of its pair, or the one back.
+    // Stays: `back` is a field of what is made, no switch.
+    pub(crate) fn ask(self, back: bool) -> Asked
+        ensures { result ≡ asked_at self back }
+    {
+        Asked {
+            s: self.s,
+            t: self.t,
+            struck: self.struck,
+            back,
+        }
+    }
 }
 
 // A flow test that is not known without a network: that of a place's pair (s, t), or the one back.
@@ -37,4 +51,17 @@ pub(crate) struct Asked {
     pub(crate) t: usize,
     pub(crate) struck: bool,
     pub(crate) back: bool,
+}
+
+impl Asked {
+    // The place that it is asked at.
+    pub(crate) fn place(self) -> Place
+        ensures { result ≡ place_of self }
+    {
+        Place {
+            s: self.s,
+            t: self.t,
+            struck: self.struck,
+        }
+    }
 }

@@ -1,7 +1,7 @@
 // How much flow is plenty, if any is: so much that the flow test back passes too.
 ghost use Rattle.std.specs.Prelude.{◌≡◌, true, ℕ, ◌<◌, length};
 ghost use Rattle.flow_duality.proofs.Plenty.{Formed, Light, Between};
-ghost use Rattle.flow_links.proofs.RowsRead.{Fitting};
+ghost use Rattle.flow_links.proofs.RowsRead.{states_of, Fitting};
 ghost use Rattle.epsdelta_sweeps.specs.Leading.{LightIn, Enough};
 
 use crate::place::Terms;
@@ -10,6 +10,7 @@ use flow_duality::{ROW_MOST, SPARE, is_share};
 use flow_links::rows::{Rows, Test};
 
 // True only if these jumps are to states, with rates above 0 and at most 1.
+// Stays: over a `&Row`, by `row.targets.iter().zip(row.rates)`, `search` did not prove `returns`.
 fn light(targets: &[u32], rates: &[f64], states: usize) -> bool
     requires { length targets.now ≡ length rates.now }
     ensures { result ≡ true → (i : ℕ) → i < length targets.now → Light states targets.now rates.now i }
@@ -22,21 +23,21 @@ fn light(targets: &[u32], rates: &[f64], states: usize) -> bool
 
 // True only if these are the jumps of s.
 fn light_row(rows: &Rows, s: usize) -> bool
-    requires { Fitting rows.now × (s < rows.now.states) }
+    requires { Fitting rows.now × (s < states_of rows.now) }
     ensures { result ≡ true → LightIn rows.now s }
 {
     let row = row(rows, s);
-    light(row.targets, row.rates, rows.states)
+    light(row.targets, row.rates, rows.exits.len())
 }
 
 // True only if these are the jumps of all states.
 fn all_light(rows: &Rows) -> bool
     requires { Fitting rows.now }
-    ensures { result ≡ true → (s : ℕ) → s < rows.now.states → LightIn rows.now s }
+    ensures { result ≡ true → (s : ℕ) → s < states_of rows.now → LightIn rows.now s }
 {
-    (0..rows.states).all(
+    (0..rows.exits.len()).all(
         |s|
-            requires { Fitting rows.now × (s < rows.now.states) }
+            requires { Fitting rows.now × (s < states_of rows.now) }
         { light_row(rows, s) },
     )
 }

@@ -2,7 +2,9 @@
 ghost use Rattle.std.specs.Prelude.{◌≡◌, ◌&&◌, ◌≤◌, ◌<◌, ◌+◌, leb, ltb, length, get_or};
 ghost use Rattle.numbers.specs.Lists.{every};
 ghost use Rattle.epsdelta_theory.specs.Relation.{relation_bytes};
-ghost use Rattle.flow_links.proofs.RowsRead.{Fitting, entries, row_stands};
+ghost use Rattle.flow_links.proofs.RowsRead.{states_of, entries};
+ghost use Rattle.epsdelta_sweeps.specs.Leading.{Paired};
+ghost use Rattle.epsdelta_sweeps.specs.Read.{stands_in};
 
 use crate::changes::Memory;
 use epsdelta_theory::relation_bytes;
@@ -29,13 +31,13 @@ pub(crate) fn row<'a>(rows: &Rows<'a>, s: usize) -> Row<'a>
 
 // The flow test from s to t.
 pub(crate) fn test<'a>(rows: &Rows<'a>, memory: &'a Memory, s: usize, t: usize) -> Test<'a>
-    requires { Fitting rows.now × (s < rows.now.states) × (t < rows.now.states) }
-    ensures { (result.left.targets.now ≡ entries rows.now.starts.now rows.now.targets.now s) × (result.left.rates.now ≡ entries rows.now.starts.now rows.now.probs.now s) × (result.right.targets.now ≡ entries rows.now.starts.now rows.now.targets.now t) × (result.right.rates.now ≡ entries rows.now.starts.now rows.now.probs.now t) × (result.states ≡ rows.now.states) × (result.relation.now ≡ memory.now.relation.now) }
+    requires { Paired rows.now s t }
+    ensures { (result.left.targets.now ≡ entries rows.now.starts.now rows.now.targets.now s) × (result.left.rates.now ≡ entries rows.now.starts.now rows.now.probs.now s) × (result.right.targets.now ≡ entries rows.now.starts.now rows.now.targets.now t) × (result.right.rates.now ≡ entries rows.now.starts.now rows.now.probs.now t) × (result.states ≡ states_of rows.now) × (result.relation.now ≡ memory.now.relation.now) }
 {
     Test {
         left: row(rows, s),
         right: row(rows, t),
-        states: rows.states,
+        states: rows.exits.len(),
         relation: memory.relation,
     }
 }
@@ -43,7 +45,7 @@ pub(crate) fn test<'a>(rows: &Rows<'a>, memory: &'a Memory, s: usize, t: usize) 
 // Whether the jumps of state s are there, and a flow test takes its row.
 fn stands(rows: &Rows, s: usize) -> bool
     requires { s + 1 < length rows.now.starts.now }
-    ensures { result ≡ row_stands rows.now.starts.now rows.now.targets.now rows.now.probs.now s }
+    ensures { result ≡ stands_in rows.now s }
 {
     let a = rows.starts[s];
     let b = rows.starts[s + 1];
@@ -55,23 +57,23 @@ fn stands(rows: &Rows, s: usize) -> bool
 
 // Whether this holds of every state.
 pub(crate) fn all_stand(rows: &Rows) -> bool
-    requires { (rows.now.states ≤ 2000) × (rows.now.states < length rows.now.starts.now) }
-    ensures { result ≡ every (row_stands rows.now.starts.now rows.now.targets.now rows.now.probs.now) rows.now.states }
+    requires { (states_of rows.now ≤ 2000) × (states_of rows.now < length rows.now.starts.now) }
+    ensures { result ≡ every (stands_in rows.now) (states_of rows.now) }
 {
-    (0..rows.states).all(
+    (0..rows.exits.len()).all(
         |s|
             requires { s + 1 < length rows.now.starts.now }
         { stands(rows, s) },
     )
 }
 
-// Whether there are at most 2,000 states, and an exit rate and a start for each, a class, and bytes for the relation.
+// Whether there are at most 2,000 states, and a start for each, a class, and bytes for the relation.
 pub(crate) fn long_enough(rows: &Rows, classes: usize, bytes: usize) -> bool
-    ensures { result ≡ (leb rows.now.states 2000 && (leb rows.now.states classes && (leb rows.now.states (length rows.now.exits.now) && (ltb rows.now.states (length rows.now.starts.now) && leb (relation_bytes rows.now.states) bytes)))) }
+    ensures { result ≡ (leb (states_of rows.now) 2000 && (leb (states_of rows.now) classes && (ltb (states_of rows.now) (length rows.now.starts.now) && leb (relation_bytes (states_of rows.now)) bytes))) }
 {
-    rows.states <= 2000
-        && rows.states <= classes
-        && rows.states <= rows.exits.len()
-        && rows.states < rows.starts.len()
-        && relation_bytes(rows.states) <= bytes
+    let states = rows.exits.len();
+    states <= 2000
+        && states <= classes
+        && states < rows.starts.len()
+        && relation_bytes(states) <= bytes
 }

@@ -1,10 +1,11 @@
 // Sweeps over the pairs of a relation, until one without a strike. They are left where a flow test is not known without a network, and resumed with its answer.
-ghost use Rattle.std.specs.Prelude.{◌≡◌, ℕ, ◌≤◌, ◌<◌, ◌+◌, true, false, List, Bool, IfSome};
+ghost use Rattle.std.specs.Prelude.{◌≡◌, ◌≤◌, ◌<◌, ◌+◌, true, false, List, Bool, IfSome};
 ghost use Rattle.numbers.specs.Bits.{packed};
 ghost use Rattle.numbers.specs.Refuse.{numbered};
 ghost use Rattle.flow_duality.proofs.Plenty.{Even};
+ghost use Rattle.flow_links.proofs.RowsRead.{Fitting, states_of};
 ghost use Rattle.epsdelta_sweeps.specs.Place.{Same, Judged};
-ghost use Rattle.epsdelta_sweeps.specs.Leading.{place_of, Whole, Paired, Worded, Enough, passes_in, Tested, Answers, Ample, Holding, AtTurn, AtTest, Sweepable, FromTurn, FromTest, ToTurn, ToSweepEnd, ToEnd};
+ghost use Rattle.epsdelta_sweeps.specs.Leading.{place_of, Paired, Worded, Enough, passes_in, Tested, Answers, Ample, Holding, AtTurn, AtTest, Sweepable, Asking, FromTurn, FromTest, ToTurn, ToSweepEnd, ToEnd};
 
 use crate::changes::{Memory, fade, unchanged};
 use crate::place::{Asked, Place, Terms};
@@ -24,7 +25,7 @@ fn judge(terms: &Terms, memory: &Memory, s: usize, t: usize) -> Option<bool>
 
 // What is known without a network of the flow tests from s to t and back: where the flow is plenty, both pass.
 fn judge_both(terms: &Terms, memory: &Memory, s: usize, t: usize) -> Ways
-    requires { Paired terms.now.rows s t × Enough terms.now.rows terms.now.need terms.now.plenty × Even terms.now.rows.states memory.now.relation.now }
+    requires { Paired terms.now.rows s t × Enough terms.now.rows terms.now.need terms.now.plenty × Even (states_of terms.now.rows) memory.now.relation.now }
     ensures { (R : List Bool) → memory.now.relation.now ≡ packed R → Judged (passes_in terms.now.rows terms.now.need R s t) (passes_in terms.now.rows terms.now.need R t s) result }
 {
     let test = test(&terms.rows, memory, s, t);
@@ -34,57 +35,34 @@ fn judge_both(terms: &Terms, memory: &Memory, s: usize, t: usize) -> Ways
 
 // Whether the sweep has struck once the flow test from s to t passed: the test back is judged.
 fn passed_forth(terms: &Terms, memory: &mut Memory, at: Place) -> Result<bool, Asked>
-    requires { Paired terms.now.rows at.s at.t × Worded terms.now.rows.states memory.old }
+    requires { Paired terms.now.rows at.s at.t × Worded (states_of terms.now.rows) memory.old }
     ensures { (Holding terms.now memory.old at false true → Tested terms.now memory.old at.s at.t true → ToTurn (FromTest terms.now memory.old at false memory.new) at.s (at.t + 1) result) × Same memory.old memory.new }
 {
     match judge(terms, memory, at.t, at.s) {
         Some(true) => Ok(at.struck),
         Some(false) => {
-            memory.strike(terms.rows.states, at.s, at.t);
+            memory.strike(at.s, at.t);
             Ok(true)
         }
-        None => Err(Asked {
-            s: at.s,
-            t: at.t,
-            struck: at.struck,
-            back: true,
-        }),
+        None => Err(at.ask(true)),
     }
 }
 
 // Whether the sweep has struck after the turn of (s, t): a pair that stands is tested if s has an exit, unless nothing that its tests read was struck since they passed.
 fn turn(terms: &Terms, memory: &mut Memory, at: Place) -> Result<bool, Asked>
-    requires { Whole terms.now.rows × (at.s < at.t) × (at.t < terms.now.rows.states) × AtTurn terms.now memory.old at }
+    requires { Fitting terms.now.rows × (at.s < at.t) × (at.t < states_of terms.now.rows) × AtTurn terms.now memory.old at }
     ensures { ToTurn (FromTurn terms.now memory.old at memory.new) at.s (at.t + 1) result × Same memory.old memory.new }
 {
-    let s = at.s;
-    let t = at.t;
-    if !memory.holds(terms.rows.states, s, t) {
-        return Ok(at.struck);
-    }
-    if terms.rows.exits[s] == 0.0 {
-        return Ok(at.struck);
-    }
-    if unchanged(&terms.rows, memory, s, t) {
-        return Ok(at.struck);
+    let Place { s, t, struck } = at;
+    if !memory.holds(s, t) || terms.rows.exits[s] == 0.0 || unchanged(&terms.rows, memory, s, t) {
+        return Ok(struck);
     }
     match judge_both(terms, memory, s, t) {
-        Ways::Plenty => Ok(at.struck),
-        Ways::Both(true) => Ok(at.struck),
-        Ways::Forth => Err(Asked {
-            s,
-            t,
-            struck: at.struck,
-            back: true,
-        }),
-        Ways::Unknown => Err(Asked {
-            s,
-            t,
-            struck: at.struck,
-            back: false,
-        }),
+        Ways::Plenty | Ways::Both(true) => Ok(struck),
+        Ways::Forth => Err(at.ask(true)),
+        Ways::Unknown => Err(at.ask(false)),
         Ways::Both(false) => {
-            memory.strike(terms.rows.states, s, t);
+            memory.strike(s, t);
             Ok(true)
         }
     }
@@ -92,11 +70,11 @@ fn turn(terms: &Terms, memory: &mut Memory, at: Place) -> Result<bool, Asked>
 
 // The turns of s with t and every higher state.
 fn sweep_row(terms: &Terms, memory: &mut Memory, at: Place) -> Result<bool, Asked>
-    requires { Whole terms.now.rows × (at.s < at.t) × (at.t ≤ terms.now.rows.states) × AtTurn terms.now memory.old at }
+    requires { Fitting terms.now.rows × (at.s < at.t) × (at.t ≤ states_of terms.now.rows) × AtTurn terms.now memory.old at }
     ensures { ToTurn (FromTurn terms.now memory.old at memory.new) (at.s + 1) (at.s + 1 + 1) result × Same memory.old memory.new }
 {
     let mut struck = at.struck;
-    for t in at.t..terms.rows.states {
+    for t in at.t..terms.rows.exits.len() {
         struck = turn(terms, memory, Place { t, struck, ..at })?;
     }
     Ok(struck)
@@ -105,11 +83,11 @@ fn sweep_row(terms: &Terms, memory: &mut Memory, at: Place) -> Result<bool, Aske
 // The rest of a sweep over the pairs s < t in rising order, and whether it struck.
 fn sweep(terms: &Terms, memory: &mut Memory, at: Place) -> Result<bool, Asked>
     requires { Sweepable terms.now memory.old at }
-    ensures { ToSweepEnd (FromTurn terms.now memory.old at memory.new) terms.now.rows.states result × Same memory.old memory.new }
+    ensures { ToSweepEnd (FromTurn terms.now memory.old at memory.new) (states_of terms.now.rows) result × Same memory.old memory.new }
 {
     let mut struck = at.struck;
     let mut t = at.t;
-    for s in at.s..terms.rows.states {
+    for s in at.s..terms.rows.exits.len() {
         struck = sweep_row(terms, memory, Place { s, t, struck })?;
         t = s + 2;
     }
@@ -119,11 +97,11 @@ fn sweep(terms: &Terms, memory: &mut Memory, at: Place) -> Result<bool, Asked>
 // The rest of a sweep, and further ones until one without a strike.
 pub(crate) fn advance(terms: &Terms, memory: &mut Memory, at: Place) -> Result<(), Asked>
     requires { Sweepable terms.now memory.old at }
-    ensures { ToEnd (FromTurn terms.now memory.old at memory.new) terms.now.rows.states result × Same memory.old memory.new }
+    ensures { ToEnd (FromTurn terms.now memory.old at memory.new) (states_of terms.now.rows) result × Same memory.old memory.new }
 {
     let mut struck = sweep(terms, memory, at)?;
     while struck {
-        fade(terms.rows.states, memory);
+        fade(memory);
         struck = sweep(terms, memory, Place::FIRST)?;
     }
     Ok(())
@@ -145,25 +123,17 @@ fn tested(
     asked: Asked,
     answer: Result<Flow, Refusal>,
 ) -> Result<bool, Asked>
-    requires { Paired terms.now.rows asked.s asked.t × Worded terms.now.rows.states memory.old × AtTest terms.now memory.old asked × Answers terms.now.rows memory.old asked (numbered answer) }
+    requires { Paired terms.now.rows asked.s asked.t × Worded (states_of terms.now.rows) memory.old × AtTest terms.now memory.old asked × Answers terms.now.rows memory.old asked (numbered answer) }
     ensures { ToTurn (FromTest terms.now memory.old (place_of asked) asked.back memory.new) asked.s (asked.t + 1) result × Same memory.old memory.new }
 {
     if !enough(answer, terms.need) {
-        memory.strike(terms.rows.states, asked.s, asked.t);
+        memory.strike(asked.s, asked.t);
         return Ok(true);
     }
-    if asked.back {
+    if asked.back || ample(terms, memory, asked, answer) {
         return Ok(asked.struck);
     }
-    if ample(terms, memory, asked, answer) {
-        return Ok(asked.struck);
-    }
-    let at = Place {
-        s: asked.s,
-        t: asked.t,
-        struck: asked.struck,
-    };
-    passed_forth(terms, memory, at)
+    passed_forth(terms, memory, asked.place())
 }
 
 // The answer to the test that is asked for, and the sweeps from there on.
@@ -173,8 +143,8 @@ pub(crate) fn settle(
     asked: Asked,
     answer: Result<Flow, Refusal>,
 ) -> Result<(), Asked>
-    requires { Whole terms.now.rows × AtTest terms.now memory.old asked × Answers terms.now.rows memory.old asked (numbered answer) }
-    ensures { ToEnd (FromTest terms.now memory.old (place_of asked) asked.back memory.new) terms.now.rows.states result × Same memory.old memory.new }
+    requires { Asking terms.now memory.old asked × Answers terms.now.rows memory.old asked (numbered answer) }
+    ensures { ToEnd (FromTest terms.now memory.old (place_of asked) asked.back memory.new) (states_of terms.now.rows) result × Same memory.old memory.new }
 {
     let struck = tested(terms, memory, asked, answer)?;
     let next = Place {

@@ -3,7 +3,7 @@ ghost use Rattle.std.specs.Prelude.{◌≡◌};
 ghost use Rattle.chain_theory.specs.Columns.{chain_columns};
 ghost use Rattle.distance.specs.Measuring.{memory};
 ghost use Rattle.distance_replies.specs.Distances.{replied};
-ghost use Rattle.exports.specs.Distances.{options, leaving, distance_of, by_numbers};
+ghost use Rattle.exports.specs.Distances.{leaving, distance_of, by_numbers};
 
 use chain_theory::Chain;
 use distance::entry::distance;
@@ -12,16 +12,6 @@ use distance_theory::lent::Scratch;
 use distance_theory::{Goal, MetricOptions, PairContribution};
 use numbers::refusal::code;
 use replies::shapes::chain_of;
-
-pub fn metric_options(tolerance: f64, max_rounds: usize, top: usize) -> MetricOptions
-    ensures { result ≡ options tolerance max_rounds top }
-{
-    MetricOptions {
-        tolerance,
-        max_rounds,
-        top,
-    }
-}
 
 // The distance of two chains, discounted by gamma, and its contributions in the row of records. The lists of pairs and the coupling store are scratch.
 #[unsafe(no_mangle)]
@@ -78,7 +68,11 @@ pub extern "C" fn tanqesha_distance(
     };
     let goal = Goal {
         gamma,
-        options: metric_options(tolerance, max_rounds, top),
+        options: MetricOptions {
+            tolerance,
+            max_rounds,
+            top,
+        },
     };
     let mut scratch = Scratch {
         lefts,

@@ -1,5 +1,6 @@
 // The entries for C and Rust: numbers, slices and references to numbers. Where a function can refuse, it returns the refusal's number,
 // or 0 with its answer behind the references at its end, which a refusal leaves as they were.
+// Stays: C lends a model as ten numbers and columns, each a parameter, so that a function of two models has over 40 lines. A `Wlts` of them by a function of ten parameters would be as long, and lose the names that tell columns of one type apart.
 #![tactic(auto)]
 
 pub mod models; // models.rt: numbers, labels and models

@@ -120,7 +120,7 @@ pub extern "C" fn tanqesha_uniformise(
         observations: chain_observations,
     };
     let answer = chain::uniformise(&model, rate, observations, &mut store);
-    code(&answers::put_chain(answer, entries))
+    code(&answers::put(answer.map(|made| made.entries), entries))
 }
 
 // The observations of two chains mapped to 0 to 1, by one least and one greatest over both; behind the reference, by how much they differ.

@@ -51,7 +51,7 @@ pub extern "C" fn tanqesha_intern(
     ensures labels_after { labels.new ≡ (Ids.interning labels.old count value).labels }
 {
     let answer = ids::intern(labels, count, value);
-    code(&answers::put_interned(answer, id, total))
+    code(&answers::put_pair(answer.map(|(l, n)| (l.0, n)), id, total))
 }
 
 #[unsafe(no_mangle)]
@@ -119,10 +119,15 @@ pub extern "C" fn tanqesha_build(
         edge_weights,
     };
     let answer = build(&draft, &mut store);
-    code(&answers::put_built(answer, edges, distinct))
+    code(&answers::put_pair(
+        answer.map(|made| (made.edges, made.labels)),
+        edges,
+        distinct,
+    ))
 }
 
 // The number of the check that a model fails, 0 if it is accepted.
+// Stays: here and below the C interface hands a model in as ten numbers and columns, and its signatures may not change; a function that makes the `Wlts` would take all ten one by one again.
 #[unsafe(no_mangle)]
 pub extern "C" fn tanqesha_model_refusal(
     states: usize,
@@ -305,7 +310,7 @@ pub extern "C" fn tanqesha_successors(
         edge_weights,
     };
     let answer = reader::successors(&model, StateId(s));
-    code(&answers::put_successors(answer, from, to))
+    code(&answers::put_pair(answer, from, to))
 }
 
 // The value of a label id.

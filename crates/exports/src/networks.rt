@@ -10,12 +10,13 @@ ghost use Rattle.replies.specs.Flows.{told, of_flow};
 ghost use Rattle.exports.specs.Networks.{flow_rows, network_refusal, kept};
 
 use flow::network::FlowNetwork;
-use flow_check::{Edge, Ends};
+use flow_check::{Course, Edge, Ends};
 use flow_core::{Flow, rows};
 use numbers::refusal::{Refusal, code};
 use replies::answers;
 
-// A network in rows as C lends them: the starts are a list of any length.
+// A network in rows as C lends them.
+// Stays: beside flow_check's Network, since C lends the starts as a list of any length, and there are 67 of them in a network.
 #[derive(Clone, Copy)]
 struct Rows<'a> {
     heads: &'a [u32],
@@ -45,14 +46,15 @@ fn flow_rows(lent: &Rows, caps: &mut [f64], ends: Ends) -> Result<Flow, Refusal>
     ensures { Outcome.ends (numbered result) caps.new ≡ flow_rows lent.now.heads.now caps.old lent.now.costs.now lent.now.starts.now lent.now.list.now lent.now.nodes ends.source ends.sink }
 {
     let net = lent.network()?;
-    rows::max_flow_rows(&net, caps, ends)
+    rows::max_flow_rows(&Course { net, ends }, caps)
 }
 
 // Whether a network is accepted with these capacities, source and sink.
 fn check_rows(lent: &Rows, caps: &[f64], ends: Ends) -> Result<(), Refusal>
     ensures { code result ≡ network_refusal lent.now.heads.now caps.now lent.now.costs.now lent.now.starts.now lent.now.list.now lent.now.nodes ends.source ends.sink }
 {
-    if lent.network()?.accepts(caps, ends) {
+    let net = lent.network()?;
+    if (Course { net, ends }).accepts(caps) {
         Ok(())
     } else {
         Err(Refusal::NetworkOrMasses)

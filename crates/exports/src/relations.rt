@@ -12,14 +12,16 @@ use bisim_core::ids::StateId;
 use bisim_core::wlts::Wlts;
 use bisimilar::bisimilar::epsdelta_bisimilar;
 use bisimilar::related;
-use epsdelta::asked::{Side, Sides, Tolerances};
+use epsdelta::asked::{Side, Sides};
 use epsdelta::relation;
+use epsdelta_theory::tolerances::Tolerances;
 use min_epsilon::least;
 use numbers::refusal::code;
 use replies::answers;
 use replies::shapes::shape_of;
 
 // The relation of two models in the bytes; a refusal leaves them as they were.
+// Stays: over 40 lines, since C hands over each number and each column by itself; a function that makes a model of them would take the same ten, one a line.
 #[unsafe(no_mangle)]
 pub extern "C" fn tanqesha_epsdelta(
     left_states: usize,
@@ -107,10 +109,11 @@ pub extern "C" fn tanqesha_related(
     ensures { result ∷ related.new ∷ [] ≡ of_verdict (related_outcome left_states right_states relation.now s t) related.old }
 {
     let answer = related::related(left_states, right_states, relation, StateId(s), StateId(t));
-    code(&answers::put_verdict(answer, related))
+    code(&answers::put(answer.map(u32::from), related))
 }
 
 // Whether the initial states of two models are related; the bytes are work space, zero at the end.
+// Stays: over 40 lines, since C hands over each number and each column by itself; a function that makes a model of them would take the same ten, one a line.
 #[unsafe(no_mangle)]
 pub extern "C" fn tanqesha_epsdelta_bisimilar(
     left_states: usize,
@@ -184,10 +187,11 @@ pub extern "C" fn tanqesha_epsdelta_bisimilar(
     let tolerances = Tolerances { epsilon, rho };
     let sides = Sides { left, right };
     let answer = epsdelta_bisimilar(&sides, tolerances, relation);
-    code(&answers::put_verdict(answer, related))
+    code(&answers::put(answer.map(u32::from), related))
 }
 
 // The least ε at which the initial states of two models are related, if there is one; the bytes are work space, zero at the end.
+// Stays: over 40 lines, since C hands over each number and each column by itself; a function that makes a model of them would take the same ten, one a line.
 #[unsafe(no_mangle)]
 pub extern "C" fn tanqesha_min_epsilon(
     left_states: usize,

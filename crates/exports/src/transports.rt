@@ -5,7 +5,7 @@ ghost use Rattle.transport.specs.Outcome.{transport_on};
 ghost use Rattle.replies.specs.Transports.{told, leaves, planned};
 
 use numbers::refusal::code;
-use replies::transports;
+use replies::answers;
 use transport::entry;
 use transport::plan::PlanRows;
 use transport_theory::Masses;
@@ -37,5 +37,5 @@ pub extern "C" fn tanqesha_transport(
         masses: plan_masses,
     };
     let answer = entry::transport(&of, &mut plan);
-    code(&transports::put_plan(answer, total, cells))
+    code(&answers::put_pair(answer.map(|plan| (plan.total, plan.cells)), total, cells))
 }

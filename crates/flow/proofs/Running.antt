@@ -2,11 +2,11 @@
 use mathlib.Core.Path.{◌≡◌, sym, ap, ◌∙◌}
 use Prim.Native.Nat.{ℕ, ◌+◌, ◌≤◌, ◌<◌}
 use native.Mathlib.Numerals.{add-one}
-use mathlib.Core.List.{List, ◌++◌}
+use mathlib.Core.List.{List, ◌++◌, map}
 use native.Mathlib.Omega.{arith}
 use borrow.Author.Tests.{le-leb}
-use lib.ListN.{length, get_or, set, take, drop, take-append-drop, length-append}
-use lib.Seq.{length-take-le, take_at, drop_at}
+use lib.ListN.{length, get_or, set, take, drop, take-append-drop, length-append, length-map}
+use lib.Seq.{length-take-le, take-take, take_at, drop_at}
 use lib.Ieee.{Float}
 use Rattle.std.specs.Prelude.{Result}
 use Rattle.flow_core.specs.declared.Flow.{Flow}
@@ -63,6 +63,14 @@ entered_front ls n h hs cs ps E = (
   E.2 ∙ ap (λ (r : List Float). over r ps) (front_rows (λ (l : Link). l.cost) ls n h),
 )
 
+-- the row of capacities has their places
+pub entered_wide : (ls : List Link) (n : ℕ) → n ≤ length ls → (cs : List Float) {caps : List Float} → caps ≡ over (caps_of n ls) cs → n ≤ length caps
+entered_wide ls n h cs {caps} e =
+    let m = length-map ls (λ (l : Link). l.cap) in
+    let k = length-take-le n (map (λ (l : Link). l.cap) ls) (omega arith) in
+    let a = ap length e ∙ length-append (caps_of n ls) (drop (length (caps_of n ls)) cs) in
+    omega arith
+
 -- the network while capacities are put back: the first j are those of the row
 abbrev pub PutBack : FlowNetwork → List Float → FlowNetwork → ℕ → Type 0
 PutBack N z N' j = (j ≤ N.count) × (N' ≡ with_links N (with_caps N.links (take j z)))
@@ -75,6 +83,10 @@ module _ (N : FlowNetwork) (z : List Float) (few : N.count ≤ length N.links) (
         ∙ ap (with_links N) (caps_suc N.links z j (omega arith) (omega arith))
         ∙ ap (λ (m : ℕ). with_links N (with_caps N.links (take m z))) (sym (add-one j)),
   )
+
+-- of a row that is cut behind them
+pub put_cut : (N : FlowNetwork) (z : List Float) {N' : FlowNetwork} {j : ℕ} → PutBack N (take N.count z) N' j → PutBack N z N' j
+put_cut N z {j = j} I = (I.0, I.1 ∙ ap (λ (p : List Float). with_links N (with_caps N.links p)) (take-take j N.count z I.0))
 
 pub put_none : (N : FlowNetwork) (z : List Float) → PutBack N z N 0
 put_none N z = (omega arith, ap (with_links N) (sym (caps_none N.links)))

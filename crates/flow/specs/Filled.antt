@@ -28,6 +28,10 @@ stored N H c n nodes = record { links = laid N.links H c n; count = n; nodes = n
 abbrev pub rows_fit : List ℕ → ℕ → ℕ → ℕ → ℕ → Bool
 rows_fit H caps costs n nodes = leb n (length H) && (leb n caps && (leb n costs && (leb nodes 66 && (leb n 2176 && (eqb (n % 2) 0 && all (λ v. ltb v nodes) (take n H))))))
 
+-- do these heads, with as many capacities and costs, make a network
+abbrev pub heads_make : List ℕ → ℕ → Bool
+heads_make H nodes = rows_fit H (length H) (length H) (length H) nodes
+
 -- the network with the node lists that adding these links in order gives; entries past their ends keep their contents
 abbrev pub relisted_if : Bool → FlowNetwork → List ℕ → ℕ → FlowNetwork
 relisted_if true N H nodes = record { links = N.links; count = N.count; nodes = N.nodes; starts = over (starts_of H nodes) N.starts; list = over (list_of H nodes) N.list }

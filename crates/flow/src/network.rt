@@ -4,10 +4,9 @@ ghost use Rattle.flow.specs.Network.{heads_of, caps_of, costs_of, flow_through, 
 ghost use Rattle.flow_theory.proofs.ListRows.{Indexable};
 ghost use Rattle.numbers.specs.Lists.{over};
 ghost use Rattle.numbers.specs.Refuse.{numbered, code};
-ghost use Rattle.std.specs.Prelude.{◌≡◌, ◌+◌, ◌≤◌, length, take, drop};
-ghost use Rattle.flow_core.specs.Outcome;
+ghost use Rattle.std.specs.Prelude.{◌≡◌, ◌+◌, ◌≤◌, length};
 
-use flow_check::{Edge, Ends, Network, check};
+use flow_check::{Course, Edge, Ends, Network, check};
 use flow_core::{Flow, rows};
 use numbers::refusal::Refusal;
 
@@ -33,7 +32,7 @@ pub struct FlowNetwork {
 }
 
 // Copies heads, capacities and costs of the links to the front of rows.
-// Stays: the three rows are no struct, since max_flow_in lends two of them on as shared beside the third, which the run changes: what fields of one lent struct hold is not known after that (docs/PROVING.md, Pitfalls).
+// Stays: three rows by themselves. Of a struct of three lent slices max_flow_in would lend two fields on as shared beside the third, and what they hold afterwards is not known (docs/PROVING.md, Pitfalls); of a struct by value, as in `transport_in`, a contract has only what it was at entry; one of three arrays of N numbers was written and proves, but asks more of who calls `flow_rows` than slices of any length.
 fn unpack(links: &[Link], heads: &mut [u32], caps: &mut [f64], costs: &mut [f64])
     requires { (length links.now ≤ length heads.old) × (length links.now ≤ length caps.old) × (length links.now ≤ length costs.old) }
     ensures { (heads.new ≡ over (heads_of (length links.now) links.now) heads.old) × (caps.new ≡ over (caps_of (length links.now) links.now) caps.old) × (costs.new ≡ over (costs_of (length links.now) links.now) costs.old) }
@@ -46,6 +45,7 @@ fn unpack(links: &[Link], heads: &mut [u32], caps: &mut [f64], costs: &mut [f64]
 }
 
 // Copies the heads of the links into a row.
+// Stays: beside `unpack`, which goes over the links once. Made of this, it would cut `heads` for the call and go over them a second time for the other two rows.
 fn unpack_heads(links: &[Link], heads: &mut [u32])
     requires { length heads.old ≡ length links.now }
     ensures { heads.new ≡ heads_of (length links.now) links.now }
@@ -56,6 +56,7 @@ fn unpack_heads(links: &[Link], heads: &mut [u32])
 }
 
 // Whether a network passes the check but for source and sink.
+// Stays: the Network is made here and in max_flow_in. A function that makes it of FlowNetwork, heads and costs has five equations in its contract, one for each field, and is longer than either literal.
 fn net_fits(net: &FlowNetwork) -> bool
     requires { net.now.count ≤ 2176 }
     ensures { result ≡ fits_on net.now }
@@ -75,17 +76,18 @@ fn net_fits(net: &FlowNetwork) -> bool
     rows.fits(&caps[..n])
 }
 
-// Takes the two links after those in use, and makes the node lists with them.
-fn grow(net: &mut FlowNetwork)
+// Takes the two links after those in use, and makes the node lists with them; it is never refused, as there is room.
+// Stays: a Result that is always Ok, since `node_lists` answers one, and here it is neither dropped nor unwrapped: add_edge's own answer is this one.
+fn grow(net: &mut FlowNetwork) -> Result<(), Refusal>
     requires { (net.old.count ≤ 2174) × (net.old.nodes ≤ 66) × Indexable (heads_of (net.old.count + 2) net.old.links) net.old.nodes }
-    ensures { net.new ≡ grown net.old net.old.links }
+    ensures { leaves (code result) net.new ≡ leaves 0 (grown net.old net.old.links) }
 {
     let n = net.count + 2;
     let mut heads = [0u32; 2176];
     unpack_heads(&net.links[..n], &mut heads[..n]);
-    // it is no refusal: there is room
-    let _ = check::node_lists(&heads[..n], net.nodes, &mut net.starts, &mut net.list);
+    check::node_lists(&heads[..n], net.nodes, &mut net.starts, &mut net.list)?;
     net.count = n;
+    Ok(())
 }
 
 // The run on the network through lent rows, in which heads, capacities and costs of its links stand meanwhile.
@@ -109,9 +111,9 @@ pub(crate) fn max_flow_in(
         list: &net.list,
         nodes: net.nodes,
     };
-    let answer = rows::max_flow_rows(&lent, &mut caps[..n], ends);
-    for j in 0..n {
-        net.links[j].cap = caps[j];
+    let answer = rows::max_flow_rows(&Course { net: lent, ends }, &mut caps[..n]);
+    for (j, cap) in caps[..n].iter().enumerate() {
+        net.links[j].cap = *cap;
     }
     answer
 }
@@ -150,12 +152,12 @@ impl FlowNetwork {
     pub fn new(nodes: usize) -> Result<FlowNetwork, Refusal>
         ensures { numbered result ≡ made nodes }
     {
-        if nodes <= 66 {
-            let mut net = FlowNetwork::empty();
-            net.nodes = nodes;
-            return Ok(net);
+        if nodes > 66 {
+            return Err(Refusal::NetworkOrMasses);
         }
-        Err(Refusal::NetworkOrMasses)
+        let mut net = FlowNetwork::empty();
+        net.nodes = nodes;
+        Ok(net)
     }
 
     // Adds a link, and its reverse of capacity 0 and the cost negated; a refusal leaves the network as it is.
@@ -163,21 +165,20 @@ impl FlowNetwork {
         ensures { leaves (code result) self.new ≡ added self.old edge.from edge.to edge.cap edge.cost }
     {
         let n = self.count;
-        if n <= 2174 && edge.fits(self.nodes) && net_fits(self) {
-            self.links[n] = Link {
-                head: edge.to as u32,
-                cap: edge.cap,
-                cost: edge.cost,
-            };
-            self.links[n + 1] = Link {
-                head: edge.from as u32,
-                cap: 0.0,
-                cost: -edge.cost,
-            };
-            grow(self);
-            return Ok(());
+        if n > 2174 || !edge.fits(self.nodes) || !net_fits(self) {
+            return Err(Refusal::NetworkOrMasses);
         }
-        Err(Refusal::NetworkOrMasses)
+        self.links[n] = Link {
+            head: edge.to as u32,
+            cap: edge.cap,
+            cost: edge.cost,
+        };
+        self.links[n + 1] = Link {
+            head: edge.from as u32,
+            cap: 0.0,
+            cost: -edge.cost,
+        };
+        grow(self)
     }
 
     // The maximum flow from source to sink: the links keep the capacities that the run leaves.
@@ -185,12 +186,12 @@ impl FlowNetwork {
         ensures { (nets.ends (numbered result) self.new ≡ flow_through self.old ends.source ends.sink) × ClaimedOn self.old ends.source ends.sink }
     {
         let count = self.count;
+        if count > 2176 {
+            return Err(Refusal::NetworkOrMasses);
+        }
         if count <= 128 {
             return max_flow_with::<128>(self, ends);
         }
-        if count <= 2176 {
-            return max_flow_with::<2176>(self, ends);
-        }
-        Err(Refusal::NetworkOrMasses)
+        max_flow_with::<2176>(self, ends)
     }
 }

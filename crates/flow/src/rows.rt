@@ -3,7 +3,7 @@ ghost use Rattle.std.specs.Prelude.{◌≡◌, ◌≤◌, length};
 ghost use Rattle.numbers.specs.Refuse.{numbered, code};
 ghost use Rattle.flow_check.specs.Refusal.{refused_unless};
 ghost use Rattle.flow.specs.Network.{flown};
-ghost use Rattle.flow.specs.Filled.{stored, rows_fit, filled_if, flow_rows};
+ghost use Rattle.flow.specs.Filled.{stored, heads_make, filled_if, flow_rows};
 
 use crate::network;
 use crate::network::{FlowNetwork, Link};
@@ -12,6 +12,7 @@ use flow_core::Flow;
 use numbers::refusal::Refusal;
 
 // Puts these heads and capacities over the network's first links; the links added cost 0, their reverses its negation.
+// Stays: by `heads.iter().zip(caps).enumerate()` the invariant has no place i, only the list of what was yielded, and the laws of `laid` are of places.
 fn store_links(net: &mut FlowNetwork, heads: &[u32], caps: &[f64], nodes: usize)
     requires { (length heads.now ≤ 2176) × (length caps.now ≡ length heads.now) }
     ensures { net.new ≡ stored net.old heads.now caps.now (length heads.now) nodes }
@@ -30,10 +31,11 @@ fn store_links(net: &mut FlowNetwork, heads: &[u32], caps: &[f64], nodes: usize)
 }
 
 // Fills the network with the links of the rows and their node lists; the network stays as it was where the rows make no network.
+// Stays: two rows, which flow_rows cuts off the three that it is lent by themselves (`network::unpack` says why).
 fn fill(net: &mut FlowNetwork, heads: &[u32], caps: &[f64], nodes: usize) -> Result<(), Refusal>
     requires { length caps.now ≡ length heads.now }
-    ensures fits { code result ≡ refused_unless (rows_fit heads.now (length heads.now) (length heads.now) (length heads.now) nodes) }
-    ensures filled { net.new ≡ filled_if (rows_fit heads.now (length heads.now) (length heads.now) (length heads.now) nodes) net.old heads.now caps.now (length heads.now) nodes }
+    ensures fits { code result ≡ refused_unless (heads_make heads.now nodes) }
+    ensures filled { net.new ≡ filled_if (heads_make heads.now nodes) net.old heads.now caps.now (length heads.now) nodes }
 {
     check::node_lists(heads, nodes, &mut net.starts, &mut net.list)?;
     store_links(net, heads, caps, nodes);
@@ -41,7 +43,7 @@ fn fill(net: &mut FlowNetwork, heads: &[u32], caps: &[f64], nodes: usize) -> Res
 }
 
 // The maximum flow from source to sink on a network that is lent and filled with the links of the rows' first n places, two for each added link; the rows keep the capacities and the costs of the links.
-// Stays: three rows, for the reason that `network::unpack` gives; n says how far work space is in use that is lent whole, and they are cut to it here.
+// Stays: three rows, for the reason that `network::unpack` gives. With slices cut by the caller n would go, but not the two tests of lengths, and the promise for longer rows, that they stay as they were from n on, would have to be shown by each caller from what the cuts leave.
 pub fn flow_rows(
     net: &mut FlowNetwork,
     heads: &mut [u32],

@@ -8,7 +8,6 @@ mod index; // index.rt: node lists as rows
 pub mod check; // check.rt: the check
 
 // The links of a network, a lent slice for each column, and its node lists; links 2k and 2k + 1 are an added link and its reverse.
-// Stays: the capacities stand beside it, since a run changes them while it reads the rest: with them in it two structs would be needed, as & and &mut are two types.
 #[derive(Clone, Copy, Debug)]
 pub struct Network<'a> {
     pub heads: &'a [u32], // the node where each link ends
@@ -37,6 +36,14 @@ impl<'a> Network<'a> {
 pub struct Ends {
     pub source: usize,
     pub sink: usize,
+}
+
+// What stays in a run: the network, and its ends.
+// Stays: the capacities stand beside it. With them as a `&mut` field each function of a run would have one parameter less, and a promise more that heads, costs, starts, list, nodes and ends are as they were, since a field behind `&mut` says nothing of itself after a call.
+#[derive(Clone, Copy, Debug)]
+pub struct Course<'a> {
+    pub net: Network<'a>,
+    pub ends: Ends,
 }
 
 // A link that is to be added: from a node to a node, its capacity and its cost for a unit.

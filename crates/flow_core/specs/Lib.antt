@@ -1,3 +1,4 @@
 pub mod Outcome
 pub mod Test
 pub mod Path
+pub mod Steps

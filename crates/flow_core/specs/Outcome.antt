@@ -4,8 +4,7 @@ use Rattle.flow_theory.specs.Run.{FlowRun, max_flow, all_pushes}
 use Rattle.flow_theory.specs.Rows.{network}
 use Rattle.flow_theory.specs.Claim.{FlowClaim}
 use Rattle.flow_check.specs.Refusal.{accepts}
-use Rattle.flow_check.specs.declared.Network.{Network}
-use Rattle.flow_check.specs.declared.Ends.{Ends}
+use Rattle.flow_check.specs.declared.Course.{Course}
 use Rattle.flow_core.specs.declared.Flow.{Flow}
 
 -- the answer, its refusal by number, and the capacities that the run leaves
@@ -29,9 +28,9 @@ flow_on H c p starts list n s t = settled (accepts H c p starts list n s t) (max
 abbrev pub Claimed : List ℕ → List Float → List Float → List ℕ → List ℕ → ℕ → ℕ → ℕ → Type 0
 Claimed H c p starts list n s t = accepts H c p starts list n s t ≡ true → FlowClaim (network H n s t) c (length H / 2) (max_flow (network H n s t) c)
 
--- both of a network that is lent
-abbrev pub flow_lent : Network → List Float → Ends → Outcome
-flow_lent N c E = flow_on N.heads.now c N.costs.now N.starts.now N.list.now N.nodes E.source E.sink
+-- both of a network that is lent, and its ends
+abbrev pub flow_lent : Course → List Float → Outcome
+flow_lent K c = flow_on K.net.heads.now c K.net.costs.now K.net.starts.now K.net.list.now K.net.nodes K.ends.source K.ends.sink
 
-abbrev pub ClaimedLent : Network → List Float → Ends → Type 0
-ClaimedLent N c E = Claimed N.heads.now c N.costs.now N.starts.now N.list.now N.nodes E.source E.sink
+abbrev pub ClaimedLent : Course → List Float → Type 0
+ClaimedLent K c = Claimed K.net.heads.now c K.net.costs.now K.net.starts.now K.net.list.now K.net.nodes K.ends.source K.ends.sink

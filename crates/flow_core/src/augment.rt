@@ -1,31 +1,31 @@
 // One path along links to the next level, and the push along it.
-ghost use Rattle.flow_check.specs.Lent.{net_of};
-ghost use Rattle.flow_theory.proofs.PathRows.{Seekable, Found, Walkable};
+ghost use Rattle.flow_check.specs.Lent.{net_on};
+ghost use Rattle.flow_theory.proofs.PathRows.{Seekable, Found};
 ghost use Rattle.flow_core.specs.Path.{Ended};
-ghost use Rattle.std.specs.Prelude.{◌≡◌, ◌≤◌, [], length};
+ghost use Rattle.flow_core.specs.Steps.{PhaseWalkable, walked};
+ghost use Rattle.std.specs.Prelude.{◌≡◌, length};
 ghost use Rattle.flow_theory.specs.Augment;
-ghost use Rattle.flow_theory.specs.Augment.{walk_fuel, Pushed};
+ghost use Rattle.flow_theory.specs.Augment.{Pushed};
 
-use flow_check::{Ends, Network};
+use flow_check::Course;
 use flow_theory::{path, reverse};
 use numbers::{EPS, infinity};
 
-// What stays in a phase: the network, source and sink, and the levels.
+// What stays in a phase: what stays in the run, and the levels.
 #[derive(Clone, Copy)]
 pub(crate) struct Phase<'a> {
-    pub net: Network<'a>,
-    pub ends: Ends,
+    pub course: Course<'a>,
     pub level: &'a [usize],
 }
 
 // The place in a row of links of the first one that has capacity left and leads to the level `want`.
 fn seek(phase: &Phase, caps: &[f64], row: &[u32], want: usize) -> Option<usize>
-    requires { Seekable phase.now.net.heads.now row.now caps.now phase.now.level.now 0 (length row.now) }
-    ensures { Found phase.now.net.heads.now row.now caps.now phase.now.level.now want result }
+    requires { Seekable phase.now.course.net.heads.now row.now caps.now phase.now.level.now 0 (length row.now) }
+    ensures { Found phase.now.course.net.heads.now row.now caps.now phase.now.level.now want result }
 {
     for (k, link) in row.iter().enumerate() {
         let e = *link as usize;
-        let v = phase.net.heads[e] as usize;
+        let v = phase.course.net.heads[e] as usize;
         if caps[e] > EPS && phase.level[v] == want {
             return Some(k);
         }
@@ -42,16 +42,16 @@ struct Path {
 
 // Finds a path from the source along links to the next level, each node from its mark on, if there is one.
 fn walk(phase: &Phase, caps: &[f64], next: &mut [usize]) -> Option<Path>
-    requires { Walkable (net_of phase.now.net phase.now.ends) phase.now.net.starts.now phase.now.net.list.now caps.now phase.now.level.now next.old }
-    ensures { Ended result next.new (Augment.walk (net_of phase.now.net phase.now.ends) caps.now phase.now.level.now (walk_fuel (net_of phase.now.net phase.now.ends)) (record { at = phase.now.ends.source; path = []; next = next.old })) }
+    requires { PhaseWalkable phase.now caps.now next.old }
+    ensures { Ended result next.new (walked phase.now caps.now next.old) }
 {
-    let net = &phase.net;
+    let net = &phase.course.net;
     let mut path = Path {
         links: [0; 66],
         len: 0,
     };
-    let mut u = phase.ends.source;
-    while u != phase.ends.sink {
+    let mut u = phase.course.ends.source;
+    while u != phase.course.ends.sink {
         let links = net.leaving(u);
         let at = next[u];
         if at < links.len() {
@@ -80,9 +80,10 @@ fn walk(phase: &Phase, caps: &[f64], next: &mut [usize]) -> Option<Path>
 }
 
 // One path, and the push of its least capacity; gives what was pushed, 0 where no path is left.
+// Stays: 0 for no path, as the definition has it. Of an Option the phase would ask `is_none_or(|x| x <= EPS)`, since a push of so little ends it as well, and this contract would turn None into the definition's 0 again.
 pub(crate) fn augment(phase: &Phase, caps: &mut [f64], next: &mut [usize]) -> f64
-    requires { Walkable (net_of phase.now.net phase.now.ends) phase.now.net.starts.now phase.now.net.list.now caps.old phase.now.level.now next.old }
-    ensures { ◌≡◌ {A = Pushed} (record { amount = result; cap = caps.new; next = next.new }) (Augment.augment (net_of phase.now.net phase.now.ends) caps.old phase.now.level.now next.old) }
+    requires { PhaseWalkable phase.now caps.old next.old }
+    ensures { ◌≡◌ {A = Pushed} (record { amount = result; cap = caps.new; next = next.new }) (Augment.augment (net_on phase.now.course) caps.old phase.now.level.now next.old) }
 {
     let Some(path) = walk(phase, caps, next) else {
         return 0.0;

@@ -5,16 +5,16 @@ ghost use Rattle.numbers.specs.Refuse.{numbered};
 ghost use Rattle.std.specs.Prelude.{◌≡◌};
 
 use crate::{Flow, run};
-use flow_check::{Ends, Network};
+use flow_check::Course;
 use numbers::refusal::Refusal;
 
 // The maximum flow from source to sink; the capacities are left as the run leaves them, and untouched by a refusal.
-pub fn max_flow_rows(net: &Network, caps: &mut [f64], ends: Ends) -> Result<Flow, Refusal>
-    ensures caps_after { Outcome.ends (numbered result) caps.new ≡ flow_lent net.now caps.old ends }
-    ensures claimed { ClaimedLent net.now caps.old ends }
+pub fn max_flow_rows(course: &Course, caps: &mut [f64]) -> Result<Flow, Refusal>
+    ensures caps_after { Outcome.ends (numbered result) caps.new ≡ flow_lent course.now caps.old }
+    ensures claimed { ClaimedLent course.now caps.old }
 {
-    if net.accepts(caps, ends) {
-        return Ok(run::run(net, caps, ends));
+    if !course.accepts(caps) {
+        return Err(Refusal::NetworkOrMasses);
     }
-    Err(Refusal::NetworkOrMasses)
+    Ok(run::run(course, caps))
 }

@@ -1,12 +1,13 @@
 -- The flow test of two rows that fit: what its start is, and what an answer says of it.
 use mathlib.Core.Path.{◌≡◌, refl, sym, ap, ◌∙◌}
 use Prim.Native.Nat.{ℕ, ◌+◌, ◌*◌}
-use mathlib.Core.Bool.{Bool, true, false, ◌&&◌, false≢true}
+use mathlib.Core.Bool.{Bool, true, false, ◌&&◌, true≢false, beq}
 use mathlib.Core.List.{List, []}
 use lib.Dec.{leb}
 use lib.Ieee.{Float, le}
 use lib.ListN.{get_or}
-use Rattle.std.specs.Prelude.{Option, Some, None, IfSome, unwrap_or}
+use Rattle.std.specs.Prelude.{Option, Some, None, IfSome}
+use Rattle.std.specs.Option.{option_eq}
 use Rattle.std.proofs.lemmas.Option.{IfSome_then}
 use Rattle.numbers.specs.Bits.{bit_at}
 use Rattle.numbers.proofs.Bools.{and_t, and_second}
@@ -26,7 +27,7 @@ use Rattle.flow_core.proofs.Tests.{lefts, rights, between}
 use Rattle.flow_links.specs.declared.rows.Test.{Test}
 use Rattle.flow_links.specs.Lent.{test_fits}
 use Rattle.flow_direct.specs.Lent as lent
-use Rattle.flow_direct.specs.Reaches.{reaches, both_reach, test_reaches, at_least}
+use Rattle.flow_direct.specs.Reaches.{reaches, test_reaches, at_least}
 
 abbrev rows_of : List ℕ → List Float → List ℕ → List Float → ℕ → List ℕ → Rows
 rows_of us vs ts ws n store = record { states = n; relation = relation_of store; ps = jumps_of us vs; pt = jumps_of ts ws }
@@ -55,24 +56,17 @@ module _ (us : List ℕ) (vs : List Float) (ts : List ℕ) (ws : List Float) (n 
     pub known_reaches : (need : Float) (known : Option Bool) → Told us vs ts ws n store need known → IfSome known (λ passes. passes ≡ reaches us vs ts ws n (relation_of store) need)
     known_reaches need known T = IfSome_then known T (λ _ E. E (rows_of us vs ts ws n store) begins ∙ ap (λ (b : Bool). b && le need (run_between n (relation_of store) (jumps_of us vs) (jumps_of ts ws)).total) (sym f))
 
-  -- rows that do not fit
-  pub none_reaches : (need : Float) → fits us vs ts ws n ≡ false → false ≡ reaches us vs ts ws n (relation_of store) need
-  none_reaches need f = ap (λ (b : Bool). b && le need (run_between n (relation_of store) (jumps_of us vs) (jumps_of ts ws)).total) (sym f)
-
 -- of a test that is lent
 pub known_test : (T : Test) → test_fits T ≡ true → (need : Float) (known : Option Bool) → lent.Told T need known → IfSome known (λ passes. passes ≡ test_reaches T need)
 known_test T = known_reaches T.left.targets.now T.left.rates.now T.right.targets.now T.right.rates.now T.states T.relation.now
 
 -- what is known to be so
-pub known_true : {x : Bool} (known : Option Bool) → IfSome known (λ passes. passes ≡ x) → unwrap_or known false ≡ true → x ≡ true
-known_true (Some passes) e z = sym e ∙ z
-known_true None e z = absurd (false≢true z)
+pub known_true : {x : Bool} (known : Option Bool) → IfSome known (λ passes. passes ≡ x) → true ≡ option_eq beq known (Some true) → x ≡ true
+known_true (Some true) e z = sym e
+known_true (Some false) e z = absurd (true≢false z)
+known_true None e z = absurd (true≢false z)
 
 -- ---- both ways
-
--- rows that do not fit
-pub none_both : (us : List ℕ) (vs : List Float) (ts : List ℕ) (ws : List Float) (n : ℕ) (R : List Bool) (need : Float) → fits us vs ts ws n ≡ false → false ≡ both_reach us vs ts ws n R need
-none_both us vs ts ws n R need f = ap (λ (b : Bool). (b && le need (run_between n R (jumps_of us vs) (jumps_of ts ws)).total) && reaches ts ws us vs n R need) (sym f)
 
 -- rows that fit one way fit the other
 pub fits_back : (us : List ℕ) (vs : List Float) (ts : List ℕ) (ws : List Float) (n : ℕ) → fits us vs ts ws n ≡ true → fits ts ws us vs n ≡ true

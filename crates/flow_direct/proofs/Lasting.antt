@@ -1,6 +1,6 @@
 -- What lasts while what is left and the labels change: the test, and the lists' lengths.
-use mathlib.Core.Path.{◌≡◌, sym, subst, ◌∙◌}
-use Prim.Native.Nat.{ℕ, ◌<◌, ◌≤◌}
+use mathlib.Core.Path.{◌≡◌, sym, ap, subst, ◌∙◌}
+use Prim.Native.Nat.{ℕ, ◌*◌, ◌<◌, ◌≤◌}
 use mathlib.Core.Bool.{Bool}
 use mathlib.Core.List.{List}
 use native.Mathlib.Omega.{arith}
@@ -8,12 +8,20 @@ use lib.ListN.{length, get_or}
 use lib.Ieee.{Float, nan}
 use Rattle.std.specs.Prelude.{Option}
 use Rattle.flow_links.specs.declared.rows.Test.{Test}
+use Rattle.flow_links.proofs.Fitting.{TestFit}
 use Rattle.flow_routes.specs.declared.Attempt.TheVariants as tries
 use Rattle.flow_routes.proofs.Coding as coding
 use Rattle.flow_routes.proofs.Pathing as pathing
 use Rattle.flow_routes.proofs.Reaching as reaching
 use Rattle.flow_direct.specs.declared.search.Search.{Search}
 use Rattle.flow_direct.specs.Lent.{Tried, Settling, Settled}
+
+-- what is left at first is as long as the rates that it is a copy of, and has their entries
+pub room_first : (T : Test) {A B F : List Float} → TestFit T → length T.left.targets.now * length T.right.targets.now ≤ length F → A ≡ T.left.rates.now → B ≡ T.right.rates.now → coding.Room T.left.targets.now T.right.targets.now T.states A B F
+room_first T f m a b = record { states = f.states; lefts = f.left.few; rights = f.right.few; size_a = ap length a ∙ f.left.rates; size_b = ap length b ∙ f.right.rates; room_f = m }
+
+pub entries_first : {A B : List Float} {n : ℕ} → A ≡ B → (i : ℕ) → i < n → get_or A i nan ≡ get_or B i nan
+entries_first e i h = ap (λ (l : List Float). get_or l i nan) e
 
 -- room for a test is room for it under another name, in lists that are as long
 pub room_of : {T₀ T : Test} {A₀ B₀ F₀ A B F : List Float} → coding.Room T₀.left.targets.now T₀.right.targets.now T₀.states A₀ B₀ F₀ → T ≡ T₀ → coding.Sized A₀ B₀ F₀ A B F → coding.Room T.left.targets.now T.right.targets.now T.states A B F
@@ -37,11 +45,6 @@ module _ (need : Float) (S₀ : Search) (t₀ : Float) (S : Search) (s : ℕ) (t
     d ∙ e,
     subst (λ (T : Test). reaching.Tried T.left.targets.now T.right.targets.now T.states T.relation.now need S.rest.lefts.now S.rest.rights.now S.rest.flows.now S.labels.lefts.now S.labels.rights.now s t S'.rest.lefts.now S'.rest.rights.now S'.rest.flows.now S'.labels.lefts.now S'.labels.rights.now (tries.On s' t')) e Q _ _ _ _ _ _ I,
   )
-
-  -- or to an end
-  pub tried_ends : Settling need S₀ t₀ S s t → (S' : Search) (known : Option Bool) → Tried need S s t S' (tries.Ended known) → Settled need S₀ t₀ known
-  tried_ends (e, I) S' known (d, Q) =
-      subst (λ (T : Test). reaching.Tried T.left.targets.now T.right.targets.now T.states T.relation.now need S.rest.lefts.now S.rest.rights.now S.rest.flows.now S.labels.lefts.now S.labels.rights.now s t S'.rest.lefts.now S'.rest.rights.now S'.rest.flows.now S'.labels.lefts.now S'.labels.rights.now (tries.Ended known)) e Q _ _ _ _ _ _ I
 
 -- what is known at the end of the tries is known of the search from the first labels
 pub searched_from : {T₀ T : Test} (need t : Float) (A B F : List Float) (l r : List ℕ) (known : Option Bool) → T ≡ T₀ → length T₀.left.targets.now ≤ length l → length T₀.right.targets.now ≤ length r

@@ -1,6 +1,6 @@
 -- A flow test that is lent, and what its search holds: the words of flow_routes/proofs, of these structs.
 use mathlib.Core.Path.{◌≡◌}
-use Prim.Native.Nat.{ℕ}
+use Prim.Native.Nat.{ℕ, ◌≤◌, ◌<◌}
 use mathlib.Core.Bool.{Bool}
 use lib.ListN.{length}
 use lib.Ieee.{Float}
@@ -36,6 +36,10 @@ Giving R₀ t₀ i₀ R t i k =
 abbrev pub Placed : Test → Path → Type 0
 Placed T P = coding.Placed (length T.left.targets.now) (length T.right.targets.now) P.s P.lefts P.rights 1 0
 
+-- there is room, and the path is whole
+abbrev pub Along : Rest → Path → Type 0
+Along R P = Room R × (P.s ≤ 8) × Placed R.test P
+
 -- x is the least that is left on it
 abbrev pub LeastIs : Rest → Path → Float → Type 0
 LeastIs R P x = pathing.LeastIs (length R.test.right.targets.now) R.lefts.now R.rights.now R.flows.now P.s P.lefts P.rights x
@@ -51,6 +55,13 @@ Sends R₀ P x R =
 -- there is a label for each target
 abbrev pub Ready : Search → Type 0
 Ready S = Room S.rest × (length S.labels.lefts.now ≡ length S.rest.test.left.targets.now) × (length S.labels.rights.now ≡ length S.rest.test.right.targets.now)
+
+-- and a label s of the source that is tried, from 1 to 8; and a target of s to start from
+abbrev pub Sourced : Search → ℕ → Type 0
+Sourced S s = Ready S × (1 ≤ s) × (s ≤ 8)
+
+abbrev pub Started : Search → ℕ → ℕ → Type 0
+Started S s start = Ready S × (1 ≤ s) × (s ≤ 8) × (start < length S.rest.test.left.targets.now)
 
 -- from a target at the source's label s a walk stops
 abbrev pub Stopped : Search → ℕ → ℕ → Path → Stop → Type 0

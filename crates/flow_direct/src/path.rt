@@ -1,6 +1,6 @@
 // A path by labels, from the source down to label 1 and the sink, and the push of the least that is left on it.
 ghost use Rattle.std.specs.Prelude.{◌≡◌, ◌≤◌, ◌<◌, ◌+◌, ◌*◌, length, get_or};
-ghost use Rattle.flow_direct.specs.Lent.{Room, Ready, Placed, LeastIs, Sends, Stopped};
+ghost use Rattle.flow_direct.specs.Lent.{Along, Started, LeastIs, Sends, Stopped};
 
 use crate::give::Rest;
 use crate::search::Search;
@@ -8,6 +8,7 @@ use flow_routes::Stop;
 use numbers::smaller;
 
 // A path from label s of the source down: the targets of s and of t that it goes by, at their labels.
+// Stays: the definition's path has two lists; of one array of pairs the words of Lent (`Placed`, `LeastIs`, `Sends`, `Stopped`) would speak of two maps, and `entry`, whose labels differ, would read `steps[h].0 * width + steps[k].1`, half of each pair.
 #[derive(Clone, Copy)]
 pub(crate) struct Path {
     pub(crate) s: usize,
@@ -28,32 +29,32 @@ impl Path {
 impl Search<'_> {
     // Walks from target `start` of s, which has the label of the path, along the first link that falls, as far as there is one.
     pub(crate) fn walk(&self, start: usize, path: &mut Path) -> Stop
-        requires { Ready self.now × (1 ≤ path.old.s) × (path.old.s ≤ 8) × (start < length self.now.rest.test.left.targets.now) }
+        requires { Started self.now path.old.s start }
         ensures { (path.new.s ≡ path.old.s) × Stopped self.now path.old.s start path.new result }
     {
         path.lefts[path.s] = start;
-        let mut g = path.s;
-        loop {
+        let Some(k) = self.first_right(path.lefts[path.s], path.s) else {
+            return Stop::Left(path.s);
+        };
+        path.rights[path.s] = k;
+        for g in (1..path.s).rev() {
+            let Some(j) = self.first_back(path.rights[g + 1], g) else {
+                return Stop::Right(g + 1);
+            };
+            path.lefts[g] = j;
             let Some(k) = self.first_right(path.lefts[g], g) else {
                 return Stop::Left(g);
             };
             path.rights[g] = k;
-            if g == 1 {
-                return Stop::Sink;
-            }
-            let Some(j) = self.first_back(k, g - 1) else {
-                return Stop::Right(g);
-            };
-            g -= 1;
-            path.lefts[g] = j;
         }
+        Stop::Sink
     }
 }
 
 impl Rest<'_> {
     // The least that is left on a whole path.
     pub(crate) fn least(&self, path: &Path) -> f64
-        requires { Room self.now × (path.now.s ≤ 8) × Placed self.now.test path.now }
+        requires { Along self.now path.now }
         ensures { LeastIs self.now path.now result }
     {
         let width = self.test.right.targets.len();
@@ -67,7 +68,7 @@ impl Rest<'_> {
 
     // Pushes x along a whole path.
     pub(crate) fn push(&mut self, path: &Path, x: f64)
-        requires { Room self.old × (path.now.s ≤ 8) × Placed self.old.test path.now }
+        requires { Along self.old path.now }
         ensures { Sends self.old path.now x self.new }
     {
         let width = self.test.right.targets.len();
@@ -85,7 +86,7 @@ impl Rest<'_> {
 
     // Pushes the least that is left on a whole path along it; gives how much.
     pub(crate) fn send(&mut self, path: &Path) -> f64
-        requires { Room self.old × (path.now.s ≤ 8) × Placed self.old.test path.now }
+        requires { Along self.old path.now }
         ensures { LeastIs self.old path.now result × Sends self.old path.now result self.new }
     {
         let x = self.least(path);

@@ -1,5 +1,5 @@
 // Whether the flow of a flow test is enough.
-ghost use Rattle.std.specs.Prelude.{◌≡◌, true, ℕ, ◌≤◌, ◌<◌, ◌*◌, length, get_or, Float, Option, IfSome, IsSomeAnd};
+ghost use Rattle.std.specs.Prelude.{◌≡◌, true, ℕ, ◌≤◌, ◌<◌, ◌*◌, length, get_or, Float, Option, IfSome};
 ghost use Rattle.std.specs.Float.{nan};
 ghost use Rattle.numbers.specs.Real.{nought};
 ghost use Rattle.numbers.specs.Refuse.{numbered};
@@ -86,17 +86,6 @@ pub fn verdict(test: &Test, need: f64) -> Option<bool>
     reach(test, need)
 }
 
-// True only if there is a plenty, it is no less than what is needed, and the flow of a test that fits is known to be at least that.
-fn reaches_plenty(test: &Test, need: f64, plenty: Option<f64>) -> bool
-    requires { test_fits test.now ≡ true }
-    ensures { result ≡ true → IsSomeAnd plenty (λ x. test_reaches test.now x ≡ true) }
-{
-    let Some(plenty) = plenty else {
-        return false;
-    };
-    need <= plenty && reach(test, plenty).unwrap_or(false)
-}
-
 // What is known without a network of a flow test and the one back: whether both pass; or that the flow of the first is at least what is called plenty, if any is; or that the first passes, and no more; or nothing.
 #[derive(Clone, Copy, Debug, PartialEq, Eq)]
 pub enum Ways {
@@ -121,15 +110,15 @@ fn each_way(test: &Test, need: f64) -> Ways
     }
 }
 
-// The same of any test, with one check of the rows.
+// The same of any test, with one check of the rows. A plenty is asked for only where it is no less than what is needed.
 pub fn both_ways(test: &Test, need: f64, plenty: Option<f64>) -> Ways
     ensures { Known test.now need plenty result }
 {
     if !test.fits() {
         return Ways::Both(false);
     }
-    if reaches_plenty(test, need, plenty) {
-        return Ways::Plenty;
+    match plenty {
+        Some(most) if need <= most && reach(test, most) == Some(true) => Ways::Plenty,
+        _ => each_way(test, need),
     }
-    each_way(test, need)
 }

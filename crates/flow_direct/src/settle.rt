@@ -2,7 +2,7 @@
 ghost use Rattle.std.specs.Prelude.{◌≡◌, ℕ, ◌≤◌, ◌<◌, length, get_or};
 ghost use Rattle.std.specs.Float.{nan};
 ghost use Rattle.flow_routes.proofs.Reaching.{label_of, Judged};
-ghost use Rattle.flow_direct.specs.Lent.{Ready, Tried, Settled};
+ghost use Rattle.flow_direct.specs.Lent.{Ready, Sourced, Tried, Settled};
 
 use crate::give::Rest;
 use crate::search::{Labels, Search};
@@ -49,6 +49,7 @@ fn label_of(x: f64, some: usize, none: usize) -> usize
 }
 
 // A label for each of these rates.
+// Stays: of a list that is written through a zip the check knows the length alone afterwards.
 fn label_all(rates: &[f64], some: usize, none: usize, labels: &mut [usize])
     requires { length rates.now ≡ length labels.old }
     ensures { (length labels.new ≡ length labels.old) × ((k : ℕ) → k < length rates.now → get_or labels.new k 0 ≡ label_of some none (get_or rates.now k nan)) }
@@ -73,7 +74,7 @@ impl Labels<'_> {
 impl Search<'_> {
     // The rise of the source's label, or one step.
     fn try_once(&mut self, s: usize, total: f64, need: f64) -> Attempt
-        requires { Ready self.old × (1 ≤ s) × (s ≤ 8) }
+        requires { Sourced self.old s }
         ensures { Tried need self.old s total self.new result }
     {
         match self.first_left(s) {
@@ -81,16 +82,11 @@ impl Search<'_> {
                 let step = self.one_step(s, start);
                 after_step(step, s, total, need)
             }
-            None => {
-                if s < HIGHEST {
-                    Attempt::On {
-                        label: s + 1,
-                        flow: total,
-                    }
-                } else {
-                    Attempt::Ended(None)
-                }
-            }
+            None if s < HIGHEST => Attempt::On {
+                label: s + 1,
+                flow: total,
+            },
+            None => Attempt::Ended(None),
         }
     }
 

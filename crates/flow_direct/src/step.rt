@@ -1,6 +1,6 @@
 // One step of the search: a walk by labels, and then a push along the whole path, or the rise of a label.
 ghost use Rattle.std.specs.Prelude.{◌≡◌, ◌≢◌, true, ℕ, ◌≤◌, ◌<◌, ◌+◌, length, get_or, set};
-ghost use Rattle.flow_direct.specs.Lent.{Ready, Stepped};
+ghost use Rattle.flow_direct.specs.Lent.{Started, Stepped};
 
 use crate::path::Path;
 use crate::search::Search;
@@ -18,7 +18,7 @@ fn rise(labels: &mut [usize], i: usize, g: usize) -> bool
 impl Search<'_> {
     // One step from target `start` of s, which has the source's label s.
     pub(crate) fn one_step(&mut self, s: usize, start: usize) -> Step
-        requires { Ready self.old × (1 ≤ s) × (s ≤ 8) × (start < length self.old.rest.test.left.targets.now) }
+        requires { Started self.old s start }
         ensures { Stepped self.old s start self.new result }
     {
         let mut path = Path {

@@ -23,10 +23,6 @@ use Rattle.flow_links.specs.Fits.{rate_fits, row_fits, fits}
 use Rattle.flow_links.specs.Lent.{places_if}
 use Rattle.flow_links.proofs.LinkWrites.{links_are, links_most}
 
--- where the bits of a state start
-pub base_low : (u n : ℕ) → u ≤ 4294967295 → n ≤ 2000 → u * n ≤ 8589934590000
-base_low u n h k = mul-le-mul h k
-
 -- ---- what the checks say
 
 pub record RowFit (ts : List ℕ) (ws : List Float) : Type 0 where

@@ -23,9 +23,13 @@ entries starts l s = slice (get_or starts s 0) (get_or starts (s + 1) 0) l
 abbrev pub row_at : List Float → List ℕ → List ℕ → List Float → ℕ → Row
 row_at exits starts targets probs s = record { exit = get_or exits s nan; prob = jumps_of (entries starts targets s) (entries starts probs s) }
 
+-- how many states rows are of
+abbrev pub states_of : Rows → ℕ
+states_of R = length R.exits.now
+
 -- rows that a flow test takes, lent
 abbrev pub Fitting : Rows → Type 0
-Fitting R = RowsFit R.states R.starts.now R.targets.now R.probs.now
+Fitting R = RowsFit (states_of R) R.starts.now R.targets.now R.probs.now
 
 -- the rows of n states
 unfoldable pub rows_in : ℕ → List Float → List ℕ → List ℕ → List Float → Jumps
@@ -38,10 +42,11 @@ row_stands starts targets probs s =
     leb (get_or starts s 0) (get_or starts (s + 1) 0)
     && (leb (get_or starts (s + 1) 0) (length targets) && (leb (get_or starts (s + 1) 0) (length probs) && row_fits (entries starts targets s) (entries starts probs s)))
 
--- at most 2,000 states, with a class, an exit rate and such a row each, and bytes for their relation
-abbrev pub readable : ℕ → List ℕ → List Float → List ℕ → List ℕ → List Float → ℕ → Bool
-readable n classes exits starts targets probs bytes =
-    leb n 2000 && (leb n (length classes) && (leb n (length exits) && (ltb n (length starts) && (leb (relation_bytes n) bytes && every (row_stands starts targets probs) n))))
+-- at most 2,000 states, each with an exit rate, with a class and such a row each, and bytes for their relation
+abbrev pub readable : List ℕ → List Float → List ℕ → List ℕ → List Float → ℕ → Bool
+readable classes exits starts targets probs bytes =
+    let n = length exits in
+    leb n 2000 && (leb n (length classes) && (ltb n (length starts) && (leb (relation_bytes n) bytes && every (row_stands starts targets probs) n)))
 
 -- the relation of `epsdelta`, as entries for each ordered pair
 abbrev pub relation_in : ℕ → List ℕ → List Float → List ℕ → List ℕ → List Float → Float → Float → List Bool

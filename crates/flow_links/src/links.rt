@@ -1,15 +1,16 @@
 // Links written into rows of heads and capacities, two places each.
-ghost use Rattle.std.specs.Prelude.{◌≡◌, ◌+◌, ◌*◌, ◌≤◌, ◌<◌, true, ◌&&◌, [], ◌∷◌, cond, is_some, length, get_or};
+ghost use Rattle.std.specs.Prelude.{◌≡◌, ◌+◌, ◌≤◌, ◌<◌, true, ◌&&◌, [], ◌∷◌, cond, is_some, length};
 ghost use Rattle.numbers.specs.Lists.{over};
 ghost use Rattle.epsdelta_theory.specs.FlowTest;
-ghost use Rattle.epsdelta_theory.proofs.LinkRows.{Added, Free, source_row, sink_row, cross_row, cross_rows, row_links};
+ghost use Rattle.epsdelta_theory.proofs.LinkRows.{source_row, sink_row};
 ghost use Rattle.flow_links.specs.Lent.{test_fits, test_links, test_room, places_if};
-ghost use Rattle.flow_links.specs.Rows.{Same};
+ghost use Rattle.flow_links.specs.Rows.{Same, Room, Wrote, Bounded, crosses_at, crosses, links};
 
 use crate::rows::Test;
 use numbers::infinity;
 
 // Rows that links are written into, and the next place in them.
+// Stays: `LinkRows` of transport_links has a cost for each link, and its links come by number, so that it needs no next place; one type for both would lend a row that one of them does not have.
 #[derive(Drop)]
 pub(crate) struct LinkRows<'a> {
     heads: &'a mut [u32],
@@ -19,9 +20,9 @@ pub(crate) struct LinkRows<'a> {
 
 // Writes a link, and its reverse after it.
 fn put(rows: &mut LinkRows, from: usize, to: usize, cap: f64)
-    requires free { Free rows.old.heads.now rows.old.caps.now rows.old.next 1 }
+    requires free { Room rows.old (record { from = from; to = to; cap = cap } ∷ []) }
     requires from_bound { (from ≤ 65) × (to ≤ 65) }
-    ensures added { Added (record { from = from; to = to; cap = cap } ∷ []) rows.old.heads.now rows.old.caps.now rows.old.next rows.new.heads.now rows.new.caps.now rows.new.next }
+    ensures added { Wrote (record { from = from; to = to; cap = cap } ∷ []) rows.old rows.new }
     ensures same { Same rows.old rows.new }
 {
     let e = rows.next;
@@ -35,8 +36,8 @@ fn put(rows: &mut LinkRows, from: usize, to: usize, cap: f64)
 // The links from the source to nodes 0 and on, with these rates.
 fn add_sources(rates: &[f64], source: usize, rows: &mut LinkRows)
     requires rates_len_bound { (length rates.now ≤ source) × (source ≤ 65) }
-    requires free { Free rows.old.heads.now rows.old.caps.now rows.old.next (length (source_row source 0 rates.now)) }
-    ensures added { Added (source_row source 0 rates.now) rows.old.heads.now rows.old.caps.now rows.old.next rows.new.heads.now rows.new.caps.now rows.new.next }
+    requires free { Room rows.old (source_row source 0 rates.now) }
+    ensures added { Wrote (source_row source 0 rates.now) rows.old rows.new }
     ensures same { Same rows.old rows.new }
 {
     for (i, rate) in rates.iter().enumerate() {
@@ -48,8 +49,8 @@ fn add_sources(rates: &[f64], source: usize, rows: &mut LinkRows)
 // Stays: add_sources and add_sinks are two, since the definitions of what they write are; one function would take the ends as a closure and its links as a ghost parameter.
 fn add_sinks(rates: &[f64], first: usize, sink: usize, rows: &mut LinkRows)
     requires rates_bound { (first + length rates.now ≤ sink) × (sink ≤ 65) }
-    requires free { Free rows.old.heads.now rows.old.caps.now rows.old.next (length (sink_row sink first rates.now)) }
-    ensures added { Added (sink_row sink first rates.now) rows.old.heads.now rows.old.caps.now rows.old.next rows.new.heads.now rows.new.caps.now rows.new.next }
+    requires free { Room rows.old (sink_row sink first rates.now) }
+    ensures added { Wrote (sink_row sink first rates.now) rows.old rows.new }
     ensures same { Same rows.old rows.new }
 {
     for (i, rate) in rates.iter().enumerate() {
@@ -59,9 +60,9 @@ fn add_sinks(rates: &[f64], first: usize, sink: usize, rows: &mut LinkRows)
 
 // The links from left target `node` to the right targets that are related with it.
 fn add_cross(test: &Test, node: usize, rows: &mut LinkRows)
-    requires bounds { (node < length test.now.left.targets.now) × (length test.now.left.targets.now + length test.now.right.targets.now ≤ 65) × (test.now.states ≤ 2000) }
-    requires free { Free rows.old.heads.now rows.old.caps.now rows.old.next (length (cross_row test.now.relation.now (get_or test.now.left.targets.now node 0 * test.now.states) node (length test.now.left.targets.now) test.now.right.targets.now)) }
-    ensures added { Added (cross_row test.now.relation.now (get_or test.now.left.targets.now node 0 * test.now.states) node (length test.now.left.targets.now) test.now.right.targets.now) rows.old.heads.now rows.old.caps.now rows.old.next rows.new.heads.now rows.new.caps.now rows.new.next }
+    requires bounds { (node < length test.now.left.targets.now) × Bounded test.now }
+    requires free { Room rows.old (crosses_at test.now node) }
+    ensures added { Wrote (crosses_at test.now node) rows.old rows.new }
     ensures same { Same rows.old rows.new }
 {
     let first = test.left.targets.len();
@@ -75,9 +76,9 @@ fn add_cross(test: &Test, node: usize, rows: &mut LinkRows)
 
 // The links between targets that are related.
 fn add_crosses(test: &Test, rows: &mut LinkRows)
-    requires bounds { (length test.now.left.targets.now + length test.now.right.targets.now ≤ 65) × (test.now.states ≤ 2000) }
-    requires free { Free rows.old.heads.now rows.old.caps.now rows.old.next (length (cross_rows test.now.relation.now test.now.states 0 (length test.now.left.targets.now) test.now.left.targets.now test.now.right.targets.now)) }
-    ensures added { Added (cross_rows test.now.relation.now test.now.states 0 (length test.now.left.targets.now) test.now.left.targets.now test.now.right.targets.now) rows.old.heads.now rows.old.caps.now rows.old.next rows.new.heads.now rows.new.caps.now rows.new.next }
+    requires bounds { Bounded test.now }
+    requires free { Room rows.old (crosses test.now) }
+    ensures added { Wrote (crosses test.now) rows.old rows.new }
     ensures same { Same rows.old rows.new }
 {
     for i in 0..test.left.targets.len() {
@@ -88,8 +89,8 @@ fn add_crosses(test: &Test, rows: &mut LinkRows)
 // Writes the links of a flow test.
 fn put_links(test: &Test, rows: &mut LinkRows)
     requires fitting { test_fits test.now ≡ true }
-    requires free { Free rows.old.heads.now rows.old.caps.now rows.old.next (length (row_links test.now.relation.now test.now.states test.now.left.targets.now test.now.left.rates.now test.now.right.targets.now test.now.right.rates.now)) }
-    ensures added { Added (row_links test.now.relation.now test.now.states test.now.left.targets.now test.now.left.rates.now test.now.right.targets.now test.now.right.rates.now) rows.old.heads.now rows.old.caps.now rows.old.next rows.new.heads.now rows.new.caps.now rows.new.next }
+    requires free { Room rows.old (links test.now) }
+    ensures added { Wrote (links test.now) rows.old rows.new }
     ensures same { Same rows.old rows.new }
 {
     let a = test.left.targets.len();
@@ -110,6 +111,7 @@ fn has_room(test: &Test, places: usize) -> bool
 }
 
 // Writes the links of a flow test over lent rows, heads and capacities; gives how many places they take. Where the test's rows do not fit, or there is no room for all links between their targets, nothing is written.
+// Stays: heads and caps are two arrays of the one caller's bench: by a struct it would write `&mut LinkRows { heads: &mut self.heads, caps: &mut self.caps }` for `&mut self.heads, &mut self.caps`, and the contract would promise besides that both are the ones lent.
 pub fn write_links(test: &Test, heads: &mut [u32], caps: &mut [f64]) -> Option<usize>
     ensures places { result ≡ places_if (test_fits test.now && (test_room test.now (length heads.old) && test_room test.now (length caps.old))) (FlowTest.heads (test_links test.now)) }
     ensures heads_after { heads.new ≡ cond (is_some result) (over (FlowTest.heads (test_links test.now)) heads.old) heads.old }

@@ -1,13 +1,12 @@
 // The rows of jumps that flow tests read.
-ghost use Rattle.std.specs.Prelude.{◌≡◌, ◌≤◌, ◌+◌, ◌*◌};
+ghost use Rattle.std.specs.Prelude.{◌≡◌, ◌≤◌, ◌+◌, ◌*◌, ◌%◌};
 ghost use Rattle.numbers.specs.Bits.{bit_at};
 
 use numbers::bit;
 
-// The rows of all states: the exit rate of each, and its jumps at starts[s]..starts[s + 1] of targets and probs.
+// The rows of as many states as there are exit rates: the exit rate of each, and its jumps at starts[s]..starts[s + 1] of targets and probs.
 #[derive(Clone, Copy, Debug)]
 pub struct Rows<'a> {
-    pub states: usize,
     pub exits: &'a [f64],
     pub starts: &'a [u32],
     pub targets: &'a [u32],
@@ -15,7 +14,7 @@ pub struct Rows<'a> {
 }
 
 // One row: a target and a rate for each jump.
-// Stays: `Row` of distance_theory has a target and a number for each too, but those are probabilities, and these are rates of any size: what either crate tests of its row differs, and the name of the field says which it is.
+// Stays: `Row` of chain_theory has a target and a number for each too, but neither crate stands on the other, and what each tests of its row differs: here at most 31 rates from 0 to 2^40, there probabilities.
 #[derive(Clone, Copy, Debug)]
 pub struct Row<'a> {
     pub targets: &'a [u32],
@@ -32,9 +31,10 @@ pub struct Test<'a> {
 }
 
 impl<'a> Test<'a> {
-    // Whether state v is related with state u, by their numbers: none are past the last state of all, nor past the relation's end.
+    // Whether state v is related with state u, by their numbers: the bit u * states + v, counted modulo 2^64. Where v is past the last state that is the bit of another pair; past the relation's end none is set.
     pub fn related(&self, u: u32, v: u32) -> bool
-        ensures { self.now.states ≤ 2000 → result ≡ bit_at self.now.relation.now (u * self.now.states + v) }
+        ensures every { result ≡ bit_at self.now.relation.now ((u * self.now.states + v) % 18446744073709551616) }
+        ensures bit { self.now.states ≤ 2000 → result ≡ bit_at self.now.relation.now (u * self.now.states + v) }
     {
         let row = (u as usize).wrapping_mul(self.states);
         bit(self.relation, row.wrapping_add(v as usize))

@@ -14,6 +14,7 @@ pub struct AfterPhase {
 }
 
 // The reverse of a link, and the link of a reverse: links 2k and 2k + 1 are a pair.
+// Stays: the node that a link leaves is `heads[reverse(e)]` where it is asked for. Nothing public has a `requires`, so that a function for it here would test each index, by `get`, in loops that know it.
 pub fn reverse(e: usize) -> usize
     ensures { result ≡ rev e }
 {

@@ -11,14 +11,15 @@ pub fn least(caps: &[f64], path: &[usize], x: f64) -> f64
 {
     let mut y = x;
     for e in path {
-        if *e < caps.len() {
-            y = smaller(y, caps[*e]);
+        if let Some(cap) = caps.get(*e) {
+            y = smaller(y, *cap);
         }
     }
     y
 }
 
 // Takes x off each link of the path, and gives it to its reverse.
+// Stays: a test and an index, since of a lent list that `get_mut` writes into in a loop the check knows only the length afterwards.
 pub fn push_path(caps: &mut [f64], path: &[usize], x: f64)
     ensures { caps.new ≡ Augment.push_path x path.now caps.old }
 {

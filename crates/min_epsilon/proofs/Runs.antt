@@ -1,16 +1,30 @@
 -- A run at a valid ε is not refused where `min_epsilon` is not, and what it leaves in the bytes is zero, as it was.
 use mathlib.Core.Path.{◌≡◌, sym, ap, ◌∙◌}
 use Prim.Native.Nat.{ℕ}
-use mathlib.Core.Bool.{Bool, true, false, cond}
+use mathlib.Core.Bool.{Bool, true, false, cond, true≢false}
 use mathlib.Core.List.{List}
 use lib.ListN.{length, replicate, length-replicate}
 use lib.Ieee.{Float}
+use Rattle.std.specs.Prelude.{Result, Ok, Err}
+use Rattle.std.specs.Result.{is_ok}
 use Rattle.numbers.specs.Real.{nought, is_valid}
 use Rattle.bisim_core.specs.Data.{columns_of}
 use Rattle.epsdelta.specs.declared.asked.Sides.{Sides}
 use Rattle.min_epsilon.specs.Outcome.{refusal_at, refusal}
 use Rattle.epsdelta_theory.specs.MinEpsilon.{halving}
 use Rattle.epsdelta_theory.proofs.MinEpsilon.{below_one, refused_alike}
+
+-- what is answered where nothing is refused
+abbrev value_or : {A : Type 0} → A → Result A ℕ → A
+value_or y (Ok x) = x
+value_or y (Err n) = y
+
+pub value_is : {A : Type 0} {x y : A} → ◌≡◌ {A = Result A ℕ} (Ok x) (Ok y) → x ≡ y
+value_is {x = x} e = ap (value_or x) e
+
+-- and nothing is
+pub not_refused : {A : Type 0} {n : ℕ} {y : A} → ◌≡◌ {A = Result A ℕ} (Err n) (Ok y) → ⊥
+not_refused e = true≢false (sym (ap is_ok e))
 
 -- bytes that a run made zero are as many
 pub zero_length : (out store : List ℕ) → out ≡ replicate (length store) 0 → length out ≡ length store

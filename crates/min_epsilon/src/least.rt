@@ -1,5 +1,5 @@
 // The least ε at which two models are bisimilar.
-ghost use Rattle.std.specs.Prelude.{◌≡◌, length};
+ghost use Rattle.std.specs.Prelude.{◌≡◌, length, Ok};
 ghost use Rattle.numbers.specs.Refuse.{numbered};
 ghost use Rattle.epsdelta_theory.specs.MinEpsilon.{alike_at, halving, min_epsilon, Searched};
 ghost use Rattle.epsdelta_theory.proofs.MinEpsilon.{below_one};
@@ -8,7 +8,8 @@ ghost use Rattle.epsdelta.specs.Sides.{of_sides};
 ghost use Rattle.min_epsilon.specs.Outcome.{Cleared, alike, refusal_at, refusal, outcome};
 
 use bisimilar::bisimilar::epsdelta_bisimilar;
-use epsdelta::asked::{Sides, Tolerances};
+use epsdelta::asked::Sides;
+use epsdelta_theory::tolerances::Tolerances;
 use numbers::refusal::Refusal;
 use numbers::{FINENESS, HALF, ONE};
 
@@ -21,43 +22,43 @@ struct Search<'a> {
 
 impl Search<'_> {
     // Whether the initial states are related at this ε, where no check fails; the bytes are work space.
-    fn holds(&self, epsilon: f64, relation: &mut [u8]) -> bool
+    fn holds(&self, epsilon: f64, relation: &mut [u8]) -> Result<bool, Refusal>
         requires { refusal_at self.now.sides.now epsilon self.now.rho (length relation.old) ≡ 0 }
-        ensures { (result ≡ alike self.now.sides.now self.now.rho epsilon) × Cleared relation.old relation.new }
+        ensures { (numbered result ≡ Ok (alike self.now.sides.now self.now.rho epsilon)) × Cleared relation.old relation.new }
     {
         let tolerances = Tolerances {
             epsilon,
             rho: self.rho,
         };
-        epsdelta_bisimilar(self.sides, tolerances, relation).unwrap_or(false)
+        epsdelta_bisimilar(self.sides, tolerances, relation)
     }
 
     // The upper bound that halvings from 0 and 1 come to.
-    fn bisect(&self, relation: &mut [u8]) -> f64
+    fn bisect(&self, relation: &mut [u8]) -> Result<f64, Refusal>
         requires unrefused { refusal self.now.sides.now self.now.rho (length relation.old) ≡ 0 }
         requires cleared { Cleared relation.old relation.old }
-        ensures { (result ≡ (halving (alike self.now.sides.now self.now.rho)).hi) × Cleared relation.old relation.new }
+        ensures { (numbered result ≡ Ok (halving (alike self.now.sides.now self.now.rho)).hi) × Cleared relation.old relation.new }
     {
         let mut lo = 0.0;
         let mut hi = ONE;
         while hi - lo > FINENESS {
             let mid = HALF * (lo + hi);
-            if self.holds(mid, relation) {
+            if self.holds(mid, relation)? {
                 hi = mid;
             } else {
                 lo = mid;
             }
         }
-        hi
+        Ok(hi)
     }
 
     // The least ε found where ε = 1 holds: 0 if ε = 0 holds, else by halvings.
-    fn below_one(&self, relation: &mut [u8]) -> f64
+    fn below_one(&self, relation: &mut [u8]) -> Result<f64, Refusal>
         requires { refusal self.now.sides.now self.now.rho (length relation.old) ≡ 0 }
-        ensures { (result ≡ below_one (alike self.now.sides.now self.now.rho)) × Cleared relation.old relation.new }
+        ensures { (numbered result ≡ Ok (below_one (alike self.now.sides.now self.now.rho))) × Cleared relation.old relation.new }
     {
-        if self.holds(0.0, relation) {
-            return 0.0;
+        if self.holds(0.0, relation)? {
+            return Ok(0.0);
         }
         self.bisect(relation)
     }
@@ -77,5 +78,5 @@ pub fn min_epsilon(sides: &Sides, rho: f64, relation: &mut [u8]) -> Result<Optio
         sides: &*sides,
         rho,
     };
-    Ok(Some(search.below_one(relation)))
+    Ok(Some(search.below_one(relation)?))
 }

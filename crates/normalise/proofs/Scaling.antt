@@ -76,10 +76,17 @@ seen_long H C e =
     ltb-false _ _ c
 
 -- by the chain as it is read
-pub by : {K H : ChainShape} {D C : ChainColumns} {n : ℕ} → (K ≡ H) × (D ≡ C) → n ≡ chain_refusal least_observation greatest_weight K D → n ≡ refusal_of H C
+by : {K H : ChainShape} {D C : ChainColumns} {n : ℕ} → (K ≡ H) × (D ≡ C) → n ≡ chain_refusal least_observation greatest_weight K D → n ≡ refusal_of H C
 by {K} {H} {D} (e, f) p = p ∙ ap (λ (G : ChainShape). refusal_of G D) e ∙ ap (refusal_of H) f
 
-module _ (HL : ChainShape) (CL : ChainColumns) (HR : ChainShape) (CR : ChainColumns) (x y n : ℕ) (p : x ≡ refusal_of HL CL) (q : y ≡ refusal_of HR CR) (f : n ≡ earlier x y) where
+-- by both chains as they are read
+module _ {KL KR HL HR : ChainShape} {DL DR CL CR : ChainColumns} {x y n : ℕ} (el : (KL ≡ HL) × (DL ≡ CL)) (er : (KR ≡ HR) × (DR ≡ CR)) (pl : x ≡ refusal_of KL DL) (pr : y ≡ refusal_of KR DR) (f : n ≡ earlier x y) where
+  p : x ≡ refusal_of HL CL
+  p = by el pl
+
+  q : y ≡ refusal_of HR CR
+  q = by er pr
+
   number : n ≡ earlier (refusal_of HL CL) (refusal_of HR CR)
   number = f ∙ ap (λ (a : ℕ). earlier a y) p ∙ ap (earlier (refusal_of HL CL)) q
 

@@ -1,5 +1,5 @@
 -- What `normalise` answers, and what it leaves in the observations of both chains.
-use Rattle.std.specs.Prelude.{ℕ, zero, suc, ◌||◌, List, take, Float, Result, Ok, Err}
+use Rattle.std.specs.Prelude.{◌≡◌, ℕ, zero, suc, ◌||◌, List, take, Float, Result, Ok, Err}
 use Rattle.numbers.specs.Real.{least_observation, greatest_weight}
 use Rattle.numbers.specs.Refuse.{check}
 use Rattle.numbers.specs.Lists.{every, all, over}
@@ -7,6 +7,7 @@ use Rattle.chain_theory.specs.Chain.{Scaled, normalise}
 use Rattle.chain_theory.specs.Columns.{ChainColumns, chain_of}
 use Rattle.std.specs.Float.Ieee.{le}
 use Rattle.chain_theory.specs.Check.{proper, misshapen, unobserved, unfitting, improper}
+use Rattle.chain_theory.specs.declared.ChainMut.{ChainMut}
 use Rattle.chain_theory.specs.declared.ChainShape.{ChainShape}
 
 -- two chains handed in: the first check that fails over both, 0 if none does
@@ -36,6 +37,10 @@ settled (suc n) s l r = ends (Err (suc n)) l r
 unfoldable pub normalised : ChainShape → ChainColumns → ChainShape → ChainColumns → Outcome
 unfolding normalise_refusal normalise
 normalised HL CL HR CR = settled (normalise_refusal HL CL HR CR) (normalise (take HL.states CL.observations) (take HR.states CR.observations)) CL.observations CR.observations
+
+-- a chain has its shape and its lists still; of these the observations alone may hold something else
+abbrev pub SameChain : ChainMut → ChainMut → Type 0
+SameChain C D = (D.shape ≡ C.shape) × (D.offsets ≡ C.offsets) × (D.targets ≡ C.targets) × (D.probs ≡ C.probs) × (D.observations.ghost_name ≡ C.observations.ghost_name)
 
 -- ---- below the checks
 

@@ -7,6 +7,7 @@ ghost use Rattle.chain_theory.specs.Chain.{least_from, greatest_from};
 ghost use Rattle.chain_theory.specs.Chain;
 ghost use Rattle.chain_theory.specs.Lent.{of_chain_mut};
 ghost use Rattle.normalise.specs.Outcome;
+ghost use Rattle.normalise.specs.Outcome.{SameChain};
 
 use chain_check::check::chain_refusal;
 use chain_theory::{ChainMut, OBSERVATIONS};
@@ -65,7 +66,7 @@ pub fn scale_together(left: &mut [f64], right: &mut [f64]) -> f64
 // The observations of two chains mapped to 0 to 1, by one least and one greatest over both; all to 0 where these are equal. Observations past the states are as they were, and so are all after a refusal.
 pub fn normalise(left: &mut ChainMut, right: &mut ChainMut) -> Result<f64, Refusal>
     ensures outcome { Outcome.ends (numbered result) left.new.observations.now right.new.observations.now ≡ Outcome.normalised left.old.shape (of_chain_mut left.old) right.old.shape (of_chain_mut right.old) }
-    ensures same_lists { (left.new.observations.ghost_name ≡ left.old.observations.ghost_name) × (right.new.observations.ghost_name ≡ right.old.observations.ghost_name) }
+    ensures same_lists { SameChain left.old left.new × SameChain right.old right.new }
 {
     let of_left = chain_refusal(&left.chain(), OBSERVATIONS);
     let of_right = chain_refusal(&right.chain(), OBSERVATIONS);

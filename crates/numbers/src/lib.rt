@@ -97,7 +97,8 @@ impl Real {
     }
 }
 
-// The infinity that the definitions have: in a proof the constant is its bits.
+// The infinity that the definitions have.
+// Stays: in a proof `f64::INFINITY` is its bits, so that each of its nine calls would need an answer that turns them into `inf`; here one does.
 pub fn infinity() -> f64
     ensures { result ≡ inf false }
 {
@@ -133,8 +134,7 @@ pub fn apart(x: f64, y: f64) -> f64
 pub fn least(a: usize, b: usize, c: usize, d: usize) -> usize
     ensures { result ≡ min a (min b (min c d)) }
 {
-    let last = c.min(d);
-    a.min(b.min(last))
+    a.min(b).min(c).min(d)
 }
 
 // Where x first stands in a list, if it does.
@@ -148,14 +148,12 @@ pub fn seek(list: &[u32], x: u32) -> Option<usize>
 pub fn bit(store: &[u8], i: usize) -> bool
     ensures { result ≡ bit_at store.now i }
 {
-    let k = i >> 3;
-    if store.len() <= k {
-        return false;
-    }
-    (store[k] >> (i & 7)) & 1 == 1
+    let byte = store.get(i >> 3).copied().unwrap_or(0);
+    (byte >> (i & 7)) & 1 == 1
 }
 
 // Clears bit i of a store; past its end nothing is changed.
+// Stays: `if let Some(byte) = store.get_mut(i >> 3)` was tried, and the check then knows nothing of what the store holds, neither after the byte is written nor where there is none.
 #[tactic(auto, using(crate::proofs::Masks::clears_bit, crate::proofs::Masks::cleared_past))]
 pub fn clear_bit(store: &mut [u8], i: usize)
     ensures { store.new ≡ cleared store.old i }

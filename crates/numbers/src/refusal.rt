@@ -27,6 +27,7 @@ pub enum Refusal {
 }
 
 impl Refusal {
+    // Stays: an enum has no conversion to its number but the cast; a `From` would be this body.
     pub fn number(self) -> u32
         ensures { result ≡ number self }
     {
@@ -34,7 +35,8 @@ impl Refusal {
     }
 }
 
-// The refusal's number, 0 where there is none: what the C interface answers.
+// The refusal's number, 0 where there is none.
+// Stays: the C interface answers with this number.
 pub fn code<T>(answer: &Result<T, Refusal>) -> u32
     ensures { result ≡ code answer.now }
 {

@@ -39,7 +39,7 @@ module _ {A : Type 0} where
 
 -- ---- how many jumps there are with one more
 
-grown : (t : ℕ) (w : Float) (js : List Jump) → (length js ≤ length (add_rate t w js)) × (length (add_rate t w js) ≤ length js + 1)
+pub grown : (t : ℕ) (w : Float) (js : List Jump) → (length js ≤ length (add_rate t w js)) × (length (add_rate t w js) ≤ length js + 1)
 unfolding add_rate add_here
 grown t w [] = (omega arith, omega arith)
 grown t w (j ∷ js) = pick (grown t w js) (ltb j.target t) (eqb j.target t)

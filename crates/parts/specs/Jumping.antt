@@ -1,9 +1,9 @@
 -- Jumps over the front of two lists that are lent.
-use Rattle.std.specs.Prelude.{◌≡◌, ℕ, ◌+◌, ◌-◌, ◌<◌, ◌≤◌, List, length, take, Float}
-use Rattle.bisim_core.specs.Data.{Edge, Columns}
+use Rattle.std.specs.Prelude.{◌≡◌, ◌⊎◌, ℕ, ◌+◌, ◌-◌, ◌<◌, ◌≤◌, ◌||◌, ◌&&◌, List, [], ◌∷◌, cond, eqb, leb, min, length, take, Float}
+use Rattle.bisim_core.specs.Data.{Edge, Columns, columns_of}
 use Rattle.bisim_core.specs.declared.wlts.Wlts.{Wlts}
-use Rattle.bisim_core.specs.Model.{begins}
-use Rattle.epsdelta_theory.specs.Jumps.{Jump, jumps_of}
+use Rattle.bisim_core.specs.Model.{begins, row}
+use Rattle.epsdelta_theory.specs.Jumps.{Jump, jumps_of, add_rate}
 use Rattle.epsdelta_theory.proofs.RowsIn.{Readable, LaidJumps}
 use Rattle.parts.specs.declared.rates.Jumps.{Jumps}
 
@@ -18,6 +18,32 @@ SameLists V W = (W.targets.ghost_name ≡ V.targets.ghost_name) × (W.rates.ghos
 -- these jumps, over what the lists held
 abbrev pub LaidOver : List Jump → Jumps → Jumps → Type 0
 LaidOver js V W = LaidJumps js W.len V.targets.now V.rates.now W.targets.now W.rates.now
+
+-- all is as it was
+abbrev pub Unmoved : Jumps → Jumps → Type 0
+Unmoved V W = (W.len ≡ V.len) × (W.targets.now ≡ V.targets.now) × (W.rates.now ≡ V.rates.now)
+
+-- there is no room for a jump more
+abbrev pub Full : Jumps → Type 0
+Full V = (length V.targets.now ≤ V.len) ⊎ (length V.rates.now ≤ V.len)
+
+-- the lists hold all the jumps
+abbrev pub Held : Jumps → Type 0
+Held V = (V.len ≤ length V.targets.now) × (V.len ≤ length V.rates.now)
+
+-- how many jumps they have room for
+abbrev pub most : Jumps → ℕ
+most V = min (length V.targets.now) (length V.rates.now)
+
+-- edge after edge, but those back to the state, while there is room for a jump more: a rate to the edge's target, off further on; the last target is 2^32 - 1
+unfoldable pub add_within : ℕ → ℕ → List Edge → List Jump → List Jump
+unfolding add_rate
+add_within room off [] js = js
+add_within room off (e ∷ es) js = add_within room off es (cond (eqb e.target e.source || leb room (length js)) js (add_rate (min (off + e.target) 4294967295) e.weight js))
+
+-- the edges of state s, where the columns of the model have them all; else none
+abbrev pub edges_here : Wlts → ℕ → List Edge
+edges_here M s = cond (leb (begins (columns_of M) (s + 1)) (length M.edge_targets.now) && leb (begins (columns_of M) (s + 1)) (length M.edge_weights.now)) (row (columns_of M) s) []
 
 -- the rows of a model can be made
 abbrev pub HasRows : Wlts → Type 0

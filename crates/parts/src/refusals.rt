@@ -6,6 +6,7 @@ ghost use Rattle.parts.specs.Earlier;
 use numbers::refusal::Refusal;
 
 // Of what turns each of two back, the check that comes first.
+// Stays: of `Err(a.min(b))` the check knows no more than `ord_min (RefusalOrd.cmp-value) a b`, and no law leads from there to the numbers; of `b < a` it does.
 pub fn earlier(left: Result<(), Refusal>, right: Result<(), Refusal>) -> Result<(), Refusal>
     ensures { code result ≡ Earlier.earlier (code left) (code right) }
 {

@@ -25,31 +25,34 @@ fn run_kind(r: &mut Reader, kind: &[u8]) {
     }
 }
 
-fn print_labels(rt: &impl Print, counts: &Counts) {
-    counts.print(rt, "real is_valid", Entry::IsValid as usize);
-    counts.print(rt, "real is_zero", Entry::IsZero as usize);
-    counts.print(rt, "real sum", Entry::Sum as usize);
-    counts.print(rt, "intern", Entry::Intern as usize);
-    counts.print(rt, "label get", Entry::Get as usize);
-    counts.print(rt, "label resolve", Entry::Resolve as usize);
-    counts.print(rt, "build", Entry::Build as usize);
-}
+// What is printed before an entry's counts.
+const TITLES: [(&str, Entry); 15] = [
+    ("real is_valid", Entry::IsValid),
+    ("real is_zero", Entry::IsZero),
+    ("real sum", Entry::Sum),
+    ("intern", Entry::Intern),
+    ("label get", Entry::Get),
+    ("label resolve", Entry::Resolve),
+    ("build", Entry::Build),
+    ("model model_refusal", Entry::ModelRefusal),
+    ("model num_states", Entry::NumStates),
+    ("model num_transitions", Entry::NumTransitions),
+    ("model num_labels", Entry::NumLabels),
+    ("model initial", Entry::Initial),
+    ("model successors", Entry::Successors),
+    ("model label", Entry::Label),
+    ("model label_id", Entry::LabelId),
+];
 
-fn print_models(rt: &impl Print, counts: &Counts) {
-    counts.print(rt, "model model_refusal", Entry::ModelRefusal as usize);
-    counts.print(rt, "model num_states", Entry::NumStates as usize);
-    counts.print(rt, "model num_transitions", Entry::NumTransitions as usize);
-    counts.print(rt, "model num_labels", Entry::NumLabels as usize);
-    counts.print(rt, "model initial", Entry::Initial as usize);
-    counts.print(rt, "model successors", Entry::Successors as usize);
-    counts.print(rt, "model label", Entry::Label as usize);
-    counts.print(rt, "model label_id", Entry::LabelId as usize);
+fn print_all(rt: &impl Print, counts: &Counts) {
+    for (title, entry) in TITLES {
+        counts.print(rt, title, entry as usize);
+    }
+    counts.print_end(rt);
 }
 
 fn main(rt: HostRuntime) -> io::Result<()> {
     let counts = cases::run(&rt, run_kind)?;
-    print_labels(&rt, &counts);
-    print_models(&rt, &counts);
-    counts.print_end(&rt);
+    print_all(&rt, &counts);
     Ok(())
 }

@@ -8,6 +8,7 @@ mod side; // side.rt: a model in the text
 use replay_text::cases;
 use std::io;
 
+// Stays: one function for the three programs of one kind was tried and proved; it would be public, and could promise the counts that `run` promises, but not that it prints them, of which no contract speaks.
 fn main(rt: HostRuntime) -> io::Result<()> {
     let counts = cases::run(
         &rt,

@@ -18,7 +18,7 @@ pub struct Side {
 impl Side {
     pub fn read(r: &mut Reader) -> Side {
         let mut model = Model::new();
-        let mut observations = Column::new(0.0);
+        let mut observations = Column::new();
         model.read(r);
         let state = StateId(r.short_field());
         observations.fill(r);

@@ -2,22 +2,19 @@
 use card::report;
 use replay_text::lists;
 use replay_text::text::Reader;
-
-// All bytes from `from` on are that byte.
-fn filled_from(out: &[u8], from: usize, byte: u8) -> bool {
-    out.iter().skip(from).all(|b| *b == byte)
-}
+use replay_text::values::Entry;
 
 // The text is as stored, and the bytes after it are as they were.
 fn expect_store(r: &mut Reader, out: &[u8], written: usize, byte: u8) {
     r.expect_hex(lists::front(out, written));
-    r.compared(filled_from(out, written, byte));
+    r.compared(lists::all_are(lists::behind(out, written), byte));
 }
 
 pub fn run(r: &mut Reader, card: &mut [u8], out: &mut [u8]) {
     let card = r.hex_field(card);
     let room = r.size_field(out.len());
-    let byte = (r.short_field() % 256) as u8;
+    r.name();
+    let byte = u8::read(r);
     let out = lists::front_mut(out, room);
     out.fill(byte);
     let answer = report(card, out);

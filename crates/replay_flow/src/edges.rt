@@ -1,13 +1,13 @@
 // The kind `edge`: a link added to a network.
 use crate::entries::Entry;
-use crate::kept::From;
+use crate::kept::Untouched;
 use crate::lent::Left;
 use crate::nets::Listed;
 use crate::{kept, lent, nets};
 use flow::network::{FlowNetwork, Link};
 use flow_check::Edge;
 use replay_text::lists::front;
-use replay_text::text::{Reader, narrow};
+use replay_text::text::Reader;
 
 // Two places more than n, where there is room.
 fn two_more(n: usize) -> usize {
@@ -20,43 +20,41 @@ fn expect_links(r: &mut Reader, links: &[Link]) {
     r.expect_each(links, |link| link.cost);
 }
 
-// The network with the link asked for, and its reverse, after its links.
-fn with_link(mut net: FlowNetwork, x: Edge) -> FlowNetwork {
+// The network with the link asked for, and its reverse, after its links; none where an end has over 32 bits, or there is no room.
+fn with_link(mut net: FlowNetwork, x: Edge) -> Option<FlowNetwork> {
+    let to = u32::try_from(x.to).ok()?;
+    let from = u32::try_from(x.from).ok()?;
     let count = net.count;
-    if count < 2175 {
-        net.links[count] = Link {
-            head: narrow(x.to as u64),
-            cap: x.cap,
-            cost: x.cost,
-        };
-        net.links[count + 1] = Link {
-            head: narrow(x.from as u64),
-            cap: 0.0,
-            cost: -x.cost,
-        };
+    if count >= 2175 {
+        return None;
     }
-    net
+    net.links[count] = Link {
+        head: to,
+        cap: x.cap,
+        cost: x.cost,
+    };
+    net.links[count + 1] = Link {
+        head: from,
+        cap: 0.0,
+        cost: -x.cost,
+    };
+    Some(net)
 }
 
 // What the lists of the answer do not show: past them all is kept, but for a link added there.
 fn same_else(l: Listed, x: Edge, made: Left<()>) -> bool {
-    let mut before = l.net;
-    if made.answer.is_ok() {
-        before = with_link(before, x);
-    } else if before.count != made.net.count {
-        return false;
-    }
+    let before = match made.answer {
+        Ok(()) => with_link(l.net, x),
+        Err(_) => Some(l.net).filter(|net| net.count == made.net.count),
+    };
     let n = two_more(l.links);
-    kept::kept(
-        &before,
-        &made.net,
-        From {
-            links: n,
-            caps: n,
-            starts: l.starts,
-            list: two_more(l.list),
-        },
-    )
+    let from = Untouched {
+        links: n,
+        caps: n,
+        starts: l.starts,
+        list: two_more(l.list),
+    };
+    before.is_some_and(|before| kept::kept(&before, &made.net, from))
 }
 
 fn compare(r: &mut Reader, l: Listed, x: Edge, made: Left<()>) {

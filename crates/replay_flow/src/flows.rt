@@ -1,6 +1,6 @@
 // The kind `flow`: the maximum flow on a network.
 use crate::entries::Entry;
-use crate::kept::From;
+use crate::kept::Untouched;
 use crate::{kept, lent, nets};
 use flow::network::FlowNetwork;
 use flow_check::Ends;
@@ -13,7 +13,7 @@ fn same_else(before: &FlowNetwork, after: &FlowNetwork, n: usize) -> bool {
         && kept::kept(
             before,
             after,
-            From {
+            Untouched {
                 links: 0,
                 caps: n,
                 starts: 0,

@@ -4,29 +4,31 @@ use replay_text::text;
 
 // From where on the rows are kept: heads and costs of the links, their capacities, the starts, the node lists.
 #[derive(Clone, Copy)]
-pub struct From {
+pub struct Untouched {
     pub links: usize,
     pub caps: usize,
     pub starts: usize,
     pub list: usize,
 }
 
-fn same_ends(a: Link, b: Link) -> bool {
+fn same_ends(a: &Link, b: &Link) -> bool {
     a.head == b.head && text::alike(a.cost, b.cost)
 }
 
-fn links_kept(before: &[Link], after: &[Link], from: usize, caps: usize) -> bool {
-    let ends_kept = before
-        .iter()
-        .zip(after)
-        .skip(from)
-        .all(|(a, b)| same_ends(*a, *b));
-    let caps_kept = before
-        .iter()
-        .zip(after)
-        .skip(caps)
-        .all(|(a, b)| text::alike(a.cap, b.cap));
-    ends_kept && caps_kept
+fn same_caps(a: &Link, b: &Link) -> bool {
+    text::alike(a.cap, b.cap)
+}
+
+// The links from `from` on are the same, by `same`.
+fn links_kept<F: Fn(&Link, &Link) -> bool>(
+    before: &[Link],
+    after: &[Link],
+    from: usize,
+    same: F,
+) -> bool
+    requires { F.IsAlwaysCallable same }
+{
+    before.iter().zip(after).skip(from).all(|(a, b)| same(a, b))
 }
 
 fn numbers_kept(before: &[u32], after: &[u32], from: usize) -> bool {
@@ -34,8 +36,9 @@ fn numbers_kept(before: &[u32], after: &[u32], from: usize) -> bool {
 }
 
 // Nodes, and the rows from where they are kept.
-pub fn kept(before: &FlowNetwork, after: &FlowNetwork, from: From) -> bool {
-    links_kept(&before.links, &after.links, from.links, from.caps)
+pub fn kept(before: &FlowNetwork, after: &FlowNetwork, from: Untouched) -> bool {
+    links_kept(&before.links, &after.links, from.links, same_ends)
+        && links_kept(&before.links, &after.links, from.caps, same_caps)
         && numbers_kept(&before.starts, &after.starts, from.starts)
         && numbers_kept(&before.list, &after.list, from.list)
         && before.nodes == after.nodes

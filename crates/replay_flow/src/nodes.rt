@@ -1,9 +1,8 @@
 // The kind `nodes`: a new network.
 use crate::entries::Entry;
-use crate::kept::From;
+use crate::kept::Untouched;
 use crate::{kept, nets};
 use flow::network::FlowNetwork;
-use numbers::refusal::Refusal;
 use replay_text::text::Reader;
 
 // A new network has no links, and zeros in all rows.
@@ -12,7 +11,7 @@ fn is_blank(net: &FlowNetwork) -> bool {
         && kept::kept(
             &nets::blank(net.nodes),
             net,
-            From {
+            Untouched {
                 links: 0,
                 caps: 0,
                 starts: 0,
@@ -21,18 +20,12 @@ fn is_blank(net: &FlowNetwork) -> bool {
         )
 }
 
-fn compare(r: &mut Reader, made: Result<FlowNetwork, Refusal>) {
-    match made {
-        Ok(net) => {
-            r.expect_numbered(0, net.nodes);
-            r.compared(is_blank(&net));
-        }
-        Err(k) => r.expect_numbered(k.number(), 0usize),
-    }
-}
-
 pub fn run(r: &mut Reader) {
     let nodes = r.number_field() as usize;
-    compare(r, FlowNetwork::new(nodes));
+    let made = FlowNetwork::new(nodes);
+    r.expect_answer(made.map(|net| net.nodes));
+    if let Ok(net) = made {
+        r.compared(is_blank(&net));
+    }
     r.count(Entry::New as usize);
 }

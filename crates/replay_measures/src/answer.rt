@@ -6,7 +6,6 @@ use distance_words::told::Answer;
 use numbers::refusal::Refusal;
 use replay_text::lists::front;
 use replay_text::text::Reader;
-use replay_text::values::Value;
 
 // The values of a distance, and its counts.
 type Figures = ((f64, f64, f64), (usize, usize, usize));
@@ -35,11 +34,11 @@ pub fn expect(r: &mut Reader, told: &Result<Answer, Refusal>)
 {
     match told {
         Ok(answer) => {
-            r.expect_numbered(0, figures(answer.distance));
+            r.expect_answer(Ok(figures(answer.distance)));
             expect_records(r, front(&answer.records, answer.distance.contributions));
         }
         Err(refusal) => {
-            r.expect_numbered(refusal.number(), Figures::zero());
+            r.expect_answer::<Figures>(Err(*refusal));
             expect_records(r, &[]);
         }
     }

@@ -37,19 +37,21 @@ pub struct ChainRooms {
     pub seen: usize,
 }
 
-// At most six counts; 0 for those that are not there.
-fn counts(r: &mut Reader) -> [usize; 6]
+// N counts; a list of another length is a fault.
+fn counts<const N: usize>(r: &mut Reader) -> [u32; N]
     ensures { Lasts r.old r.new }
 {
-    let mut counts = [0u32; 6];
-    r.list_field(&mut counts);
-    counts.map(|n| n as usize)
+    let mut counts = [0u32; N];
+    if r.list_field(&mut counts).len() != N {
+        r.fault();
+    }
+    counts
 }
 
 pub fn read_rooms(r: &mut Reader) -> Rooms
     ensures { Lasts r.old r.new }
 {
-    let [lefts, rights, codes, places, masses, records] = counts(r);
+    let [lefts, rights, codes, places, masses, records] = counts::<6>(r).map(|n| n as usize);
     Rooms {
         lefts,
         rights,
@@ -63,7 +65,7 @@ pub fn read_rooms(r: &mut Reader) -> Rooms
 pub fn read_chain_rooms(r: &mut Reader) -> ChainRooms
     ensures { Lasts r.old r.new }
 {
-    let [offsets, targets, probs, seen, _, _] = counts(r);
+    let [offsets, targets, probs, seen] = counts::<4>(r).map(|n| n as usize);
     ChainRooms {
         offsets,
         targets,

@@ -1,10 +1,13 @@
 // A chain in the text, with its observations.
+ghost use Rattle.std.specs.Prelude.{◌≡◌, min, replicate};
 ghost use Rattle.replay_text.specs.Reading.{Lasts};
+ghost use Rattle.replay_measures.specs.Marks.{mark};
 
 use crate::asked::ChainRooms;
-use crate::scratch::expect_held;
+use crate::scratch::{expect_held, marked};
 use bisim_core::ids::StateId;
-use chain_theory::{ChainMut, ChainShape};
+use chain_theory::{ChainMut, ChainShape, ChainStore};
+use replay_text::lists::{front, front_mut};
 use replay_text::text::Reader;
 
 // Room for the lists of a chain.
@@ -48,13 +51,32 @@ impl Store {
         }
     }
 
+    // All lists marked, so many entries of each.
+    pub fn lend<'a>(&'a mut self, rooms: ChainRooms) -> ChainStore<'a>
+        ensures numbers { (result.offsets.now ≡ replicate (min rooms.offsets 200) 77) × (result.targets.now ≡ replicate (min rooms.targets 200) 77) }
+        ensures reals { (result.probs.now ≡ replicate (min rooms.probs 200) mark) × (result.observations.now ≡ replicate (min rooms.seen 200) mark) }
+    {
+        let Store {
+            offsets,
+            targets,
+            probs,
+            seen,
+        } = self;
+        ChainStore {
+            offsets: marked(front_mut(offsets, rooms.offsets)),
+            targets: marked(front_mut(targets, rooms.targets)),
+            probs: marked(front_mut(probs, rooms.probs)),
+            observations: marked(front_mut(seen, rooms.seen)),
+        }
+    }
+
     // What the lists hold, where they were lent.
     pub fn expect(&self, r: &mut Reader, rooms: ChainRooms)
         ensures { Lasts r.old r.new }
     {
-        expect_held(r, &self.offsets, rooms.offsets);
-        expect_held(r, &self.targets, rooms.targets);
-        expect_held(r, &self.probs, rooms.probs);
-        expect_held(r, &self.seen, rooms.seen);
+        expect_held(r, front(&self.offsets, rooms.offsets));
+        expect_held(r, front(&self.targets, rooms.targets));
+        expect_held(r, front(&self.probs, rooms.probs));
+        expect_held(r, front(&self.seen, rooms.seen));
     }
 }

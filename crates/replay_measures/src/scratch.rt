@@ -1,11 +1,11 @@
 // The scratch that is lent: filled with marks before a call, and looked at after it.
-ghost use Rattle.std.specs.Prelude.{◌≡◌, length, take, replicate};
+ghost use Rattle.std.specs.Prelude.{◌≡◌, min, length, replicate};
 ghost use Rattle.replay_text.specs.Reading.{Lasts};
 ghost use Rattle.replay_measures.specs.Marks.{mark};
 
 use crate::asked::Rooms;
 use distance_theory::lent::Scratch;
-use replay_text::lists::{front, front_mut};
+use replay_text::lists::{all_are, front, front_mut};
 use replay_text::text::Reader;
 use replay_text::values::Value;
 
@@ -55,18 +55,14 @@ enum Holding {
     Others = 2,
 }
 
-// The first n entries, marked.
-pub fn marked<'a, T: Mark>(xs: &'a mut [T], n: usize) -> &'a mut [T]
+// The list, each entry marked.
+pub(crate) fn marked<'a, T: Mark>(xs: &'a mut [T]) -> &'a mut [T]
     requires infallible { T.Clone.is_infallible T.marked }
     requires exact { (y : _) → T.Clone.is_clone T.marked y → y ≡ T.marked }
-    ensures { result.now ≡ take n (replicate (length xs.old) T.marked) }
+    ensures { result.now ≡ replicate (length xs.old) T.marked }
 {
     xs.fill(T::mark());
-    front_mut(xs, n)
-}
-
-fn all_are<T: Copy + PartialEq>(xs: &[T], x: T) -> bool {
-    xs.iter().all(|y| *y == x)
+    xs
 }
 
 // What a list that was marked holds.
@@ -80,11 +76,11 @@ fn held<T: Mark>(xs: &[T]) -> Holding {
     }
 }
 
-// What the first n entries of a list hold is as stored.
-pub fn expect_held<T: Mark>(r: &mut Reader, xs: &[T], n: usize)
+// What a list that was lent holds is as stored.
+pub(crate) fn expect_held<T: Mark>(r: &mut Reader, xs: &[T])
     ensures { Lasts r.old r.new }
 {
-    r.expect(held(front(xs, n)) as u32);
+    r.expect(held(xs) as u32);
 }
 
 // The line begins: its name, and how many lists there are.
@@ -124,7 +120,11 @@ impl Lists {
     }
 
     // All marked, so many entries of each.
-    pub fn lend<'a>(&'a mut self, rooms: Rooms) -> Scratch<'a> {
+    pub fn lend<'a>(&'a mut self, rooms: Rooms) -> Scratch<'a>
+        ensures numbers { (result.lefts.now ≡ replicate (min rooms.lefts 4200) 77) × (result.rights.now ≡ replicate (min rooms.rights 4200) 77) × (result.places.now ≡ replicate (min rooms.places 4200) 77) }
+        ensures codes { result.codes.now ≡ replicate (min rooms.codes 4200) 7777 }
+        ensures reals { result.masses.now ≡ replicate (min rooms.masses 4200) mark }
+    {
         let Lists {
             lefts,
             rights,
@@ -133,11 +133,11 @@ impl Lists {
             masses,
         } = self;
         Scratch {
-            lefts: marked(lefts, rooms.lefts),
-            rights: marked(rights, rooms.rights),
-            codes: marked(codes, rooms.codes),
-            places: marked(places, rooms.places),
-            masses: marked(masses, rooms.masses),
+            lefts: marked(front_mut(lefts, rooms.lefts)),
+            rights: marked(front_mut(rights, rooms.rights)),
+            codes: marked(front_mut(codes, rooms.codes)),
+            places: marked(front_mut(places, rooms.places)),
+            masses: marked(front_mut(masses, rooms.masses)),
         }
     }
 
@@ -145,10 +145,10 @@ impl Lists {
     pub fn expect(&self, r: &mut Reader, rooms: Rooms)
         ensures { Lasts r.old r.new }
     {
-        expect_held(r, &self.lefts, rooms.lefts);
-        expect_held(r, &self.rights, rooms.rights);
-        expect_held(r, &self.codes, rooms.codes);
-        expect_held(r, &self.places, rooms.places);
-        expect_held(r, &self.masses, rooms.masses);
+        expect_held(r, front(&self.lefts, rooms.lefts));
+        expect_held(r, front(&self.rights, rooms.rights));
+        expect_held(r, front(&self.codes, rooms.codes));
+        expect_held(r, front(&self.places, rooms.places));
+        expect_held(r, front(&self.masses, rooms.masses));
     }
 }

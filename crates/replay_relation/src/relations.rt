@@ -5,12 +5,15 @@ use bisim_core::ids::StateId;
 use bisim_core::wlts::Wlts;
 use bisimilar::bisimilar::epsdelta_bisimilar;
 use bisimilar::related::related;
-use epsdelta::asked::{Side, Sides, Tolerances};
+use epsdelta::asked::{Side, Sides};
 use epsdelta::relation::epsdelta;
+use epsdelta_theory::tolerances::Tolerances;
 use min_epsilon::least::min_epsilon;
+use numbers::refusal::Refusal;
 use replay_text::columns::Model;
 use replay_text::lists;
 use replay_text::text::Reader;
+use replay_text::values::Value;
 
 // What is asked: two models with the classes of their states, the tolerances, and the bytes listed.
 #[derive(Clone, Copy)]
@@ -21,7 +24,7 @@ struct Asked<'a> {
 }
 
 // What an entry answers, by `answer`, in bytes as they are at first, and the bytes as it leaves them.
-fn check<F: FnOnce(&mut Reader, Asked, &mut [u8])>(
+fn check<T: Value, F: FnOnce(Asked, &mut [u8]) -> Result<T, Refusal>>(
     r: &mut Reader,
     entry: Entry,
     x: Asked,
@@ -31,21 +34,9 @@ fn check<F: FnOnce(&mut Reader, Asked, &mut [u8])>(
     requires { F.IsAlwaysCallable answer }
 {
     store::fill(lent, x.listed);
-    answer(r, x, lent);
+    r.expect_answer(answer(x, lent));
     store::expect(r, lent, x.listed.len());
     r.count(entry as usize);
-}
-
-fn run_epsdelta(r: &mut Reader, x: Asked, lent: &mut [u8]) {
-    r.expect_answer(epsdelta(&x.sides, x.tolerances, lent));
-}
-
-fn run_bisimilar(r: &mut Reader, x: Asked, lent: &mut [u8]) {
-    r.expect_answer(epsdelta_bisimilar(&x.sides, x.tolerances, lent));
-}
-
-fn run_least(r: &mut Reader, x: Asked, lent: &mut [u8]) {
-    r.expect_answer(min_epsilon(&x.sides, x.tolerances.rho, lent));
 }
 
 // The classes, the tolerances and the bytes; each entry gets the bytes as they are at first.
@@ -74,9 +65,15 @@ fn run_lent(r: &mut Reader, bytes: &mut [u8], left: Wlts, right: Wlts) {
         listed: l.listed,
     };
     let lent = lists::front_mut(bytes, l.room);
-    check(r, Entry::Epsdelta, x, lent, run_epsdelta);
-    check(r, Entry::EpsdeltaBisimilar, x, lent, run_bisimilar);
-    check(r, Entry::MinEpsilon, x, lent, run_least);
+    check(r, Entry::Epsdelta, x, lent, |x, lent| {
+        epsdelta(&x.sides, x.tolerances, lent)
+    });
+    check(r, Entry::EpsdeltaBisimilar, x, lent, |x, lent| {
+        epsdelta_bisimilar(&x.sides, x.tolerances, lent)
+    });
+    check(r, Entry::MinEpsilon, x, lent, |x, lent| {
+        min_epsilon(&x.sides, x.tolerances.rho, lent)
+    });
 }
 
 // Both models, and what comes after them.

@@ -24,12 +24,9 @@ pub fn fill(store: &mut [u8], listed: &[u8]) {
     store[n..].fill(0);
 }
 
-fn zero_from(store: &[u8], from: usize) -> bool {
-    store.iter().skip(from).all(|b| *b == 0)
-}
-
 // The first n bytes are as stored, and the others zero.
+// Stays: n is where the bytes listed end, and those behind it are looked at too.
 pub fn expect(r: &mut Reader, store: &[u8], n: usize) {
     r.expect_list(lists::front(store, n));
-    r.compared(zero_from(store, n));
+    r.compared(lists::all_are(lists::behind(store, n), 0));
 }

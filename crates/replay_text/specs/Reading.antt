@@ -1,6 +1,6 @@
 -- What reading a case leaves of its marks.
 use Rattle.std.specs.Prelude.{◌≡◌, Bool, true, ◌&&◌, ◌||◌, Float}
-use Rattle.std.specs.Float.Ieee.{eq, ne}
+use Rattle.std.specs.Float.Ieee.{eq, is_nan}
 use Rattle.replay_text.specs.declared.text.Reader.{Reader}
 
 -- the place and the counts are kept
@@ -17,4 +17,4 @@ Lasts r s = (r.faulty ≡ true → s.faulty ≡ true) × (r.differs ≡ true →
 
 -- whether two numbers count as the same: two zeros do, and two NaNs
 abbrev pub same : Float → Float → Bool
-same x y = eq x y || (ne x x && ne y y)
+same x y = eq x y || (is_nan x && is_nan y)

@@ -1,5 +1,5 @@
 -- How answers are counted.
-use Rattle.std.specs.Prelude.{ℕ, ◌+◌, ◌≤◌, ◌≡◌, List, Bool, true, false, cond, ◌&&◌, not, ltb, get_or, set, replicate}
+use Rattle.std.specs.Prelude.{ℕ, ◌+◌, ◌-◌, ◌^◌, min, ◌≡◌, Bool, true, false, cond, ◌&&◌, not, ltb, get_or, set, replicate}
 use Rattle.replay_text.specs.declared.text.Reader.{Reader}
 use Rattle.replay_text.specs.declared.tally.Tally.{Tally}
 use Rattle.replay_text.specs.declared.tally.Counts.{Counts}
@@ -15,9 +15,9 @@ nothing = record { agree = 0; differ = 0 }
 abbrev pub none : Counts
 none = record { entries = replicate 22 nothing; other = nothing; all = nothing }
 
--- one more, up to 10^12
+-- one more, up to the greatest number of 64 bits
 abbrev pub up : ℕ → ℕ
-up n = cond (ltb n 1000000000000) (n + 1) n
+up n = min (n + 1) (2 ^ 64 - 1)
 
 -- with an answer more
 abbrev pub more : Tally → Bool → Tally

@@ -8,7 +8,7 @@ use numbers::refusal::Refusal;
 
 impl Reader<'_> {
     // A refusal's number, and what stands beside it.
-    pub fn expect_numbered<T: Value>(&mut self, refusal: u32, x: T)
+    fn expect_numbered<T: Value>(&mut self, refusal: u32, x: T)
         ensures { Lasts self.old self.new }
     {
         self.name();

@@ -1,5 +1,8 @@
 // All cases of standard input, one by one.
-ghost use Rattle.std.specs.Prelude.{◌<◌, ◌≤◌, length};
+ghost use Rattle.std.specs.Prelude.{◌≡◌, ◌≢◌, ◌+◌, ◌<◌, ◌≤◌, ℕ, IfOk, length, take, drop};
+ghost use Rattle.std.specs.Fn.{FnOnceReturnsAtMut};
+ghost use Rattle.replay_text.specs.Cases.{Runs};
+ghost use Rattle.replay_text.specs.Tally.{Ready, none, agrees, tallied, other_tallied};
 
 use crate::tally::Counts;
 use crate::text::Reader;
@@ -8,7 +11,8 @@ use std::io::Read;
 
 // The first case of a text, which an empty line ends, and what stands behind that line.
 fn cut(text: &[u8]) -> (&[u8], &[u8])
-    ensures { 1 ≤ length text.now → length result.1.now < length text.now }
+    ensures parts { (result.0.now ≡ take (length result.0.now) text.now) × (result.1.now ≡ drop (length result.0.now + 1) text.now) }
+    ensures shorter { 1 ≤ length text.now → length result.1.now < length text.now }
 {
     let end = if text.starts_with(b"\n") {
         0
@@ -18,12 +22,16 @@ fn cut(text: &[u8]) -> (&[u8], &[u8])
             .map_or(text.len(), |at| at + 1)
     };
     let (case, rest) = text.split_at(end);
-    (case, rest.get(1..).unwrap_or(&[]))
+    match rest.split_first() {
+        Some((_, after)) => (case, after),
+        None => (case, rest),
+    }
 }
 
 // Each case is run by `run`, which is handed the word of its kind, with which a case begins; how many answers agree and differ, by entry.
 pub fn run<F: FnMut(&mut Reader, &[u8])>(rt: &HostRuntime, mut run: F) -> io::Result<Counts>
-    requires { F.IsAlwaysCallable run }
+    requires run { F.IsAlwaysCallable run }
+    ensures { IfOk result (λ d. (n : ℕ) × (last : F) × Runs (λ f r k s h. F.step f r k tt s h) n run none last d) }
 {
     let mut text = Vec::new(rt.alloc());
     rt.reader().read_to_end(&mut text)?;
@@ -44,7 +52,9 @@ pub fn run<F: FnMut(&mut Reader, &[u8])>(rt: &HostRuntime, mut run: F) -> io::Re
 
 // A case of a program whose cases are all of one kind, where that is its kind; the answer is counted as of entry 0.
 pub fn run_only<F: FnOnce(&mut Reader)>(r: &mut Reader, word: &[u8], kind: &[u8], run: F)
-    requires { F.IsAlwaysCallable run }
+    requires run { F.IsAlwaysCallable run }
+    ensures known { word.now ≡ kind.now → (s : _) × FnOnceReturnsAtMut F.FnOnce run r.old tt s × (r.new.counts ≡ tallied s.counts 0 (agrees s)) × Ready s r.new × (r.new.rest ≡ s.rest) }
+    ensures unknown { word.now ≢ kind.now → (r.new.counts ≡ other_tallied r.old.counts) × Ready r.old r.new × (r.new.rest ≡ r.old.rest) }
 {
     if word == kind {
         run(r);

@@ -3,7 +3,6 @@ ghost use Rattle.std.specs.Prelude.{◌≡◌, take};
 ghost use Rattle.replay_text.specs.Reading.{Lasts};
 
 use crate::lists::front;
-use crate::text;
 use crate::text::Reader;
 use crate::values::Entry;
 use bisim_core::ids::StateId;
@@ -17,11 +16,11 @@ pub struct Column<T, const N: usize> {
 }
 
 impl<T: Entry, const N: usize> Column<T, N> {
-    pub fn new(zero: T) -> Column<T, N>
+    pub fn new() -> Column<T, N>
         ensures { result.count ≡ 0 }
     {
         Column {
-            entries: [zero; N],
+            entries: [T::zero(); N],
             count: 0,
         }
     }
@@ -57,7 +56,7 @@ impl Reader<'_> {
     {
         self.name();
         let x = self.number_or_none()?;
-        Some(StateId(text::narrow(x)))
+        Some(StateId(self.found(u32::try_from(x).ok())))
     }
 
     pub fn shape(&mut self) -> Shape
@@ -84,11 +83,11 @@ impl Model {
                 labels: 0,
                 initial: None,
             },
-            label_values: Column::new(0),
-            offsets: Column::new(0),
-            edge_labels: Column::new(0),
-            edge_targets: Column::new(0),
-            edge_weights: Column::new(0.0),
+            label_values: Column::new(),
+            offsets: Column::new(),
+            edge_labels: Column::new(),
+            edge_targets: Column::new(),
+            edge_weights: Column::new(),
         }
     }
 

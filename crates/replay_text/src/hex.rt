@@ -7,6 +7,7 @@ use crate::text::{Reader, digit};
 
 impl Reader<'_> {
     // One digit; 0 and a fault where there is none.
+    // Stays: `found`, of any type, promises nothing of what it hands on, and `pair` needs the bound; and a digit is passed only where there is one.
     fn hex_digit(&mut self) -> u64
         ensures { (result < 16) × Lasts self.old self.new }
     {

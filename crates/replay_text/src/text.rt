@@ -20,6 +20,7 @@ fn within_word(b: u8) -> bool {
 }
 
 // The digit that a byte is, to that base.
+// Stays: `char::to_digit` takes capitals too, with which no number of a case is written, and wants of each caller a base from 2 to 36.
 pub(crate) fn digit(b: u8, base: u64) -> Option<u64>
     ensures { IfSome result (λ x. x < base) }
 {
@@ -32,6 +33,7 @@ pub(crate) fn digit(b: u8, base: u64) -> Option<u64>
 }
 
 // The number that digits make; none where one is no digit, or the number has over 64 bits.
+// Stays: `u64::from_str_radix` takes a sign and capitals too, with which no number of a case is written, and a text in place of bytes.
 fn parsed(digits: &[u8], base: u64) -> Option<u64> {
     let mut x = 0u64;
     for b in digits {
@@ -40,25 +42,24 @@ fn parsed(digits: &[u8], base: u64) -> Option<u64> {
     Some(x)
 }
 
-// A number that is no NaN's bits is made of its bits.
+// The bit of the sign, and the bits of infinity: what is above them, the sign apart, is a NaN's.
+const SIGN: u64 = 0x8000_0000_0000_0000;
+
+const INFINITY: u64 = 0x7ff0_0000_0000_0000;
+
+// The number that has these bits.
 fn of_bits(bits: u64) -> f64 {
-    if bits % 9223372036854775808 > 9218868437227405312 {
-        return 0.0 / 0.0;
+    if bits % SIGN > INFINITY {
+        return f64::NAN;
     }
     f64::from_bits(bits)
-}
-
-pub fn narrow(x: u64) -> u32
-    ensures { x < 4294967296 → result ≡ x }
-{
-    u32::try_from(x).unwrap_or(0)
 }
 
 // Two zeros are the same, and so are two NaNs; otherwise the bits are.
 pub fn alike(x: f64, y: f64) -> bool
     ensures { result ≡ same x y }
 {
-    x == y || (x != x && y != y)
+    x == y || (x.is_nan() && y.is_nan())
 }
 
 impl<'a> Reader<'a> {
@@ -81,6 +82,7 @@ impl<'a> Reader<'a> {
     }
 
     // An answer is the stored one, or differs.
+    // Stays: the bool is what a comparison has found, and picks no body.
     pub fn compared(&mut self, agrees: bool)
         ensures { (agrees ≡ false → self.new.differs ≡ true) × Lasts self.old self.new }
     {
@@ -235,7 +237,7 @@ impl<'a> Reader<'a> {
 
     // Counts an answer of an entry, and makes ready for the next.
     pub fn count(&mut self, entry: usize)
-        ensures { (self.new.counts ≡ tallied self.old.counts entry (agreed self.old)) × Ready self.old self.new }
+        ensures { (self.new.counts ≡ tallied self.old.counts entry (agreed self.old)) × Ready self.old self.new × (self.new.rest ≡ self.old.rest) }
     {
         let agrees = self.agrees();
         self.counts.count(entry, agrees);
@@ -244,7 +246,7 @@ impl<'a> Reader<'a> {
 
     // A case that cannot be read.
     pub fn unknown(&mut self)
-        ensures { (self.new.counts ≡ other_tallied self.old.counts) × Ready self.old self.new }
+        ensures { (self.new.counts ≡ other_tallied self.old.counts) × Ready self.old self.new × (self.new.rest ≡ self.old.rest) }
     {
         self.counts.count_other();
         self.settle();
@@ -252,7 +254,9 @@ impl<'a> Reader<'a> {
 
     // A case has ended: where it is as laid out so far, more text is one difference.
     pub fn end(&mut self)
-        ensures { self.new.counts ≡ cond (not self.old.faulty && not (eqb (length self.old.rest.now) 0)) (other_tallied self.old.counts) self.old.counts }
+        ensures counted { self.new.counts ≡ cond (not self.old.faulty && not (eqb (length self.old.rest.now) 0)) (other_tallied self.old.counts) self.old.counts }
+        ensures differs { self.new.differs ≡ cond (not self.old.faulty && not (eqb (length self.old.rest.now) 0)) false self.old.differs }
+        ensures kept { (self.new.rest ≡ self.old.rest) × (self.new.faulty ≡ self.old.faulty) }
     {
         if !self.faulty && !self.at_end() {
             self.unknown();

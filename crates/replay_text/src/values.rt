@@ -5,12 +5,14 @@ use crate::text;
 use crate::text::Reader;
 use bisim_core::ids::{LabelId, StateId};
 
-// What an answer is made of.
+// What an answer is made of. Each type has an impl of its own.
 pub trait Value: Sized {
     // What stands for it on a refusal.
+    // Stays: one for all that are numbers (`impl<T: Into<u64>>`) would meet those of f64 and of an Option, and by `Default` an Option's would be None.
     fn zero() -> Self;
 
     // The one stored is this one.
+    // Stays: as `zero`.
     fn expect(self, r: &mut Reader)
         ensures { Lasts r.old r.new };
 }
@@ -163,7 +165,8 @@ impl Entry for u32 {
 
 impl Entry for u8 {
     fn read(r: &mut Reader) -> u8 {
-        u8::try_from(r.short()).unwrap_or(0)
+        let x = r.short();
+        r.found(u8::try_from(x).ok())
     }
 }
 

@@ -1,5 +1,5 @@
 -- What the exported functions on relations return, and what the bytes and references lent to them then hold.
-use Rattle.std.specs.Prelude.{ℕ, Bool, true, false, Option, Some, None, Result, Ok, Err, List, [], ◌∷◌, Float}
+use Rattle.std.specs.Prelude.{ℕ, Bool, true, false, Option, Result, Ok, Err, List, [], ◌∷◌, Float}
 use Rattle.epsdelta.specs.Outcome as epsdelta
 use Rattle.replies.specs.Answers.{number_of, present_of, value_of}
 

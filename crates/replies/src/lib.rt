@@ -3,4 +3,3 @@
 
 pub mod answers; // answers.rt: what answers hold is put behind references
 pub mod shapes; // shapes.rt: counts and initial states of models and chains
-pub mod transports; // transports.rt: the answer of `transport`

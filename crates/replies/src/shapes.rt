@@ -11,11 +11,7 @@ use chain_theory::ChainShape;
 pub fn initial_of(present: u32, start: u32) -> Option<StateId>
     ensures { result ≡ initial present start }
 {
-    if present == 0 {
-        None
-    } else {
-        Some(StateId(start))
-    }
+    (present != 0).then_some(StateId(start))
 }
 
 // A model's counts and initial state.

@@ -5,7 +5,7 @@ use mathlib.Core.Bool.{Bool, true}
 use mathlib.Core.List.{List}
 use native.Mathlib.Omega.{arith}
 use native.Mathlib.Numerals.{add-one}
-use lib.ListN.{length, take, replicate, length-replicate}
+use lib.ListN.{length, take, drop, replicate, length-replicate, length-append}
 use lib.Seq.{take_at}
 use lib.Ieee.{Float}
 use borrow.Author.Tests.{le-leb, eq-eqb}
@@ -17,7 +17,8 @@ use Rattle.transport_theory.specs.Links.{links, heads, caps, prices}
 use Rattle.transport_theory.specs.Transport.{Shipment, shipped, plan, bills, transport}
 use Rattle.transport_theory.proofs.Networks.{links_length, heads_length, caps_length, prices_length, heads_inside, links_inside, cells_few, moved_in}
 use Rattle.transport_theory.proofs.PlanRows.{Planned}
-use Rattle.std.specs.Prelude.{Option}
+use Rattle.std.specs.Prelude.{Option, Some}
+use Rattle.std.specs.Option.{unwrap_or}
 use Rattle.transport_theory.proofs.TransportRows.{Carried, Loadable, Readied, Spelled, Transported}
 use Rattle.transport_theory.proofs.Writing.{Written, has_room, wrote, write}
 use Rattle.transport_theory.proofs.Sending.{listable, sendable, rows_shipped, Sent, sent, send_if, send}
@@ -112,9 +113,21 @@ module _ {a b costs : List Float} {h : List ℕ} {c p : List Float} {list rows c
   pub places_few : places ≤ 2176
   places_few = let f = cells_few (length a) (length b) L.base.few_a L.base.few_b in let x = L.base.few_a in let y = L.base.few_b in omega arith
 
-  module _ (r : Bool) (h' : List ℕ) (c' p' : List Float) (W : wrote r h' c' p' ≡ write a b costs h c p) where
-    laid : wrote r h' c' p' ≡ wrote true (over (heads (links a b costs)) h) (over (caps (links a b costs)) c) (over (prices (links a b costs)) p)
+  module _ (r : Option ℕ) (h' : List ℕ) (c' p' : List Float) (W : wrote r h' c' p' ≡ write a b costs h c p) where
+    laid : wrote r h' c' p' ≡ wrote (Some (length (heads (links a b costs)))) (over (heads (links a b costs)) h) (over (caps (links a b costs)) c) (over (prices (links a b costs)) p)
     laid = W ∙ rw roomy
+
+    pub laid_places : r ≡ Some places
+    laid_places = ap (λ (w : Written). w.places) laid ∙ ap (λ (k : ℕ). Some k) (heads_length (links a b costs) ∙ total)
+
+    pub laid_room : {k : ℕ} → k ≡ unwrap_or r 0 → (k ≤ length c') × (k ≤ length p')
+    laid_room e =
+        let q = e ∙ ap (λ (o : Option ℕ). unwrap_or o 0) laid_places in
+        let x = ap (λ (w : Written). length w.caps) laid ∙ length-append (caps (links a b costs)) (drop (length (caps (links a b costs))) c) in
+        let y = ap (λ (w : Written). length w.prices) laid ∙ length-append (prices (links a b costs)) (drop (length (prices (links a b costs))) p) in
+        let u = caps_length (links a b costs) ∙ total in
+        let v = prices_length (links a b costs) ∙ total in
+        (omega arith, omega arith)
 
     pub carried : Carried a b costs (take places h') (take places c') (take places p') list rows columns masses
     carried = record {

@@ -1,5 +1,6 @@
 -- What the checks of `transport` decide, and what the answer is then.
-use mathlib.Core.Path.{◌≡◌, sym, ap, ◌∙◌}
+use mathlib.Core.Path.{◌≡◌, refl, sym, ap, ◌∙◌}
+use mathlib.Core.Logic.{◌≢◌}
 use Prim.Native.Nat.{ℕ, ◌*◌, ◌≤◌, ◌<◌}
 use mathlib.Core.Bool.{Bool, true, false, not, ◌&&◌, true≢false}
 use mathlib.Core.List.{List}
@@ -11,22 +12,15 @@ use lib.Ieee.{Float}
 use borrow.Author.Tests.{ltb-true, ltb-false, leb-true, not-false}
 use Rattle.numbers.specs.Lists.{all}
 use Rattle.numbers.specs.Real.{sum}
-use Rattle.numbers.specs.Refuse.{check}
+use Rattle.numbers.specs.declared.refusal.Refusal.{Refusal}
+use Rattle.numbers.specs.Refuse.{check, number}
 use Rattle.numbers.proofs.Bools.{and_t, or_f}
-use Rattle.numbers.proofs.Refuses.{check_hit, check_skip, check_none}
+use Rattle.numbers.proofs.Refuses.{number_positive, check_hit, check_skip, check_none}
 use Rattle.transport_theory.specs.Refusal.{short, fits, masses_fit, costs_fit, unequal, transport_refusal}
 use Rattle.transport_theory.proofs.TransportRows.{Roomy}
 use Rattle.transport.specs.Outcome.{size_refusal}
 
--- the product itself where it is not too large
-pub product_in : (places m n : ℕ) → ltb places (m * n) ≡ false → m * n ≤ places
-product_in places m n e = ltb-false places (m * n) e
-
 -- ---- the costs
-
-pub costs_whole : (m n : ℕ) (costs : List Float) → ltb (length costs) (m * n) ≡ true → (r : Bool) → r ≡ all fits costs → r ≡ costs_fit m n costs
-unfolding costs_fit
-costs_whole m n costs h r q = q ∙ ap (all fits) (sym (take_all (m * n) costs (let l : length costs < m * n = ltb-true (length costs) (m * n) h in omega arith)))
 
 pub costs_front : (m n : ℕ) (costs : List Float) (r : Bool) → r ≡ all fits (take (m * n) costs) → r ≡ costs_fit m n costs
 unfolding costs_fit
@@ -34,21 +28,56 @@ costs_front m n costs r q = q
 
 -- ---- what is refused, and what is not
 
-module _ (right : Bool) (a b : List Float) (costs rows columns masses : ℕ) where
-  abbrev r₁₆ : ℕ
-  r₁₆ = check 16 (unequal (sum a) (sum b)) 0
+pub first_fails : (p q : Bool) → p ≡ false → (p && q) ≡ false
+first_fails p q e = ap (λ (x : Bool). x && q) e
 
-  abbrev r₁₅ : ℕ
-  r₁₅ = check 15 (not (masses_fit a b && right)) r₁₆
-
-  module _ (h : short (length a) (length b) costs rows columns masses ≡ false) where
-    module _ (f : (masses_fit a b && right) ≡ true) where
-      pub refused_16 : unequal (sum a) (sum b) ≡ true → 16 ≡ transport_refusal right a b costs rows columns masses
-      refused_16 u = sym (check_skip 7 _ r₁₅ 16 h (check_skip 15 _ r₁₆ 16 (ap not f) (check_hit 16 _ 0 u)))
+pub second_fails : (p q : Bool) → p ≡ true → q ≡ false → (p && q) ≡ false
+second_fails p q e f = ap (λ (x : Bool). x && q) e ∙ f
 
 pub both : (p q : Bool) → p ≡ true → q ≡ true → (p && q) ≡ true
 both true q e f = f
 both false q e f = absurd (true≢false (sym e))
+
+-- the checks of the sizes come first: what they turn back is turned back, and past them the others are left
+sizes_hit : (r : ℕ) (s m n fit right : Bool) (later : ℕ) → r ≢ 0 → r ≡ check 7 s (check 15 (not (m && n)) 0) → r ≡ check 7 s (check 15 (not ((m && (n && fit)) && right)) later)
+sizes_hit r true m n fit right later z e = e
+sizes_hit r false false n fit right later z e = e
+sizes_hit r false true false fit right later z e = e
+sizes_hit r false true true fit right later z e = absurd (z e)
+
+sizes_pass : (s m n fit right : Bool) (later : ℕ) → 0 ≡ check 7 s (check 15 (not (m && n)) 0) → check 15 (not (fit && right)) later ≡ check 7 s (check 15 (not ((m && (n && fit)) && right)) later)
+sizes_pass true m n fit right later e = absurd (omega arith)
+sizes_pass false false n fit right later e = absurd (omega arith)
+sizes_pass false true false fit right later e = absurd (omega arith)
+sizes_pass false true true fit right later e = refl
+
+module _ (right : Bool) (a b : List Float) (costs rows columns masses : ℕ) where
+  abbrev lists_short : Bool
+  lists_short = short (length a) (length b) costs rows columns masses
+
+  abbrev fit : Bool
+  fit = all fits a && all fits b
+
+  abbrev r₁₆ : ℕ
+  r₁₆ = check 16 (unequal (sum a) (sum b)) 0
+
+  pub size_first : (r : Refusal) → number r ≡ size_refusal (length a) (length b) costs rows columns masses → number r ≡ transport_refusal right a b costs rows columns masses
+  unfolding masses_fit
+  size_first r e = sizes_hit (number r) lists_short (leb (length a) 32) (leb (length b) 32) fit right r₁₆ (number_positive r) e
+
+  module _ (e : 0 ≡ size_refusal (length a) (length b) costs rows columns masses) where
+    past : check 15 (not (fit && right)) r₁₆ ≡ transport_refusal right a b costs rows columns masses
+    unfolding masses_fit
+    past = sizes_pass lists_short (leb (length a) 32) (leb (length b) 32) fit right r₁₆ e
+
+    pub refused_15 : (fit && right) ≡ false → 15 ≡ transport_refusal right a b costs rows columns masses
+    refused_15 f = sym (check_hit 15 _ r₁₆ (ap not f)) ∙ past
+
+    pub refused_16 : (fit && right) ≡ true → unequal (sum a) (sum b) ≡ true → 16 ≡ transport_refusal right a b costs rows columns masses
+    refused_16 f u = sym (check_skip 15 _ r₁₆ 16 (ap not f) (check_hit 16 _ 0 u)) ∙ past
+
+    pub refused_none : (fit && right) ≡ true → unequal (sum a) (sum b) ≡ false → 0 ≡ transport_refusal right a b costs rows columns masses
+    refused_none f u = sym (check_skip 15 _ r₁₆ 0 (ap not f) (check_skip 16 _ 0 0 u refl)) ∙ past
 
 -- lists that are long enough
 long_enough : (m n costs rows columns masses : ℕ) → short m n costs rows columns masses ≡ false → (m * n ≤ costs) × (m * n ≤ rows) × (m * n ≤ columns) × (m * n ≤ masses)

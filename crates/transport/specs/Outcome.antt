@@ -1,7 +1,8 @@
 -- What `transport` answers, and what it leaves in the plan's columns.
-use Rattle.std.specs.Prelude.{ℕ, zero, suc, Bool, not, ◌&&◌, List, map, length, leb, Float, Result, Ok, Err}
+use Rattle.std.specs.Prelude.{ℕ, zero, suc, Bool, not, List, map, length, Float, Result, Ok, Err}
 use Rattle.numbers.specs.Lists.{over}
 use Rattle.numbers.specs.Refuse.{check}
+use Rattle.transport_theory.specs.Lent.{few}
 use Rattle.transport_theory.specs.Transport.{Cell, Transport, transport}
 use Rattle.transport_theory.specs.Refusal.{short, transport_refusal}
 use Rattle.transport.specs.declared.plan.Plan.{Plan}
@@ -28,7 +29,7 @@ transport_on right a b costs i j x = settled (transport_refusal right a b (lengt
 
 -- sizes alone: lists that are short, or over 32 masses on a side
 abbrev pub size_refusal : ℕ → ℕ → ℕ → ℕ → ℕ → ℕ → ℕ
-size_refusal m n costs rows columns masses = check 7 (short m n costs rows columns masses) (check 15 (not (leb m 32 && leb n 32)) 0)
+size_refusal m n costs rows columns masses = check 7 (short m n costs rows columns masses) (check 15 (not (few m n)) 0)
 
 -- any masses and costs of sizes that fit
 abbrev pub transport_sized : List Float → List Float → List Float → List ℕ → List ℕ → List Float → Outcome

@@ -1,7 +1,8 @@
 // The plan: the cells above the threshold in row order.
-ghost use Rattle.transport_theory.proofs.TransportRows.{Readied, Spelled};
-ghost use Rattle.transport.specs.Lent.{same_columns};
+ghost use Rattle.transport.specs.Lent.{same_columns, Readied};
+ghost use Rattle.transport.specs.Moving.{Spelled};
 
+use flow_theory::reverse;
 use numbers::EPS;
 use transport_theory::Masses;
 
@@ -22,8 +23,8 @@ pub struct Plan {
 
 // Writes the cells whose mass is above the threshold; the mass is what the capacity of the reverse link has come to.
 pub(crate) fn write_plan(of: &Masses, caps: &[f64], plan: &mut PlanRows) -> Plan
-    requires { Readied of.now.left.now of.now.right.now of.now.costs.now caps.now plan.old.rows.now plan.old.columns.now plan.old.masses.now }
-    ensures spelled { Spelled of.now.left.now of.now.right.now of.now.costs.now caps.now plan.old.rows.now plan.old.columns.now plan.old.masses.now result.total result.cells plan.new.rows.now plan.new.columns.now plan.new.masses.now }
+    requires { Readied of.now caps.now plan.old }
+    ensures spelled { Spelled of.now caps.now plan.old result plan.new }
     ensures same { same_columns plan.old plan.new }
 {
     let m = of.left.len();
@@ -31,14 +32,14 @@ pub(crate) fn write_plan(of: &Masses, caps: &[f64], plan: &mut PlanRows) -> Plan
     let first = 2 * (m + n);
     let mut total = 0.0;
     let mut cells: usize = 0;
-    for k in 0..m * n {
-        let x = caps[(first + 2 * k) ^ 1];
+    for (k, cost) in of.costs[..m * n].iter().enumerate() {
+        let x = caps[reverse(first + 2 * k)];
         if x > EPS {
             plan.rows[cells] = (k / n) as u32;
             plan.columns[cells] = (k % n) as u32;
             plan.masses[cells] = x;
             cells += 1;
-            total += x * of.costs[k];
+            total += x * *cost;
         }
     }
     Plan { total, cells }

@@ -1,15 +1,15 @@
 // The whole of `transport` below the checks: the links in rows, the rounds, the plan.
 ghost use Rattle.std.specs.Prelude.{◌+◌, ◌*◌, ◌≤◌, length};
-ghost use Rattle.transport_theory.proofs.TransportRows.{Roomy, Carried, Loadable};
 ghost use Rattle.transport.specs.Moving.{Moved};
-ghost use Rattle.transport.specs.Lent.{same_columns};
+ghost use Rattle.transport.specs.Lent.{same_columns, Planable, Carried, Loadable};
 
 use crate::plan::{Plan, PlanRows, write_plan};
 use transport_core::rows::{Links, ship_rows};
 use transport_links::links::{LinkRows, write_links};
 use transport_theory::Masses;
 
-// The rounds on the links of these masses, and the plan.
+// The rounds on the links of these masses, and the plan. How much remains is not asked for: what did not move is in no cell.
+// Stays: `ship_rows` answers None for links that don't fit together, which these do by the contract; handed on, it would make Options of the answers of four functions above, and a refusal in `planned` that never comes.
 fn plan_links(
     of: &Masses,
     links: &Links,
@@ -17,7 +17,7 @@ fn plan_links(
     list: &mut [u32],
     plan: &mut PlanRows,
 ) -> Plan
-    requires { Carried of.now.left.now of.now.right.now of.now.costs.now links.now.heads.now caps.old links.now.prices.now list.old plan.old.rows.now plan.old.columns.now plan.old.masses.now }
+    requires { Carried of.now links.now caps.old list.old plan.old }
     ensures transported { Moved of.now plan.old result plan.new }
     ensures same { same_columns plan.old plan.new }
 {
@@ -26,14 +26,13 @@ fn plan_links(
 }
 
 // The same over rows with room for the links.
-fn transport_in(of: &Masses, rows: LinkRows, list: &mut [u32], plan: &mut PlanRows) -> Plan
-    requires { Loadable of.now.left.now of.now.right.now of.now.costs.now rows.heads.now rows.caps.now rows.prices.now list.old plan.old.rows.now plan.old.columns.now plan.old.masses.now }
+// Stays: there is room, so that `write_links` gives a number; `?` for `unwrap_or(0)` would make Options of the answers of three functions, none of them ever None.
+fn transport_in(of: &Masses, mut rows: LinkRows, list: &mut [u32], plan: &mut PlanRows) -> Plan
+    requires { Loadable of.now rows list.old plan.old }
     ensures transported { Moved of.now plan.old result plan.new }
     ensures same { same_columns plan.old plan.new }
 {
-    let mut rows = rows;
-    write_links(of, &mut rows);
-    let places = of.places().unwrap_or(0);
+    let places = write_links(of, &mut rows).unwrap_or(0);
     let LinkRows {
         heads,
         caps,
@@ -48,7 +47,7 @@ fn transport_in(of: &Masses, rows: LinkRows, list: &mut [u32], plan: &mut PlanRo
 
 // With N places for the links and their reverses.
 pub(crate) fn transport_with<const N: usize>(of: &Masses, plan: &mut PlanRows) -> Plan
-    requires roomy { Roomy of.now.left.now of.now.right.now of.now.costs.now plan.old.rows.now plan.old.columns.now plan.old.masses.now }
+    requires roomy { Planable of.now plan.old }
     requires places { (2 * (length of.now.left.now + length of.now.right.now + length of.now.left.now * length of.now.right.now) ≤ N) × (N ≤ 2176) }
     ensures transported { Moved of.now plan.old result plan.new }
     ensures same { same_columns plan.old plan.new }

@@ -4,10 +4,10 @@ use Prim.Native.Nat.{ℕ, ◌+◌, ◌*◌, ◌≤◌, ◌<◌}
 use mathlib.Core.Bool.{Bool, true}
 use mathlib.Core.List.{List}
 use native.Mathlib.Omega.{arith}
-use lib.Dec.{leb, eqb, ltb, lit<}
+use lib.Dec.{eqb, ltb, lit<}
 use lib.ListN.{length}
 use lib.Ieee.{Float, binary64, mul}
-use borrow.Author.Tests.{leb-true, eqb-true}
+use borrow.Author.Tests.{eqb-true}
 use Rattle.numbers.specs.Real.{one, eps, sum}
 use Rattle.numbers.specs.Choice.{smaller, larger}
 use Rattle.numbers.proofs.Bools.{and_t}
@@ -20,7 +20,9 @@ use Rattle.flow_theory.proofs.Theorem.{made}
 use Rattle.flow_check.specs.Refusal
 use Rattle.flow_check.proofs.Accepting.{sized}
 use Rattle.flow_check.proofs.Relists.{Relisted, listable_indexable, enlisted}
+use Rattle.transport_theory.specs.Lent as masses
 use Rattle.transport_theory.specs.Transport.{Shipment, rounds, crumbs, round_cap}
+use Rattle.transport_theory.proofs.Places.{few_both}
 use Rattle.transport_theory.proofs.RoundRows.{row_roads, shipment, Sailable, Shipped}
 use Rattle.transport_theory.proofs.TransportRows.{Linked, shipped_rows}
 use Rattle.transport_theory.proofs.Sending.{sizes_fit, listable}
@@ -63,10 +65,7 @@ module _ (a b : List Float) (H : List ℕ) (c p : List Float) (l : List ℕ) whe
 
   module _ (z : sizes_fit (length a) (length b) (length H) (length c) (length p) ≡ true) where
     pub few : (length a ≤ 32) × (length b ≤ 32)
-    few =
-        let (x, r) = and_t (leb (length a) 32) _ z in
-        let (y, q) = and_t (leb (length b) 32) _ r in
-        (leb-true (length a) 32 x, leb-true (length b) 32 y)
+    few = few_both (length a) (length b) (and_t (masses.few (length a) (length b)) _ z).0
 
     module _ (st : List ℕ) (w : length st ≡ 67) (r : Bool) (st' l' : List ℕ) (E : Relisted H n st l r st' l') where
       answer : r ≡ listable H n 67 (length l)
@@ -78,14 +77,12 @@ module _ (a b : List Float) (H : List ℕ) (c p : List Float) (l : List ℕ) whe
 
         linked : Linked a b H c p l
         linked =
-            let (x, s) = and_t (leb (length a) 32) _ z in
-            let (y, t) = and_t (leb (length b) 32) _ s in
-            let (u, v) = and_t (eqb (length c) (length H)) _ t in
+            let (u, v) = and_t (eqb (length c) (length H)) _ (and_t (masses.few (length a) (length b)) _ z).1 in
             let (f, g) = and_t (Refusal.sizes_fit n (length H) (length H) (length H) (length l)) _ can in
             let (i, j) = and_t (ltb n 67) _ g in
             record {
-              few_a = leb-true (length a) 32 x;
-              few_b = leb-true (length b) 32 y;
+              few_a = few.0;
+              few_b = few.1;
               index = listable_indexable H n st l f j;
               caps_size = eqb-true (length c) (length H) u;
               prices_size = eqb-true (length p) (length H) v;

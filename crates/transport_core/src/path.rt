@@ -1,22 +1,16 @@
 // The path to the sink, walked back along the links of the search.
-ghost use Rattle.flow_check.specs.Lent.{net_of};
+ghost use Rattle.flow_check.specs.Lent.{net_on};
 ghost use Rattle.transport_theory.proofs.WalkRows.{Walkable, Walked};
 ghost use Rattle.std.specs.Prelude.{◌≡◌, ◌+◌, length};
 
-use flow_check::{Ends, Network};
-
-// What stays in all rounds: the network, source and sink.
-#[derive(Clone, Copy)]
-pub(crate) struct Course<'a> {
-    pub(crate) net: Network<'a>,
-    pub(crate) ends: Ends,
-}
+use flow_check::Course;
+use flow_theory::reverse;
 
 // Walks back from the sink to the source, along a path with room for one link more than there are nodes: how many links that takes; none if it does not come to the source.
 pub(crate) fn walk(course: &Course, via: &[usize], path: &mut [usize]) -> Option<usize>
-    requires walkable { Walkable (net_of course.now.net course.now.ends) via.now path.old }
+    requires walkable { Walkable (net_on course.now) via.now path.old }
     requires room { length path.old ≡ course.now.net.nodes + 1 }
-    ensures { Walked (net_of course.now.net course.now.ends) via.now path.new result }
+    ensures { Walked (net_on course.now) via.now path.new result }
 {
     let mut v = course.ends.sink;
     for (length, link) in path.iter_mut().enumerate() {
@@ -25,11 +19,7 @@ pub(crate) fn walk(course: &Course, via: &[usize], path: &mut [usize]) -> Option
         }
         let e = via[v];
         *link = e;
-        v = course.net.heads[e ^ 1] as usize;
+        v = course.net.heads[reverse(e)] as usize;
     }
-    if v == course.ends.source {
-        Some(path.len())
-    } else {
-        None
-    }
+    (v == course.ends.source).then_some(path.len())
 }

@@ -4,9 +4,8 @@ ghost use Rattle.transport_theory.proofs.RoundRows.{roads_of, Sailable, Shipped}
 ghost use Rattle.transport_theory.proofs.TransportRows.{shipped_rows};
 ghost use Rattle.transport_theory.proofs.Sending.{sizes_fit, sent, send};
 
-use crate::path::Course;
 use crate::run;
-use flow_check::{Ends, Network, check};
+use flow_check::{Course, Ends, Network, check};
 use numbers::{EPS, ONE, Real, larger, smaller};
 use transport_theory::Masses;
 
@@ -18,6 +17,7 @@ pub struct Links<'a> {
 }
 
 // The rounds on links that are listed by node; gives what remains.
+// Stays: `unwrap_or(0)`, where `few` says that there are places. Handed down they would be a parameter, a `requires` that they are those of the masses, and an answer in ship_rows that shows it.
 fn ship_listed(of: &Masses, net: &Network, caps: &mut [f64]) -> f64
     requires few { (length of.now.left.now ≤ 32) × (length of.now.right.now ≤ 32) }
     requires nodes { net.now.nodes ≡ length of.now.left.now + length of.now.right.now + 2 }
@@ -49,10 +49,7 @@ fn sizes_fit(of: &Masses, links: &Links, caps: &[f64]) -> bool
     ensures { result ≡ sizes_fit (length of.now.left.now) (length of.now.right.now) (length links.now.heads.now) (length caps.now) (length links.now.prices.now) }
 {
     let count = links.heads.len();
-    of.left.len() <= 32
-        && of.right.len() <= 32
-        && caps.len() == count
-        && links.prices.len() == count
+    of.few() && caps.len() == count && links.prices.len() == count
 }
 
 // The rounds of `transport` between two lists of masses on links in rows; gives what remains. The capacities are left as the rounds leave them, and the list has the links by node. Where the links do not fit, both stay as they were.

@@ -1,6 +1,5 @@
 // Bellman-Ford: how far each node is from the source, over links with capacity left, and the link that leads to it.
-ghost use Rattle.std.specs.Prelude.{◌≡◌, length};
-ghost use Rattle.transport_theory.proofs.SearchRows.{Relaxable, Relaxed, Passable, Passed, Searched};
+ghost use Rattle.transport_core.specs.Search.{LinksRelaxable, LinksRelaxed, TreePassable, TreePassed, TreeSearched, same_size};
 
 use flow_check::Network;
 use numbers::{EPS, MARGIN};
@@ -22,9 +21,9 @@ fn relax(
     tree: &mut Tree,
     before: bool,
 ) -> bool
-    requires { Relaxable net.now.heads.now links.now caps.now net.now.costs.now u tree.old.dist.now tree.old.via.now }
-    ensures relaxed { Relaxed net.now.heads.now links.now caps.now net.now.costs.now u tree.old.dist.now tree.old.via.now before tree.new.dist.now tree.new.via.now result }
-    ensures sizes { (length tree.new.dist.now ≡ length tree.old.dist.now) × (length tree.new.via.now ≡ length tree.old.via.now) }
+    requires { LinksRelaxable net.now links.now caps.now u tree.old }
+    ensures relaxed { LinksRelaxed net.now links.now caps.now u tree.old before tree.new result }
+    ensures sizes { same_size tree.old tree.new }
 {
     let mut changed = before;
     for link in links {
@@ -44,9 +43,9 @@ fn relax(
 
 // All nodes in order, those that are reached; gives whether a distance has changed.
 fn pass(net: &Network, caps: &[f64], tree: &mut Tree) -> bool
-    requires { Passable net.now.heads.now net.now.list.now net.now.starts.now caps.now net.now.costs.now tree.old.dist.now tree.old.via.now }
-    ensures passed { Passed net.now.heads.now net.now.list.now net.now.starts.now caps.now net.now.costs.now tree.old.dist.now tree.old.via.now tree.new.dist.now tree.new.via.now result }
-    ensures sizes { (length tree.new.dist.now ≡ length tree.old.dist.now) × (length tree.new.via.now ≡ length tree.old.via.now) }
+    requires { TreePassable net.now caps.now tree.old }
+    ensures passed { TreePassed net.now caps.now tree.old tree.new result }
+    ensures sizes { same_size tree.old tree.new }
 {
     let mut changed = false;
     for u in 0..tree.dist.len() {
@@ -62,8 +61,8 @@ fn pass(net: &Network, caps: &[f64], tree: &mut Tree) -> bool
 
 // At most as many passes as there are nodes, up to one that changes nothing.
 pub(crate) fn search(net: &Network, caps: &[f64], tree: &mut Tree)
-    requires { Passable net.now.heads.now net.now.list.now net.now.starts.now caps.now net.now.costs.now tree.old.dist.now tree.old.via.now }
-    ensures { Searched net.now.heads.now net.now.list.now net.now.starts.now caps.now net.now.costs.now tree.old.dist.now tree.old.via.now tree.new.dist.now tree.new.via.now }
+    requires { TreePassable net.now caps.now tree.old }
+    ensures { TreeSearched net.now caps.now tree.old tree.new }
 {
     for _ in 0..tree.dist.len() {
         if !pass(net, caps, tree) {

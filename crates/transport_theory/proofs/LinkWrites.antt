@@ -1,5 +1,5 @@
 -- Links written one after the other: each stands at its two places of the three rows.
-use mathlib.Core.Path.{◌≡◌, refl, sym, ap, subst, ◌∙◌}
+use mathlib.Core.Path.{◌≡◌, refl, sym, ap, ◌∙◌}
 use Prim.Native.Nat.{ℕ, zero, suc, ◌+◌, ◌-◌, ◌*◌, ◌/◌, ◌%◌, ◌≤◌, ◌<◌}
 use mathlib.Core.Bool.{false}
 use mathlib.Core.List.{List, [], ◌∷◌, ◌++◌}
@@ -124,9 +124,6 @@ module _ {a b costs : List Float} {h₀ : List ℕ} {c₀ p₀ : List Float} (S 
   pub count_few : length ls ≤ 1088
   count_few = let l = count_is in let f = S.few_a in let g = S.few_b in let m = cells_few (length a) (length b) f g in omega arith
 
-  pub wrote_none : Wrote ls h₀ c₀ p₀ 0 h₀ c₀ p₀
-  wrote_none = record { upto = omega arith; heads_is = refl; caps_is = refl; prices_is = refl }
-
   module _ {k : ℕ} {h : List ℕ} {c p : List Float} (W : Wrote ls h₀ c₀ p₀ k h c p) where
     pub heads_size : length h ≡ length h₀
     heads_size = ap length W.heads_is ∙ over_length (heads ls) h₀ (k + k) (let l = heads_length ls in let u = W.upto in omega arith) (let r = S.heads_room in let u = W.upto in omega arith)
@@ -165,32 +162,22 @@ module _ {a b costs : List Float} {h₀ : List ℕ} {c₀ p₀ : List Float} (S 
 -- ---- one link
 
 module _ {a b costs : List Float} {h : List ℕ} {c p : List Float} (S : Writable a b costs h c p) (k : ℕ) (more : k < length (links a b costs)) where
-  abbrev l : Link
-  l = link_at (links a b costs) k
-
   pub space : Space h c p (k + k)
   space =
       let n = count_few S in let rh = S.heads_room in let rc = S.caps_room in let rp = S.prices_room in
       record { heads_room = omega arith; caps_room = omega arith; prices_room = omega arith; small = omega arith }
 
-  pub cell_some : length a + length b ≤ k → (0 < length b) × (k - (length a + length b) < length a * length b) × (k - (length a + length b) < length costs)
+-- a link between two masses is that of a cell
+module _ (a b costs : List Float) (enough : length a * length b ≤ length costs) (k : ℕ) (more : k < length (links a b costs)) (h : length a + length b ≤ k) where
+  pub cell_few : k - (length a + length b) < length a * length b
+  cell_few = let l = links_length a b costs enough in omega arith
+
+  pub cell_some : (0 < length b) × (k - (length a + length b) < length costs)
       × ((k - (length a + length b)) / length b < length a) × ((k - (length a + length b)) % length b < length b)
-  cell_some h =
-      let n = count_is S in let e = S.enough in
-      let f : k - (length a + length b) < length a * length b = omega arith in
+  cell_some =
+      let f = cell_few in
       let z = columns_some (length a) (length b) (k - (length a + length b)) f in
-      (z, f, omega arith, (div-lt_iff_lt-mul z).1 f, mod-lt (k - (length a + length b)) z)
+      (z, omega arith, (div-lt_iff_lt-mul z).1 f, mod-lt (k - (length a + length b)) z)
 
-  module _ {e : ℕ} (q : e ≡ k + k) {h' : List ℕ} {c' p' : List Float} where
-    pub put_supply : k < length a → Put (record { from = length a + length b; to = k; cap = get_or a k nan; cost = nought }) h c p e h' c' p' → Put l h c p (k + k) h' c' p'
-    put_supply i P = rw (links_supply a b costs k i) (subst (λ (x : ℕ). Put (record { from = length a + length b; to = k; cap = get_or a k nan; cost = nought }) h c p x h' c' p') q P)
-
-    pub put_demand : length a ≤ k → k < length a + length b → Put (record { from = k; to = length a + length b + 1; cap = get_or b (k - length a) nan; cost = nought }) h c p e h' c' p' → Put l h c p (k + k) h' c' p'
-    put_demand i j P = rw (links_demand a b costs k i j) (subst (λ (x : ℕ). Put (record { from = k; to = length a + length b + 1; cap = get_or b (k - length a) nan; cost = nought }) h c p x h' c' p') q P)
-
-    pub put_crossing : {y : Float} → y ≡ inf false → length a + length b ≤ k
-        → Put (record { from = (k - (length a + length b)) / length b; to = length a + (k - (length a + length b)) % length b; cap = y; cost = get_or costs (k - (length a + length b)) nan }) h c p e h' c' p' → Put l h c p (k + k) h' c' p'
-    put_crossing {y} z i P =
-        let n = count_is S in
-        rw (links_crossing a b costs k i (omega arith) S.enough, ← z)
-        (subst (λ (x : ℕ). Put (record { from = (k - (length a + length b)) / length b; to = length a + (k - (length a + length b)) % length b; cap = y; cost = get_or costs (k - (length a + length b)) nan }) h c p x h' c' p') q P)
+  pub cell_link : {y : Float} → y ≡ inf false → record { from = (k - (length a + length b)) / length b; to = length a + (k - (length a + length b)) % length b; cap = y; cost = get_or costs (k - (length a + length b)) nan } ≡ link_at (links a b costs) k
+  cell_link z = let f = cell_few in rw (links_crossing a b costs k h (omega arith) enough, z) refl

@@ -5,15 +5,12 @@ use mathlib.Core.Bool.{Bool, true, false}
 use mathlib.Core.List.{List, [], ◌∷◌, map}
 use native.Mathlib.Omega.{arith}
 use native.Mathlib.Numerals.{add-one}
-use native.Mathlib.Nat.{div-lt_iff_lt-mul, mod-lt}
-use lib.Bits.{bit_xor}
 use lib.ListN.{length, get_or, set, take, drop, length-map, get_or-map}
-use lib.Seq.{slice, slice_empty, slice-cons}
+use lib.Seq.{slice, slice_empty, slice-cons, length-take-le, get_or-take}
 use lib.Ieee.{Float, nan, binary64, lt, add, mul}
 use Rattle.numbers.specs.Real.{nought, eps, sum_from, sum}
 use Rattle.numbers.proofs.Over.{over, over_next, over_done, over_length}
-use Rattle.flow_theory.specs.Network.{left}
-use Rattle.flow_theory.proofs.Links.{rev_xor}
+use Rattle.flow_theory.specs.Network.{left, rev}
 use Rattle.transport_theory.specs.Transport.{Cell, keep, moved, plan, bills}
 use Rattle.transport_theory.proofs.Networks.{columns_some, cells_few}
 use Rattle.transport_theory.proofs.PlanRows.{Plannable, Planned}
@@ -115,83 +112,83 @@ module _ {c : List Float} {first m n : ℕ} {costs : List Float} {rows₀ column
     pub masses_size : length masses ≡ length masses₀
     masses_size = ap length I.masses_is ∙ over_length (map (λ (x : Cell). x.mass) p) masses₀ t (rw (length-map p (λ (x : Cell). x.mass)) I.cells_in) (let a = most in let b = S.masses_room in omega arith)
 
+    -- the loop goes over the costs of all cells
+    pub turn : k < length (take (m * n) costs) → k < m * n
+    turn h = let l = length-take-le (m * n) costs S.costs_in in omega arith
+
+    pub end : length (take (m * n) costs) ≤ k → m * n ≤ k
+    end h = let l = length-take-le (m * n) costs S.costs_in in omega arith
+
     module _ (more : k < m * n) where
       pub some : 0 < n
       some = columns_some m n k more
 
-      pub row_low : k / n < m
-      row_low = (div-lt_iff_lt-mul some).1 more
+      -- of the link whose capacity is the mass of cell k
+      module _ {e : ℕ} (back : e ≡ rev (first + 2 * k)) where
+        pub place_in : e < length c
+        place_in = rw back (S.caps_in k more)
 
-      pub column_low : k % n < n
-      column_low = mod-lt k some
+        abbrev x : Float
+        x = get_or c e nan
 
-      pub place_in : bit_xor (first + 2 * k) 1 < length c
-      place_in = rw (rev_xor (first + 2 * k)) (S.caps_in k more)
+        x_is : x ≡ moved first c k
+        unfolding moved left
+        x_is = ap (λ (i : ℕ). get_or c i nan) back
 
-      abbrev x : Float
-      x = get_or c (bit_xor (first + 2 * k) 1) nan
+        abbrev cell : Cell
+        cell = record { row = k / n; column = k % n; mass = moved first c k }
 
-      x_is : x ≡ moved first c k
-      unfolding moved left
-      x_is = ap (λ (i : ℕ). get_or c i nan) (rev_xor (first + 2 * k))
-
-      abbrev cell : Cell
-      cell = record { row = k / n; column = k % n; mass = moved first c k }
-
-      -- a cell that is not above 1e-12 is left out
-      pub plan_skips : lt eps x ≡ false → {total' : Float} {t' : ℕ} {rows' columns' : List ℕ} {masses' : List Float} → rows' ≡ rows → columns' ≡ columns → masses' ≡ masses → total' ≡ total → t' ≡ t
-          → Planning c first n count costs rows₀ columns₀ masses₀ total' t' (k + 1) rows' columns' masses'
-      unfolding keep
-      plan_skips f a b d e g =
-          let z = ap (lt eps) (sym x_is) ∙ f in
-          rw (a, b, d, e, g) (record {
-            upto = omega arith;
-            cells_in = I.cells_in;
-            plan_is = I.plan_is ∙ plan_step n first c count k false more z;
-            total_is = ap (sum_from total) (sym (bills_step first c costs count k false more S.costs_in z)) ∙ I.total_is;
-            rows_is = I.rows_is;
-            columns_is = I.columns_is;
-            masses_is = I.masses_is;
-          })
-
-      module _ (f : lt eps x ≡ true) where
-        here : (t < length p) × (get_or p t blank ≡ cell) × (drop (t + 1) p ≡ plan n first c (count - (k + 1)) (k + 1))
+        -- a cell that is not above 1e-12 is left out
+        pub plan_skips : lt eps x ≡ false → {total' : Float} {t' : ℕ} {rows' columns' : List ℕ} {masses' : List Float} → rows' ≡ rows → columns' ≡ columns → masses' ≡ masses → total' ≡ total → t' ≡ t
+            → Planning c first n count costs rows₀ columns₀ masses₀ total' t' (k + 1) rows' columns' masses'
         unfolding keep
-        here = rest_some p t cell (plan n first c (count - (k + 1)) (k + 1)) blank (I.plan_is ∙ plan_step n first c count k true more (ap (lt eps) (sym x_is) ∙ f))
-
-        pub rows_in_lem : t < length rows
-        rows_in_lem = let h = here.0 in let b = plan_length n first c count 0 in let r = S.rows_room in let s = rows_size in omega arith
-
-        pub columns_in : t < length columns
-        columns_in = let h = here.0 in let b = plan_length n first c count 0 in let r = S.columns_room in let s = columns_size in omega arith
-
-        pub masses_in : t < length masses
-        masses_in = let h = here.0 in let b = plan_length n first c count 0 in let r = S.masses_room in let s = masses_size in omega arith
-
-        pub t_few : t < 1024
-        t_few = let h = here.0 in let b = plan_length n first c count 0 in let l = count_few in omega arith
-
-        field_at : {A : Type 0} (g : Cell → A) → g cell ≡ get_or (map g p) t (g blank)
-        field_at g = sym (get_or-map g p t blank ∙ ap g here.1)
-
-        pub plan_keeps : {total' : Float} {t' : ℕ} {rows' columns' : List ℕ} {masses' : List Float} → rows' ≡ set rows t (k / n) → columns' ≡ set columns t (k % n) → masses' ≡ set masses t x
-            → total' ≡ add binary64 total (mul binary64 x (get_or costs k nan)) → t' ≡ t + 1 → Planning c first n count costs rows₀ columns₀ masses₀ total' t' (k + 1) rows' columns' masses'
-        unfolding keep sum_from
-        plan_keeps a b d e g =
+        plan_skips f a b d y g =
             let z = ap (lt eps) (sym x_is) ∙ f in
-            let h = here.0 in
-            let l = plan_length n first c count 0 in
-            let r = S.rows_room in let s = S.columns_room in let u = S.masses_room in
-            let mr = length-map p (λ (y : Cell). y.row) in let mc = length-map p (λ (y : Cell). y.column) in let mm = length-map p (λ (y : Cell). y.mass) in
-            rw (a, b, d, e, g, x_is) (record {
+            rw (a, b, d, y, g) (record {
               upto = omega arith;
-              cells_in = omega arith;
-              plan_is = here.2;
-              total_is = ap (sum_from total) (sym (bills_step first c costs count k true more S.costs_in z)) ∙ I.total_is;
-              rows_is = over_next (map (λ (y : Cell). y.row) p) rows₀ rows t 0 (k / n) I.rows_is (field_at (λ (y : Cell). y.row)) (omega arith) (omega arith);
-              columns_is = over_next (map (λ (y : Cell). y.column) p) columns₀ columns t 0 (k % n) I.columns_is (field_at (λ (y : Cell). y.column)) (omega arith) (omega arith);
-              masses_is = over_next (map (λ (y : Cell). y.mass) p) masses₀ masses t nan (moved first c k) I.masses_is (field_at (λ (y : Cell). y.mass)) (omega arith) (omega arith);
+              cells_in = I.cells_in;
+              plan_is = I.plan_is ∙ plan_step n first c count k false more z;
+              total_is = ap (sum_from total) (sym (bills_step first c costs count k false more S.costs_in z)) ∙ I.total_is;
+              rows_is = I.rows_is;
+              columns_is = I.columns_is;
+              masses_is = I.masses_is;
             })
+
+        module _ (f : lt eps x ≡ true) where
+          here : (t < length p) × (get_or p t blank ≡ cell) × (drop (t + 1) p ≡ plan n first c (count - (k + 1)) (k + 1))
+          unfolding keep
+          here = rest_some p t cell (plan n first c (count - (k + 1)) (k + 1)) blank (I.plan_is ∙ plan_step n first c count k true more (ap (lt eps) (sym x_is) ∙ f))
+
+          pub rows_in_lem : t < length rows
+          rows_in_lem = let h = here.0 in let b = plan_length n first c count 0 in let r = S.rows_room in let s = rows_size in omega arith
+
+          pub columns_in : t < length columns
+          columns_in = let h = here.0 in let b = plan_length n first c count 0 in let r = S.columns_room in let s = columns_size in omega arith
+
+          pub masses_in : t < length masses
+          masses_in = let h = here.0 in let b = plan_length n first c count 0 in let r = S.masses_room in let s = masses_size in omega arith
+
+          field_at : {A : Type 0} (g : Cell → A) → g cell ≡ get_or (map g p) t (g blank)
+          field_at g = sym (get_or-map g p t blank ∙ ap g here.1)
+
+          pub plan_keeps : {total' : Float} {t' : ℕ} {rows' columns' : List ℕ} {masses' : List Float} → rows' ≡ set rows t (k / n) → columns' ≡ set columns t (k % n) → masses' ≡ set masses t x
+              → total' ≡ add binary64 total (mul binary64 x (get_or (take count costs) k nan)) → t' ≡ t + 1 → Planning c first n count costs rows₀ columns₀ masses₀ total' t' (k + 1) rows' columns' masses'
+          unfolding keep sum_from
+          plan_keeps a b d y g =
+              let z = ap (lt eps) (sym x_is) ∙ f in
+              let h = here.0 in
+              let l = plan_length n first c count 0 in
+              let r = S.rows_room in let s = S.columns_room in let u = S.masses_room in
+              let mr = length-map p (λ (y : Cell). y.row) in let mc = length-map p (λ (y : Cell). y.column) in let mm = length-map p (λ (y : Cell). y.mass) in
+              rw (a, b, d, y, g, x_is, get_or-take count costs k nan more) (record {
+                upto = omega arith;
+                cells_in = omega arith;
+                plan_is = here.2;
+                total_is = ap (sum_from total) (sym (bills_step first c costs count k true more S.costs_in z)) ∙ I.total_is;
+                rows_is = over_next (map (λ (y : Cell). y.row) p) rows₀ rows t 0 (k / n) I.rows_is (field_at (λ (y : Cell). y.row)) (omega arith) (omega arith);
+                columns_is = over_next (map (λ (y : Cell). y.column) p) columns₀ columns t 0 (k % n) I.columns_is (field_at (λ (y : Cell). y.column)) (omega arith) (omega arith);
+                masses_is = over_next (map (λ (y : Cell). y.mass) p) masses₀ masses t nan (moved first c k) I.masses_is (field_at (λ (y : Cell). y.mass)) (omega arith) (omega arith);
+              })
 
     pub plan_ends : m * n ≤ k → Planned p (sum (bills first c (take count costs) 0)) rows₀ columns₀ masses₀ total t rows columns masses
     unfolding plan bills sum_from

@@ -5,6 +5,7 @@ use mathlib.Core.Bool.{false}
 use Rattle.std.specs.Prelude.{Option, Some, None}
 use Rattle.flow_check.specs.declared.Network.{Network}
 use Rattle.flow_check.specs.declared.Ends.{Ends}
+use Rattle.flow_check.specs.declared.Course.{Course}
 use mathlib.Core.List.{List}
 use lib.ListN.{length, replicate}
 use lib.Ieee.{Float, inf}
@@ -25,6 +26,9 @@ row_roads H p n s t = record { net = network H n s t; cost = p }
 abbrev pub roads_of : Network → Ends → Roads
 roads_of N E = row_roads N.heads.now N.costs.now N.nodes E.source E.sink
 
+abbrev pub roads_on : Course → Roads
+roads_on K = roads_of K.net K.ends
+
 abbrev pub shipment : List Float → Float → ℕ → Shipment
 shipment c x k = record { cap = c; remaining = x; rounds = k }
 
@@ -36,6 +40,10 @@ pub record Sailable (R : Roads) (starts list : List ℕ) (c : List Float) : Type
   pub caps_size : length c ≡ links R.net
   pub costs_size : length R.cost ≡ links R.net
   pub small : links R.net ≤ 2176
+
+-- that of a run
+abbrev pub CourseSailable : Course → List Float → Type 0
+CourseSailable K c = Sailable (roads_on K) K.net.starts.now K.net.list.now c
 
 -- a round may begin: no node is reached, and no link leads anywhere
 pub record RoundReady (R : Roads) (starts list : List ℕ) (c d : List Float) (w : List ℕ) : Type 0 where

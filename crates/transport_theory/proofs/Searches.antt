@@ -47,9 +47,6 @@ pub record Relaxing (H out : List ℕ) (c p : List Float) (u : ℕ) (d₀ : List
   pub same : (R : Roads) → R.net.heads ≡ H → R.cost ≡ p → relax_all R c u (drop j out) (tree d w ch) ≡ relax_all R c u out (tree d₀ w₀ ch₀)
 
 module _ {H out : List ℕ} {c p : List Float} {u : ℕ} {d₀ : List Float} {w₀ : List ℕ} {ch₀ : Bool} (S : Relaxable H out c p u d₀ w₀) where
-  pub relax_starts : Relaxing H out c p u d₀ w₀ ch₀ d₀ w₀ ch₀ 0
-  relax_starts = record { ends = omega arith; dist_length = refl; via_length = refl; same = λ R x y. refl }
-
   module _ {d : List Float} {w : List ℕ} {ch : Bool} {j : ℕ} (I : Relaxing H out c p u d₀ w₀ ch₀ d w ch j) where
     module _ (more : j < length out) where
       abbrev e : ℕ
@@ -60,21 +57,6 @@ module _ {H out : List ℕ} {c p : List Float} {u : ℕ} {d₀ : List Float} {w�
 
       pub e_in : e < length H
       e_in = S.links_in j more
-
-      pub e_caps : e < length c
-      e_caps = rw S.caps_size e_in
-
-      pub e_costs : e < length p
-      e_costs = rw S.costs_size e_in
-
-      pub v_dist : v < length d
-      v_dist = rw I.dist_length (S.heads_in e e_in)
-
-      pub v_via : v < length w
-      v_via = rw (I.via_length, S.via_size) (S.heads_in e e_in)
-
-      pub u_dist : u < length d
-      u_dist = rw I.dist_length S.here
 
       -- the tree after this link
       turned : (s : Bool) → (residual c e && nearer p d u e v) ≡ s → (d' : List Float) (w' : List ℕ) (ch' : Bool)
@@ -236,20 +218,7 @@ search_step R c n k d w f t b h e g =
     ∙ ap (λ (s : Bool). elim s as (λ z. Tree) [ true ↦ search R c (n - (k + 1)) t | false ↦ t ]) g
 
 module _ {H list starts : List ℕ} {c p d₀ : List Float} {w₀ : List ℕ} (S : Passable H list starts c p d₀ w₀) where
-  pub search_starts : Searching H list starts c p d₀ w₀ d₀ w₀ 0
-  search_starts = record { ends = omega arith; dist_length = refl; via_length = refl; flag = false; same = λ R L n. ap (λ (k : ℕ). search R c k (tree d₀ w₀ false)) (let q : length d₀ - 0 ≡ nodes R.net = omega arith in q) }
-
   module _ {d : List Float} {w : List ℕ} {k : ℕ} (I : Searching H list starts c p d₀ w₀ d w k) where
-    pub passable : Passable H list starts c p d w
-    passable = record {
-      roads = S.roads;
-      laid = S.laid;
-      caps_size = S.caps_size;
-      costs_size = S.costs_size;
-      dist_size = I.dist_length ∙ S.dist_size;
-      via_size = I.via_length ∙ S.via_size ∙ sym I.dist_length;
-    }
-
     module _ (more : k < length d) {d' : List Float} {w' : List ℕ} {ch' : Bool} (l : length d' ≡ length d) (m : length w' ≡ length w) (P : Passed H list starts c p d w d' w' ch') where
       after : (b : Bool) → ch' ≡ b → (R : Roads) → InRoads R H list starts p → length d₀ ≡ nodes R.net
           → elim b as (λ z. Tree) [ true ↦ search R c (length d₀ - (k + 1)) (tree d' w' ch') | false ↦ tree d' w' ch' ] ≡ search R c (nodes R.net) (tree d₀ w₀ false)

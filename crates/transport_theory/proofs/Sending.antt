@@ -2,7 +2,7 @@
 use Prim.Native.Nat.{ℕ, ◌+◌}
 use mathlib.Core.Bool.{Bool, true, false, ◌&&◌}
 use mathlib.Core.List.{List}
-use lib.Dec.{leb, eqb, ltb}
+use lib.Dec.{eqb, ltb}
 use lib.ListN.{length}
 use lib.Ieee.{Float}
 use Rattle.std.specs.Prelude.{Option, Some, None}
@@ -11,11 +11,12 @@ use Rattle.numbers.specs.Choice.{smaller}
 use Rattle.numbers.specs.Lists.{over, all}
 use Rattle.flow_theory.specs.Rows.{network, list_of}
 use Rattle.flow_check.specs.Refusal
+use Rattle.transport_theory.specs.Lent.{few}
 use Rattle.transport_theory.specs.Transport.{Shipment, rounds, round_cap, crumbs}
 
 -- at most 32 masses on a side, and a capacity and a cost for each link
 abbrev pub sizes_fit : ℕ → ℕ → ℕ → ℕ → ℕ → Bool
-sizes_fit m n heads caps prices = leb m 32 && (leb n 32 && (eqb caps heads && eqb prices heads))
+sizes_fit m n heads caps prices = few m n && (eqb caps heads && eqb prices heads)
 
 -- the links can be listed by node: few enough, each between two of n nodes, and room for the lists and their starts
 abbrev pub listable : List ℕ → ℕ → ℕ → ℕ → Bool

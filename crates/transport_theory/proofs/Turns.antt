@@ -79,10 +79,6 @@ module _ {R : Roads} {starts list : List ℕ} {c d : List Float} {w : List ℕ} 
   d₁_size : length d₁ ≡ nodes N
   d₁_size = length-set d N.source nought ∙ ap length P.dist_is ∙ length-replicate (nodes N) (inf false)
 
-  -- a link and a distance for each node
-  pub round_sizes : length w ≡ length d
-  round_sizes = ap length P.via_is ∙ length-replicate (nodes N) unset ∙ sym (ap length P.dist_is ∙ length-replicate (nodes N) (inf false))
-
   pub source_in : N.source < length d
   source_in = rw (P.dist_is, length-replicate (nodes N) (inf false)) P.base.good.source_in
 
@@ -192,9 +188,6 @@ rounds_step R much most k s b h e =
     ∙ ap (λ (z : Bool). elim z as (λ z. Shipment) [ false ↦ s | true ↦ elim (turn R s) as (λ z. Shipment) [ more r ↦ rounds R much (most - (k + 1)) r | done r ↦ r ] ]) e
 
 module _ {R : Roads} {much : Float} {most : ℕ} {c₀ : List Float} {x₀ : Float} where
-  pub ship_starts : Shipping R much most c₀ x₀ c₀ x₀ 0
-  ship_starts = record { upto = omega arith; size = refl; same = ap (λ (j : ℕ). rounds R much j (shipment c₀ x₀ 0)) (let q : most - 0 ≡ most = omega arith in q) }
-
   module _ {starts list : List ℕ} (B : Sailable R starts list c₀) where
     pub ship_ready : {c : List Float} {x : Float} {k : ℕ} → Shipping R much most c₀ x₀ c x k → Sailable R starts list c
     ship_ready I = record { good = B.good; laid = B.laid; sink_in = B.sink_in; caps_size = I.size ∙ B.caps_size; costs_size = B.costs_size; small = B.small }

@@ -5,13 +5,11 @@ use Prim.Native.Nat.{ℕ, suc, ◌+◌, ◌-◌, ◌≤◌, ◌<◌}
 use mathlib.Core.List.{List, [], ◌∷◌, ◌++◌, append-nil}
 use native.Mathlib.Omega.{arith}
 use native.Mathlib.Numerals.{add-one}
-use lib.Bits.{bit_xor}
 use lib.ListN.{length, get_or, set, take, length-set}
 use lib.Seq.{take-suc-set}
 use borrow.Author.Tests.{eq-eqb, ne_eqb}
-use Rattle.flow_theory.specs.Network.{Net, nodes, head, tail}
+use Rattle.flow_theory.specs.Network.{Net, nodes, head, tail, rev}
 use Rattle.flow_theory.specs.Rows.{network}
-use Rattle.flow_theory.proofs.Links.{rev_xor}
 use Rattle.flow_theory.proofs.Outs.{network_nodes}
 use Rattle.std.specs.Prelude.{Some, None}
 use Rattle.transport_theory.specs.Shortest.{route, ends}
@@ -56,19 +54,19 @@ module _ (H : List ℕ) (k s t : ℕ) {w p₀ : List ℕ} (W : Walkable (network
       pub e_in : e < length H
       e_in = step.link_in
 
-      pub back_in : bit_xor e 1 < length H
-      back_in = rw (rev_xor e) step.rev_in
+      pub back_in : rev e < length H
+      back_in = step.rev_in
 
       module _ (more : n ≤ k) where
         pub path_room : n < length p
         path_room = let z = network_nodes H k in let a = I.size in let b = W.room in omega arith
 
-        pub walk_on : Walking N w p₀ (set p n e) (get_or H (bit_xor e 1) 0) (n + 1)
+        pub walk_on : Walking N w p₀ (set p n e) (get_or H (rev e) 0) (n + 1)
         unfolding head
         walk_on =
             let z = network_nodes H k in
             let q : suc (nodes N) - n ≡ suc (suc (nodes N) - (n + 1)) = omega arith in
-            rw (rev_xor e) (record {
+            record {
               upto = omega arith;
               here = step.node_in;
               reached = step.reached;
@@ -79,7 +77,7 @@ module _ (H : List ℕ) (k s t : ℕ) {w p₀ : List ℕ} (W : Walkable (network
                   ∙ ap (λ (l : List ℕ). take n p ++ l) (sym (ap (λ (j : ℕ). route N w j v) q ∙ route_step N w (suc (nodes N) - (n + 1)) v away))
                   ∙ I.route_is;
               ends_is = sym (ap (λ (j : ℕ). ends N w j v) q ∙ ends_step N w (suc (nodes N) - (n + 1)) v away) ∙ I.ends_is;
-            })
+            }
           where
             assoc : (xs : List ℕ) (x : ℕ) (ys : List ℕ) → (xs ++ (x ∷ [])) ++ ys ≡ xs ++ (x ∷ ys)
             assoc [] x ys = refl

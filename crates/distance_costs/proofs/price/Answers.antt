@@ -1,16 +1,21 @@
 -- By the check of the counts.
 use mathlib.Core.Bool.{not}
-use mathlib.Core.Path.{ap, ◌∙◌}
-use lib.ListN.{length}
-use Rattle.distance_words.proofs.Costs.{costs}
-use Rattle.distance_costs.proofs.Pricing.{counted_is, counts_known, uncounted, counting}
+use mathlib.Core.Path.{sym, ap}
+use lib.Seq.{length-take-le}
+use Rattle.distance_costs.proofs.Pricing.{counts_known, uncounted, counting}
 use Rattle.distance_costs.proofs.price.Goals as goal
 
-pub returns-then-not-long : goal.returns-then-not-long
-returns-then-not-long c = uncounted (length c.args.pairs.now.lefts.now) (length c.args.pairs.now.lefts.now) (length c.args.pairs.now.rights.now) (length c.args.cost.now) c.long.result (c.long.ensures ∙ counted_is _ _ _) (ap not c.if-not-long.true) (costs c.args.pairs.now.lefts.now c.args.pairs.now.rights.now c.args.left.now.observations.now c.args.right.now.observations.now c.args.gamma (length c.args.pairs.now.lefts.now)) c.args.cost.now
+pub returns-then-not-long-clause-priced : goal.returns-then-not-long-clause-priced
+returns-then-not-long-clause-priced c = uncounted c.args.pairs.now c.args.cost.now c.long.ensures c.args.left.now c.args.right.now c.args.gamma (ap not c.if-not-long.true)
+
+pub slice_bounds-price_each-end : goal.slice_bounds-price_each-end
+slice_bounds-price_each-end c = (counts_known c.args.pairs.now c.args.cost.now c.long.ensures (ap not c.if-not-long.false)).1
+
+pub slice_bounds-price_each-end-2 : goal.slice_bounds-price_each-end-2
+slice_bounds-price_each-end-2 c = sym (length-take-le _ c.args.cost.now (counts_known c.args.pairs.now c.args.cost.now c.long.ensures (ap not c.if-not-long.false)).1)
 
 pub price_each-requires : goal.price_each-requires
-price_each-requires c = counts_known (length c.args.pairs.now.lefts.now) (length c.args.pairs.now.lefts.now) (length c.args.pairs.now.rights.now) (length c.args.cost.now) c.long.result (c.long.ensures ∙ counted_is _ _ _) (ap not c.if-not-long.false)
+price_each-requires c = let (a, b) = counts_known c.args.pairs.now c.args.cost.now c.long.ensures (ap not c.if-not-long.false) in (a, length-take-le _ c.args.cost.now b)
 
-pub returns : goal.returns
-returns c = counting (length c.args.pairs.now.lefts.now) (length c.args.pairs.now.lefts.now) (length c.args.pairs.now.rights.now) (length c.args.cost.now) c.long.result (c.long.ensures ∙ counted_is _ _ _) (ap not c.if-not-long.false) _ (costs c.args.pairs.now.lefts.now c.args.pairs.now.rights.now c.args.left.now.observations.now c.args.right.now.observations.now c.args.gamma (length c.args.pairs.now.lefts.now)) c.args.cost.now c.price_each.ensures
+pub returns-clause-priced : goal.returns-clause-priced
+returns-clause-priced c = counting c.args.pairs.now c.args.cost.now c.long.ensures c.args.left.now c.args.right.now c.args.gamma (ap not c.if-not-long.false) _ c.price_each.ensures

@@ -7,4 +7,4 @@ use Rattle.distance_words.proofs.Costs.{costs}
 use Rattle.distance_costs.proofs.price_each.Given as goal
 
 abbrev pub invariant-loop-k : goal.invariant-loop-k
-invariant-loop-k l = (l.k ≤ (length l.pairs.lefts.now)) × (length l.cost ≡ length l.initial.cost) × (l.cost ≡ over (costs l.pairs.lefts.now l.pairs.rights.now l.left.observations.now l.right.observations.now l.gamma (length l.pairs.lefts.now)) l.k l.initial.cost)
+invariant-loop-k l = (l.k ≤ length l.initial.cost) × (length l.cost ≡ length l.initial.cost) × (l.cost ≡ over (costs l.pairs.lefts.now l.pairs.rights.now l.left.observations.now l.right.observations.now l.gamma (length l.pairs.lefts.now)) l.k l.initial.cost)

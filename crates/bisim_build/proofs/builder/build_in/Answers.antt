@@ -1,27 +1,65 @@
 -- The plan refuses, or the columns that it did not fill are written from the triples that it left.
-use Rattle.std.proofs.Common.{sym, ap, ◌∙◌}
+use Rattle.std.proofs.Common.{◌≡◌, rules, refl, sym, ap, ◌∙◌, ℕ, ◌≤◌, List, length, take, arith}
 use lib.Seq.{length-take-le}
+use Rattle.std.proofs.lemmas.List.{take-map}
+use Rattle.build_theory.specs.declared.keys.Triple.{Triple}
 use Rattle.bisim_core.specs.Data.{columns}
 use Rattle.build_theory.proofs.Plan.{err_is}
+use Rattle.bisim_edges.specs.Lent.{numbers}
+use Rattle.bisim_edges.proofs.Numbers.{numbers_length}
 use Rattle.bisim_build.specs.Build.{ends}
 use Rattle.bisim_build.proofs.Builds.{call_of, plan_refused, within, fillable, plan_passed}
 use Rattle.bisim_build.proofs.builder.build_in.Goals as goal
 
+-- work space for as many numbers as triples
+roomy : {given : ℕ} (T : List Triple) → (given ≤ 4096 → given ≤ length T) → given ≤ 4096 → given ≤ length (numbers T)
+roomy T f h = let r = f h in let l = numbers_length T in omega arith
+
+-- the first m of them
+cut : (m : ℕ) (T : List Triple) → numbers (take m T) ≡ take m (numbers T)
+cut m T = sym (take-map (λ (t : Triple). t.0) m T)
+
+cut_length : (m : ℕ) (T : List Triple) → length (take m T) ≡ length (take m (numbers T))
+cut_length m T = sym (numbers_length (take m T)) ∙ ap length (cut m T)
+
 pub returns-in_err-edges-clause-outcome : goal.returns-in_err-edges-clause-outcome
 returns-in_err-edges-clause-outcome c =
     let S = c.args.store.now in
-    ap (λ a. ends a (columns c.plan.new.label_values S.offsets.now S.edge_labels.now S.edge_targets.now c.plan.new.edge_weights)) (err_is c.from_residual.result _ c.from_residual.ensures.1)
-    ∙ plan_refused (call_of c.args.draft.now S c.args.triples.now) c.requires c.short-short.ensures _ c.in_err-edges.ensures
+    let d = ap (λ a. ends a (columns c.plan.new.lists.label_values.now S.offsets.now S.edge_labels.now S.edge_targets.now c.plan.new.lists.edge_weights.now)) (err_is c.from_residual.result _ c.from_residual.ensures.1)
+    ∙ plan_refused (call_of c.args.draft.now c.args.store.now (numbers c.args.triples.now)) (roomy c.args.triples.now c.requires) c.short-short.ensures _ c.in_err-edges.ensures.plan refl refl refl in
+    let same = c.plan.ensures.same_lists in
+    let l = sym same.0 in
+    let w = sym same.2 in
+    search rules
 
 pub slice_bounds-fill-end : goal.slice_bounds-fill-end
-slice_bounds-fill-end c = within (call_of c.args.draft.now c.args.store.now c.args.triples.now) c.requires c.short-short.ensures _ _ c.in_ok-edges.ensures
+slice_bounds-fill-end c =
+    let w = within (call_of c.args.draft.now c.args.store.now (numbers c.args.triples.now)) (roomy c.args.triples.now c.requires) c.short-short.ensures _ _ c.in_ok-edges.ensures.plan in
+    let l = numbers_length c.plan.new.lists.triples.now in
+    let same : c.triples-1.given.0 ≡ c.plan.new.lists.triples.now = (let s = c.plan.ensures.same_lists in search rules) in
+    let k = ap length same in
+    omega arith
 
 pub slice_bounds-fill-end-2 : goal.slice_bounds-fill-end-2
-slice_bounds-fill-end-2 c = sym (length-take-le c.in_ok-edges.edges c.plan.new.triples (within (call_of c.args.draft.now c.args.store.now c.args.triples.now) c.requires c.short-short.ensures _ _ c.in_ok-edges.ensures))
+slice_bounds-fill-end-2 c =
+    let w = within (call_of c.args.draft.now c.args.store.now (numbers c.args.triples.now)) (roomy c.args.triples.now c.requires) c.short-short.ensures _ _ c.in_ok-edges.ensures.plan in
+    let l = numbers_length c.plan.new.lists.triples.now in
+    let same : c.triples-1.given.0 ≡ c.plan.new.lists.triples.now = (let s = c.plan.ensures.same_lists in search rules) in
+    let k = ap length same in
+    sym (length-take-le c.in_ok-edges.edges c.triples-1.given.0 (omega arith))
 
 pub fill-requires : goal.fill-requires
-fill-requires c = fillable (call_of c.args.draft.now c.args.store.now c.args.triples.now) c.requires c.short-short.ensures _ _ c.in_ok-edges.ensures
+fill-requires c =
+    let m = c.in_ok-edges.edges in
+    let T = c.plan.new.lists.triples.now in
+    let same : c.triples-1.given.0 ≡ T = (let s = c.plan.ensures.same_lists in search rules) in
+    fillable (call_of c.args.draft.now c.args.store.now (numbers c.args.triples.now)) (roomy c.args.triples.now c.requires) c.short-short.ensures _ _ c.in_ok-edges.ensures.plan (ap (λ (t : List Triple). numbers (take m t)) same ∙ cut m T) (ap (λ (t : List Triple). length (take m t)) same ∙ cut_length m T) refl refl refl
 
 pub returns-clause-outcome : goal.returns-clause-outcome
 returns-clause-outcome c =
-    plan_passed (call_of c.args.draft.now c.args.store.now c.args.triples.now) c.requires c.short-short.ensures _ _ c.in_ok-edges.ensures c.fill.ensures.edges c.fill.ensures.offsets c.fill.ensures.labels c.fill.ensures.weights
+    let m = c.in_ok-edges.edges in
+    let T = c.plan.new.lists.triples.now in
+    let same : c.triples-1.given.0 ≡ T = (let s = c.plan.ensures.same_lists in search rules) in
+    let labels : c.store-2-1.given.0 ≡ c.plan.new.lists.label_values.now = (let s = c.plan.ensures.same_lists in search rules) in
+    let weights : c.store-1.given.0 ≡ c.plan.new.lists.edge_weights.now = (let s = c.plan.ensures.same_lists in search rules) in
+    plan_passed (call_of c.args.draft.now c.args.store.now (numbers c.args.triples.now)) (roomy c.args.triples.now c.requires) c.short-short.ensures _ _ c.in_ok-edges.ensures.plan (ap (λ (t : List Triple). numbers (take m t)) same ∙ cut m T) (ap (λ (t : List Triple). length (take m t)) same ∙ cut_length m T) refl refl refl c.fill.ensures.edges c.fill.ensures.offsets (c.fill.ensures.labels ∙ labels) (c.fill.ensures.weights ∙ weights)

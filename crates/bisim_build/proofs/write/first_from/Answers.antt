@@ -1,15 +1,17 @@
-use Rattle.std.proofs.Common.{rules, ◌≤◌, ◌<◌, ◌*◌, ◌/◌, length, arith}
-use Rattle.std.proofs.lemmas.Iterator.{YieldsList-from_slice, IsFirst-from_position}
+-- `find` over the triples from p on.
+use Rattle.std.proofs.Common.{rules, sym, subst, ◌≤◌, ◌<◌, ◌/◌, ℕ, length, get_or}
 use borrow.Author.Tests.{tests}
-use Rattle.bisim_build.proofs.Writes.{found_first, found_none}
+use Rattle.std.proofs.lemmas.Iterator.{first_from_Range}
+use Rattle.bisim_edges.specs.Lent.{numbers}
+use Rattle.bisim_edges.proofs.Numbers.{past_end, numbers_at}
+use Rattle.bisim_build.proofs.Writes.{first}
 use Rattle.bisim_build.proofs.write.first_from.Goals as goal
 
-pub returns-in-Some : goal.returns-in-Some
-returns-in-Some c =
-    found_first c.args.triples.now (length c.args.triples.now) c.args.p (c.args.s * 524288) c.requires (omega arith) _
-    (IsFirst-from_position _ _ _ (λ x. c.args.s * 524288 ≤ x) (λ x. x < c.args.s * 524288) c.in-Some.ensures.ran (YieldsList-from_slice _ cc) (λ x q k. let z : c.args.s ≤ x.now / 524288 = search (rules, tests) in omega arith) (λ x q k. let z : x.now / 524288 < c.args.s = search (rules, tests) in (search (rules, tests), omega arith)))
-
-pub returns-in-None : goal.returns-in-None
-returns-in-None c =
-    found_none c.args.triples.now (length c.args.triples.now) c.args.p (c.args.s * 524288) c.requires (omega arith)
-    (IsFirst-from_position _ _ _ (λ x. c.args.s * 524288 ≤ x) (λ x. x < c.args.s * 524288) c.in-None.ensures.ran (YieldsList-from_slice _ cc) (λ x q k. let z : c.args.s ≤ x.now / 524288 = search (rules, tests) in omega arith) (λ x q k. let z : x.now / 524288 < c.args.s = search (rules, tests) in (search (rules, tests), omega arith)))
+pub returns : goal.returns
+returns c =
+    let T = c.args.triples.now in
+    let s = c.args.s in
+    let found = first_from_Range _ _ _ c.find.result (λ k. s ≤ get_or (numbers T) k 0 / 524288) (λ k. get_or (numbers T) k 0 / 524288 < s) c.find.ensures.ran
+    (λ x q k. let z : s ≤ (get_or T x past_end).0 / 524288 = search (rules, tests) in subst (λ (y : ℕ). s ≤ y / 524288) (sym (numbers_at T x)) z)
+    (λ x q k. let z : (get_or T x past_end).0 / 524288 < s = search (rules, tests) in (search (rules, tests), subst (λ (y : ℕ). y / 524288 < s) (sym (numbers_at T x)) z)) in
+    rw c.unwrap_or.ensures (first (numbers T) (length T) c.args.p s c.requires c.find.result found)

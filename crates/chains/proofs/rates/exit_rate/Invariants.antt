@@ -11,4 +11,5 @@ use Rattle.chains.proofs.rates.exit_rate.Given as goal
 abbrev pub invariant-loop-i : goal.invariant-loop-i
 invariant-loop-i l =
     let M = columns_of l.model in
-    (begins M l.s ≤ l.i) × (l.i ≤ begins M (l.s + 1)) × (sum_from l.total (Left M l.s l.i (begins M (l.s + 1))) ≡ exit_rate (row M l.s))
+    let i = l.i-iterator in
+    (begins M l.s ≤ i.start) × (i.start ≤ i.end) × (i.end ≡ begins M (l.s + 1)) × (sum_from l.total (Left M l.s i.start i.end) ≡ exit_rate (row M l.s))

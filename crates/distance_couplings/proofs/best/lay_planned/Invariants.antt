@@ -8,4 +8,4 @@ use Rattle.distance_theory.proofs.Bests.{places_by}
 use Rattle.distance_couplings.proofs.best.lay_planned.Given as goal
 
 abbrev pub invariant-loop-i : goal.invariant-loop-i
-invariant-loop-i l = (l.i ≤ l.count) × (length l.places ≡ length l.initial.places) × (l.places ≡ over (places_by (look_up l.rows.codes.now) l.rows.xs.targets.now l.rows.ys.targets.now l.plan.rows.now l.plan.columns.now l.count) l.i l.initial.places)
+invariant-loop-i l = (l.i ≤ length l.initial.places) × (length l.places ≡ length l.initial.places) × (l.places ≡ over (places_by (look_up l.rows.codes.now) l.rows.xs.targets.now l.rows.ys.targets.now l.plan.rows.now l.plan.columns.now (length l.initial.places)) l.i l.initial.places)

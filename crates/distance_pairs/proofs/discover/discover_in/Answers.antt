@@ -16,7 +16,7 @@ pub returns-in_err-meet_rows-clause-explores : goal.returns-in_err-meet_rows-cla
 returns-in_err-meet_rows-clause-explores c =
     let N = c.loop-i.invariant.1 in
     let (o, M, T) = c.in_err-meet_rows.ensures.met in
-    let (k, e) = explored c.from_residual.result _ c.meet_rows.new.pairs.count c.from_residual.ensures.1 o (turn c.loop-i.invariant.2 N.few c.loop-i-test.true _ _ refl refl (takes_rows c.row.ensures c.row-in-loop-i.ensures T)) in
+    let (k, e) = explored c.from_residual.result _ c.meet_rows.new.pairs c.from_residual.ensures.1 o (turn c.loop-i.invariant.2 N.few c.loop-i-test.true _ _ refl refl (takes_rows c.row.ensures c.row-in-loop-i.ensures T)) in
     (k, M.few, e)
 
 pub loop-i-preserved : goal.loop-i-preserved

@@ -11,7 +11,7 @@ pub returns-then-known-clause-met : goal.returns-then-known-clause-met
 returns-then-known-clause-met c = let p = c.args.pairs.now in (tt, c.requires, takes_known c.args.x c.args.y p.count p.lefts.now p.rights.now p.codes.now c.requires _ c.goes-at.result c.key-pair.ensures.0 c.goes-at.ensures.0 (sym c.known.ensures ∙ c.if-known.true))
 
 pub returns-then-n-ge4096-clause-met : goal.returns-then-n-ge4096-clause-met
-returns-then-n-ge4096-clause-met c = let p = c.args.pairs.now in (refl, c.requires, takes_last c.args.x c.args.y p.count p.lefts.now p.rights.now p.codes.now c.requires _ c.goes-at.result c.key-pair.ensures.0 c.goes-at.ensures.0 (sym c.known.ensures ∙ c.if-known.false) c.if-n-ge4096.true)
+returns-then-n-ge4096-clause-met c = let p = c.args.pairs.now in ((refl, (let f = c.requires.few in let g = c.if-n-ge4096.true in omega arith)), c.requires, takes_last c.args.x c.args.y p.count p.lefts.now p.rights.now p.codes.now c.requires _ c.goes-at.result c.key-pair.ensures.0 c.goes-at.ensures.0 (sym c.known.ensures ∙ c.if-known.false) c.if-n-ge4096.true)
 
 pub returns-clause-met : goal.returns-clause-met
 returns-clause-met c =

@@ -1,7 +1,6 @@
 -- By the cases of the tests (Steps).
-use lib.ListN.{get_or}
-use native.Mathlib.Omega.{arith}
-use Rattle.parts.proofs.Lent.{part_length}
+use mathlib.Core.Path.{◌≡◌}
+use Rattle.std.proofs.Common.{rules}
 use Rattle.distance_rounds.proofs.Steps.{current_is, no_gain, no_places, no_masses, adopts}
 use Rattle.distance_rounds.proofs.adopt.adopt.Goals as goal
 use Rattle.distance_rounds.proofs.adopt.adopt.Goals.{then-from-n-via-then-from-n, then-from-n-via-else-from-n+then-from-n-2}
@@ -26,18 +25,11 @@ returns-then-from-n-clause-adopted c =
           (current_is a.values.now S c.read.result a.k c.read.ensures c.shares.result c.shares.ensures c.expected-current.ensures) c.if-not-value-current.false w.if-from-n.false w.if-from-n-2.true
     ]
 
-pub put_shares-requires : goal.put_shares-requires
-put_shares-requires c =
-    let S = c.args.store.now in
-    let h = c.if-from-n.false in
-    let i = c.if-from-n-2.false in
-    let a = part_length (get_or S.starts.now c.args.k 0) S.places.now in
-    let b = part_length (get_or S.starts.now c.args.k 0) S.masses.now in
-    (c.requires.2, omega arith, omega arith)
-
 pub returns-clause-adopted : goal.returns-clause-adopted
 returns-clause-adopted c =
     let a = c.args in
     let S = a.store.now in
+    let u : c.copy_from_slice.new.self ≡ a.shares.now.places.now = search rules in
+    let w : c.copy_from_slice-2.new.self ≡ a.shares.now.masses.now = search rules in
     adopts a.value a.shares.now.places.now a.shares.now.masses.now a.values.now a.k S.starts.now S.lengths.now S.places.now S.masses.now c.expected-current.result
-    (current_is a.values.now S c.read.result a.k c.read.ensures c.shares.result c.shares.ensures c.expected-current.ensures) c.if-not-value-current.false c.if-from-n.false c.if-from-n-2.false _ _ c.put_shares.ensures.0 c.put_shares.ensures.1
+    (current_is a.values.now S c.read.result a.k c.read.ensures c.shares.result c.shares.ensures c.expected-current.ensures) c.if-not-value-current.false c.if-from-n.false c.if-from-n-2.false c.requires.2 _ _ u w

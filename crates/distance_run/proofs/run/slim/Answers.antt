@@ -8,6 +8,7 @@ use Rattle.distance_run.proofs.run.slim.Goals as goal
 
 pub returns : goal.returns
 returns c =
-    let n = c.args.states in
-    let short = λ (s : ℕ). leb (get_or c.args.offsets.now (s + 1) 0) (get_or c.args.offsets.now s 0 + 32) in
+    let chain = c.args.chain.now in
+    let n = chain.shape.states in
+    let short = λ (s : ℕ). leb (get_or chain.offsets.now (s + 1) 0) (get_or chain.offsets.now s 0 + 32) in
     all_from_yields_List short _ _ c.all.result c.all.ensures.ran (YieldsList-from_range 0 n n (search rules) (search rules)) (λ x b q k. search (rules, tests)) ∙ all_in_range short n

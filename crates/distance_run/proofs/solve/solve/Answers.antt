@@ -11,7 +11,7 @@ returns-clause-solved c =
     let T = a.task.now in
     let s = a.store.now in
     made (length T.pairs.lefts.now) T.pairs.lefts.now T.pairs.rights.now T.pairs.codes.now (of_chain T.left) (of_chain T.right) T.cost.now T.gamma a.options s.starts.now s.lengths.now s.places.now s.masses.now a.values.now
-    c.in_ok-lay_store.ensures.filled refl c.uneven.ensures c.if-uneven.false c.aim-near.ensures c.requires c.iterate.ensures.starts c.iterate.ensures.iterated
+    c.in_ok-lay_store.ensures.filled refl c.uneven.ensures c.if-uneven.false c.aim-near.ensures c.requires c.iterate.ensures.kept.1 c.iterate.ensures.iterated
 
 pub returns-in_err-lay_store-clause-solved : goal.returns-in_err-lay_store-clause-solved
 returns-in_err-lay_store-clause-solved c =

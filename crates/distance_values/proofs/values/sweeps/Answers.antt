@@ -1,7 +1,7 @@
 -- `values::sweeps` meets its contract: what cannot be read leaves the values as they were, and otherwise the sweeps go over them (Answers).
 use mathlib.Core.Path.{refl}
 use lib.ListN.{length}
-use Rattle.distance_values.proofs.Answers.{costs_short, unread, readable, evaluates}
+use Rattle.distance_values.proofs.Answers.{readable, evaluates}
 use Rattle.distance_values.proofs.values.sweeps.Goals as goal
 
 pub sweeps_in-requires : goal.sweeps_in-requires

@@ -1,7 +1,7 @@
 -- `visits::visits` meets its contract: what cannot be read leaves the list as it was, and otherwise the time spent goes over it (Answers).
 use mathlib.Core.Path.{refl}
 use lib.ListN.{length}
-use Rattle.distance_values.proofs.Answers.{pairs_many, unreadable, visitable, occupies}
+use Rattle.distance_values.proofs.Answers.{visitable, occupies}
 use Rattle.distance_values.proofs.visits.visits.Goals as goal
 
 pub visits_in-requires : goal.visits_in-requires

@@ -1,7 +1,7 @@
 -- A model that fails decides the answer, then the lengths of the lists; else both models are accepted, and what `both_rows` makes is their union.
 use mathlib.Core.Path.{sym, ◌∙◌}
 use native.Mathlib.Omega.{arith}
-use Rattle.epsdelta_jumps.proofs.Unions.{turned_back, both_accepted, few_together, by_lists, ready, roomy, united}
+use Rattle.epsdelta_jumps.proofs.Unions.{turned_back, few_together, by_lists, ready, roomy, united}
 use Rattle.epsdelta_jumps.proofs.jumps.union.Goals as goal
 
 pub returns-in_err-earlier-clause-answer : goal.returns-in_err-earlier-clause-answer
@@ -18,18 +18,15 @@ returns-then-short-clause-answer c = by_lists c.args.left.now c.args.right.now c
 
 pub both_rows-requires-clause-models : goal.both_rows-requires-clause-models
 both_rows-requires-clause-models c =
-    let (a, b) = both_accepted c.args.left.now c.args.right.now c.check.ensures c.check-2.ensures c.in_ok-earlier.ensures in
-    ready c.args.left.now c.args.right.now a b
+    ready c.args.left.now c.args.right.now c.check.ensures c.check-2.ensures c.in_ok-earlier.ensures
 
 pub both_rows-requires-clause-room : goal.both_rows-requires-clause-room
 both_rows-requires-clause-room c =
-    let (a, b) = both_accepted c.args.left.now c.args.right.now c.check.ensures c.check-2.ensures c.in_ok-earlier.ensures in
-    roomy c.args.left.now c.args.right.now a b c.args.rows.now (sym c.short.ensures ∙ c.if-short.false)
+    roomy c.args.left.now c.args.right.now c.check.ensures c.check-2.ensures c.in_ok-earlier.ensures c.args.rows.now (sym c.short.ensures ∙ c.if-short.false)
 
 pub returns-clause-answer : goal.returns-clause-answer
 returns-clause-answer c = by_lists c.args.left.now c.args.right.now c.check.ensures c.check-2.ensures c.in_ok-earlier.ensures (sym c.short.ensures ∙ c.if-short.false)
 
 pub returns-clause-laid : goal.returns-clause-laid
 returns-clause-laid c =
-    let (a, b) = both_accepted c.args.left.now c.args.right.now c.check.ensures c.check-2.ensures c.in_ok-earlier.ensures in
-    united c.args.left.now c.args.right.now a b c.args.rows.now c.both_rows.new.rows c.both_rows.ensures.laid
+    united c.args.left.now c.args.right.now c.check.ensures c.check-2.ensures c.in_ok-earlier.ensures c.args.rows.now c.both_rows.new.rows c.both_rows.ensures.laid

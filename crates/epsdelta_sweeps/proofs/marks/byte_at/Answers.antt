@@ -2,10 +2,10 @@
 use mathlib.Core.Path.{ap, ◌∙◌}
 use Prim.Native.Nat.{ℕ}
 use native.Mathlib.Nat.{div-add-mod'}
-use lib.ListN.{take, drop}
+use lib.ListN.{length, take, drop}
 use Rattle.numbers.specs.Bits.{bits}
 use Rattle.epsdelta_theory.specs.Sweeps.{marks}
 use Rattle.epsdelta_sweeps.proofs.marks.byte_at.Goals as goal
 
 pub returns-then-apart : goal.returns-then-apart
-returns-then-apart c = let a = c.args in λ Q M. c.apart.ensures c.if-apart.true a.of.now.exits.now a.of.now.rho Q M ∙ ap (λ (x : ℕ). bits (take 8 (drop x (marks Q)))) (div-add-mod' a.first a.of.now.states)
+returns-then-apart c = let a = c.args in λ Q M. c.apart.ensures c.if-apart.true Q M ∙ ap (λ (x : ℕ). bits (take 8 (drop x (marks Q)))) (div-add-mod' a.first (length a.of.now.classes.now))

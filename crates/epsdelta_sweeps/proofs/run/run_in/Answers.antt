@@ -2,6 +2,10 @@
 use Rattle.std.proofs.Common.{rules}
 use mathlib.Core.Path.{sym, ◌∙◌}
 use native.Mathlib.Omega.{arith}
+use lib.ListN.{replicate, length-replicate}
+use lib.Seq.{length-take-le}
+use Rattle.flow_links.proofs.RowsRead.{states_of}
+use Rattle.epsdelta_sweeps.specs.Place.{none}
 use Rattle.epsdelta_sweeps.proofs.Noting.{first_words}
 use Rattle.epsdelta_sweeps.proofs.Resuming.{held_start, moves_then, runs_to}
 use Rattle.epsdelta_sweeps.proofs.run.run_in.Goals as goal
@@ -9,7 +13,7 @@ use Rattle.epsdelta_sweeps.proofs.run.run_in.Goals as goal
 pub advance-requires : goal.advance-requires
 advance-requires g c =
     let p = c.requires in
-    let (w, z) = first_words c.args.terms.now.rows.states g.row.N p.room.0 in
+    let (w, z) = first_words (states_of c.args.terms.now.rows) _ (length-take-le (states_of c.args.terms.now.rows) (replicate g.row.N none) (let e = length-replicate g.row.N none in omega arith)) in
     (p.rows_fit.0, omega arith, omega arith, (λ k. omega arith), held_start p.relation_value p.rows_fit.1 p.rows_fit.2 w z)
 
 pub returns-in-Err : goal.returns-in-Err

@@ -10,10 +10,10 @@ use Rattle.epsdelta_sweeps.proofs.sweeps.settle.Goals as goal
 pub tested-requires : goal.tested-requires
 tested-requires c =
     let p = c.requires in
-    let A = p.1.asked refl in
+    let A = p.0.1.asked refl in
     let l = A.apart in
     let k = A.inside in
-    ((p.0.0, omega arith, k), (p.0.0.few, words_long _ _ _ p.1.noted.long), p.1, p.2)
+    ((p.0.0, omega arith, k), (p.0.0.few, words_long _ _ _ p.0.1.noted.long), p.0.1, p.1)
 
 pub returns : goal.returns
 returns c =

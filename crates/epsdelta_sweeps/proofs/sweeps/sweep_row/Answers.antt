@@ -14,4 +14,4 @@ returns-in_err-struck c =
 pub returns : goal.returns
 returns c =
     let l = c.loop-t.invariant in
-    (moves_then l.0 (omega arith) (row_ends_lem c.requires.0.0 c.loop-t.struck c.loop-t-test.false (omega arith) l.0.held), l.2)
+    (moves_then l.0 (omega arith) (row_ends_lem c.requires.0 c.loop-t.struck c.loop-t-test.false (omega arith) l.0.held), l.2)

@@ -1,4 +1,4 @@
--- `put_plan` ensures the numbers for the answer, and `transport` the answer and the columns.
+-- `put_pair` ensures the numbers for the answer, and `transport` the answer and the columns.
 use mathlib.Core.Path.{◌≡◌}
 use lib.ListN.{length}
 use Rattle.std.proofs.Common.{rules}

@@ -4,4 +4,4 @@ use Rattle.flow_theory.proofs.Seeking.{Seeking}
 use Rattle.flow_core.proofs.augment.seek.Given as goal
 
 abbrev pub invariant-loop-k : goal.invariant-loop-k
-invariant-loop-k l = Seeking l.phase.net.heads.now l.row l.caps l.phase.level.now l.want 0 (length l.row) l.k
+invariant-loop-k l = Seeking l.phase.course.net.heads.now l.row l.caps l.phase.level.now l.want 0 (length l.row) l.k

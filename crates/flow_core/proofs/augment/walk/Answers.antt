@@ -17,52 +17,52 @@ pub bounds-next-u : goal.bounds-next-u
 bounds-next-u c = u_next c.requires (next_few c.requires) c.loop-u.invariant
 
 pub seek-requires : goal.seek-requires
-seek-requires c = row_seekable c.requires (next_few c.requires) c.loop-u.invariant c.loop-u-test.true (links_out c.args.phase.now.net c.args.phase.now.ends c.requires c.loop-u.invariant c.leaving-links.ensures) c.if-at-links.true
+seek-requires c = row_seekable c.requires (next_few c.requires) c.loop-u.invariant c.loop-u-test.true (links_out c.args.phase.now.course.net c.args.phase.now.course.ends c.requires c.loop-u.invariant c.leaving-links.ensures) c.if-at-links.true
 
 pub bounds-next-u-in-Some : goal.bounds-next-u-in-Some
 bounds-next-u-in-Some c = u_next c.requires (next_few c.requires) c.loop-u.invariant
 
 pub bounds-net-e : goal.bounds-net-e
-bounds-net-e c = ((row_seekable c.requires (next_few c.requires) c.loop-u.invariant c.loop-u-test.true (links_out c.args.phase.now.net c.args.phase.now.ends c.requires c.loop-u.invariant c.leaving-links.ensures) c.if-at-links.true).links_in c.in-Some.k (omega arith) c.in-Some.ensures.0).0
+bounds-net-e c = ((row_seekable c.requires (next_few c.requires) c.loop-u.invariant c.loop-u-test.true (links_out c.args.phase.now.course.net c.args.phase.now.course.ends c.requires c.loop-u.invariant c.leaving-links.ensures) c.if-at-links.true).links_in c.in-Some.k (omega arith) c.in-Some.ensures.0).0
 
 pub loop-u-smaller-in-Some : goal.loop-u-smaller-in-Some
-loop-u-smaller-in-Some c = found_less c.requires (next_few c.requires) c.loop-u.invariant c.loop-u-test.true (links_out c.args.phase.now.net c.args.phase.now.ends c.requires c.loop-u.invariant c.leaving-links.ensures) c.if-at-links.true c.in-Some.ensures
+loop-u-smaller-in-Some c = found_less c.requires (next_few c.requires) c.loop-u.invariant c.loop-u-test.true (links_out c.args.phase.now.course.net c.args.phase.now.course.ends c.requires c.loop-u.invariant c.leaving-links.ensures) c.if-at-links.true c.in-Some.ensures
 
 pub loop-u-preserved-in-Some : goal.loop-u-preserved-in-Some
-loop-u-preserved-in-Some c = found_on c.requires (next_few c.requires) c.loop-u.invariant c.loop-u-test.true (links_out c.args.phase.now.net c.args.phase.now.ends c.requires c.loop-u.invariant c.leaving-links.ensures) c.if-at-links.true c.in-Some.ensures
+loop-u-preserved-in-Some c = found_on c.requires (next_few c.requires) c.loop-u.invariant c.loop-u-test.true (links_out c.args.phase.now.course.net c.args.phase.now.course.ends c.requires c.loop-u.invariant c.leaving-links.ensures) c.if-at-links.true c.in-Some.ensures
 
 pub bounds-next-u-in-None : goal.bounds-next-u-in-None
 bounds-next-u-in-None c = u_next c.requires (next_few c.requires) c.loop-u.invariant
 
 pub loop-u-smaller-in-None : goal.loop-u-smaller-in-None
-loop-u-smaller-in-None c = none_less c.requires (next_few c.requires) c.loop-u.invariant c.loop-u-test.true (links_out c.args.phase.now.net c.args.phase.now.ends c.requires c.loop-u.invariant c.leaving-links.ensures) c.if-at-links.true c.in-None.ensures
+loop-u-smaller-in-None c = none_less c.requires (next_few c.requires) c.loop-u.invariant c.loop-u-test.true (links_out c.args.phase.now.course.net c.args.phase.now.course.ends c.requires c.loop-u.invariant c.leaving-links.ensures) c.if-at-links.true c.in-None.ensures
 
 pub loop-u-preserved-in-None : goal.loop-u-preserved-in-None
-loop-u-preserved-in-None c = none_on c.requires (next_few c.requires) c.loop-u.invariant c.loop-u-test.true (links_out c.args.phase.now.net c.args.phase.now.ends c.requires c.loop-u.invariant c.leaving-links.ensures) c.if-at-links.true c.in-None.ensures
+loop-u-preserved-in-None c = none_on c.requires (next_few c.requires) c.loop-u.invariant c.loop-u-test.true (links_out c.args.phase.now.course.net c.args.phase.now.course.ends c.requires c.loop-u.invariant c.leaving-links.ensures) c.if-at-links.true c.in-None.ensures
 
 pub returns-then-path-eq0 : goal.returns-then-path-eq0
-returns-then-path-eq0 c = blocked_ends c.requires (next_few c.requires) c.loop-u.invariant c.loop-u-test.true (links_out c.args.phase.now.net c.args.phase.now.ends c.requires c.loop-u.invariant c.leaving-links.ensures) c.if-at-links.false c.if-path-eq0.true
+returns-then-path-eq0 c = blocked_ends c.requires (next_few c.requires) c.loop-u.invariant c.loop-u-test.true (links_out c.args.phase.now.course.net c.args.phase.now.course.ends c.requires c.loop-u.invariant c.leaving-links.ensures) c.if-at-links.false c.if-path-eq0.true
 
 pub offset_bounds-net-reverse : goal.offset_bounds-net-reverse
-offset_bounds-net-reverse c = omega (arith, c.reverse.ensures, back_in c.requires (next_few c.requires) c.loop-u.invariant c.loop-u-test.true (links_out c.args.phase.now.net c.args.phase.now.ends c.requires c.loop-u.invariant c.leaving-links.ensures) c.if-at-links.false c.if-path-eq0.false)
+offset_bounds-net-reverse c = omega (arith, c.reverse.ensures, back_in c.requires (next_few c.requires) c.loop-u.invariant c.loop-u-test.true (links_out c.args.phase.now.course.net c.args.phase.now.course.ends c.requires c.loop-u.invariant c.leaving-links.ensures) c.if-at-links.false c.if-path-eq0.false)
 
 pub bounds-net-reverse : goal.bounds-net-reverse
-bounds-net-reverse c = rw c.reverse.ensures (back_in c.requires (next_few c.requires) c.loop-u.invariant c.loop-u-test.true (links_out c.args.phase.now.net c.args.phase.now.ends c.requires c.loop-u.invariant c.leaving-links.ensures) c.if-at-links.false c.if-path-eq0.false)
+bounds-net-reverse c = rw c.reverse.ensures (back_in c.requires (next_few c.requires) c.loop-u.invariant c.loop-u-test.true (links_out c.args.phase.now.course.net c.args.phase.now.course.ends c.requires c.loop-u.invariant c.leaving-links.ensures) c.if-at-links.false c.if-path-eq0.false)
 
 pub bounds-next-u-else-at-links : goal.bounds-next-u-else-at-links
-bounds-next-u-else-at-links c = let l = c.loop-u.invariant.next_length in rw c.reverse.ensures (from_next c.requires (next_few c.requires) c.loop-u.invariant c.loop-u-test.true (links_out c.args.phase.now.net c.args.phase.now.ends c.requires c.loop-u.invariant c.leaving-links.ensures) c.if-at-links.false c.if-path-eq0.false)
+bounds-next-u-else-at-links c = let l = c.loop-u.invariant.next_length in rw c.reverse.ensures (from_next c.requires (next_few c.requires) c.loop-u.invariant c.loop-u-test.true (links_out c.args.phase.now.course.net c.args.phase.now.course.ends c.requires c.loop-u.invariant c.leaving-links.ensures) c.if-at-links.false c.if-path-eq0.false)
 
 pub overflow_add-next-else-at-links : goal.overflow_add-next-else-at-links
-overflow_add-next-else-at-links c = let few : length c.args.phase.now.net.list.now < 4611686018427387904 = search rules in rw c.reverse.ensures (record { fits = omega (arith, from_mark c.requires (next_few c.requires) c.loop-u.invariant c.loop-u-test.true (links_out c.args.phase.now.net c.args.phase.now.ends c.requires c.loop-u.invariant c.leaving-links.ensures) c.if-at-links.false c.if-path-eq0.false) })
+overflow_add-next-else-at-links c = let few : length c.args.phase.now.course.net.list.now < 4611686018427387904 = search rules in rw c.reverse.ensures (record { fits = omega (arith, from_mark c.requires (next_few c.requires) c.loop-u.invariant c.loop-u-test.true (links_out c.args.phase.now.course.net c.args.phase.now.course.ends c.requires c.loop-u.invariant c.leaving-links.ensures) c.if-at-links.false c.if-path-eq0.false) })
 
 pub bounds-next-u-else-at-links-2 : goal.bounds-next-u-else-at-links-2
-bounds-next-u-else-at-links-2 c = rw c.reverse.ensures (from_next c.requires (next_few c.requires) c.loop-u.invariant c.loop-u-test.true (links_out c.args.phase.now.net c.args.phase.now.ends c.requires c.loop-u.invariant c.leaving-links.ensures) c.if-at-links.false c.if-path-eq0.false)
+bounds-next-u-else-at-links-2 c = rw c.reverse.ensures (from_next c.requires (next_few c.requires) c.loop-u.invariant c.loop-u-test.true (links_out c.args.phase.now.course.net c.args.phase.now.course.ends c.requires c.loop-u.invariant c.leaving-links.ensures) c.if-at-links.false c.if-path-eq0.false)
 
 pub loop-u-smaller : goal.loop-u-smaller
-loop-u-smaller c = rw c.reverse.ensures (back_less c.requires (next_few c.requires) c.loop-u.invariant c.loop-u-test.true (links_out c.args.phase.now.net c.args.phase.now.ends c.requires c.loop-u.invariant c.leaving-links.ensures) c.if-at-links.false c.if-path-eq0.false)
+loop-u-smaller c = rw c.reverse.ensures (back_less c.requires (next_few c.requires) c.loop-u.invariant c.loop-u-test.true (links_out c.args.phase.now.course.net c.args.phase.now.course.ends c.requires c.loop-u.invariant c.leaving-links.ensures) c.if-at-links.false c.if-path-eq0.false)
 
 pub loop-u-preserved : goal.loop-u-preserved
-loop-u-preserved c = rw c.reverse.ensures (back c.requires (next_few c.requires) c.loop-u.invariant c.loop-u-test.true (links_out c.args.phase.now.net c.args.phase.now.ends c.requires c.loop-u.invariant c.leaving-links.ensures) c.if-at-links.false c.if-path-eq0.false)
+loop-u-preserved c = rw c.reverse.ensures (back c.requires (next_few c.requires) c.loop-u.invariant c.loop-u-test.true (links_out c.args.phase.now.course.net c.args.phase.now.course.ends c.requires c.loop-u.invariant c.leaving-links.ensures) c.if-at-links.false c.if-path-eq0.false)
 
 pub returns : goal.returns
 returns c = let r = path_room c.requires (next_few c.requires) c.loop-u.invariant in (omega arith, reached_ends c.requires (next_few c.requires) c.loop-u.invariant c.loop-u-test.false)

@@ -21,10 +21,10 @@ refused_is : (b : Bool) (r : FlowRun) (c : List Float) → b ≡ false → ends 
 refused_is b r c e = ap (λ (x : Bool). settled x r c) (sym e)
 
 pub run-requires : goal.run-requires
-run-requires c = runs _ _ c.args.net.now.costs.now _ _ _ _ _ (sym c.accepts.ensures ∙ c.if-accepts.true)
-
-pub returns-then-accepts : goal.returns-then-accepts
-returns-then-accepts c = record { caps_after = rw (sym c.accepts.ensures ∙ c.if-accepts.true) (told_is _ c.run.result c.args.caps.now _ c.run.ensures); claimed = every_run _ _ _ _ _ _ _ _ }
+run-requires c = runs _ _ c.args.course.now.net.costs.now _ _ _ _ _ (sym c.accepts.ensures ∙ c.if-not-accepts.false)
 
 pub returns : goal.returns
-returns c = record { caps_after = refused_is _ _ c.args.caps.now (sym c.accepts.ensures ∙ c.if-accepts.false); claimed = every_run _ _ _ _ _ _ _ _ }
+returns c = record { caps_after = rw (sym c.accepts.ensures ∙ c.if-not-accepts.false) (told_is _ c.run.result c.args.caps.now _ c.run.ensures); claimed = every_run _ _ _ _ _ _ _ _ }
+
+pub returns-then-not-accepts : goal.returns-then-not-accepts
+returns-then-not-accepts c = record { caps_after = refused_is _ _ c.args.caps.now (sym c.accepts.ensures ∙ c.if-not-accepts.true); claimed = every_run _ _ _ _ _ _ _ _ }

@@ -10,19 +10,19 @@ loop-p-init c = run_begins c.requires
 pub overflow_add-phases : goal.overflow_add-phases
 overflow_add-phases c =
     let w = counts_few c.requires c.loop-p.invariant c.in-Some.ensures in
-    let n = network_nodes c.args.net.now.heads.now c.args.net.now.nodes in
-    let k = nodes_few c.args.net.now.heads.now c.args.net.now.nodes c.args.ends.source c.args.ends.sink c.requires in
+    let n = network_nodes c.args.course.now.net.heads.now c.args.course.now.net.nodes in
+    let k = nodes_few c.args.course.now.net.heads.now c.args.course.now.net.nodes c.args.course.now.ends.source c.args.course.now.ends.sink c.requires in
     record { fits = omega arith }
 
 pub overflow_add-pushes : goal.overflow_add-pushes
 overflow_add-pushes c =
     let w = counts_few c.requires c.loop-p.invariant c.in-Some.ensures in
-    let n = network_nodes c.args.net.now.heads.now c.args.net.now.nodes in
-    let k = nodes_few c.args.net.now.heads.now c.args.net.now.nodes c.args.ends.source c.args.ends.sink c.requires in
+    let n = network_nodes c.args.course.now.net.heads.now c.args.course.now.net.nodes in
+    let k = nodes_few c.args.course.now.net.heads.now c.args.course.now.net.nodes c.args.course.now.ends.source c.args.course.now.ends.sink c.requires in
     record { fits = omega (arith, w.0, w.1) }
 
 pub loop-p-smaller : goal.loop-p-smaller
-loop-p-smaller c = let w = counts_few c.requires c.loop-p.invariant c.in-Some.ensures in let n = network_nodes c.args.net.now.heads.now c.args.net.now.nodes in omega (arith, w.0)
+loop-p-smaller c = let w = counts_few c.requires c.loop-p.invariant c.in-Some.ensures in let n = network_nodes c.args.course.now.net.heads.now c.args.course.now.net.nodes in omega (arith, w.0)
 
 pub loop-p-preserved : goal.loop-p-preserved
 loop-p-preserved c = run_again c.requires c.loop-p.invariant c.in-Some.ensures

@@ -1,14 +1,17 @@
+use Rattle.std.proofs.Common.{rules}
+use borrow.Author.Tests.{tests}
+use Prim.Native.Nat.{◌≤◌}
+use lib.ListN.{length, get_or}
 use mathlib.Core.Path.{◌∙◌}
-use native.Mathlib.Omega.{arith}
 use Rattle.flow_theory.proofs.Pushing.{lower, least_ends, none_smaller}
 use Rattle.flow_theory.proofs.path.least.Goals as goal
-use Rattle.flow_theory.proofs.path.least.Goals.{then-e-caps, else-e-caps}
+use Rattle.flow_theory.proofs.path.least.Goals.{in-Some, in_default}
 
 pub loop-e-preserved : goal.loop-e-preserved
 loop-e-preserved c =
-    lower c.loop-e.invariant c.loop-e-test.true _ (elim c.if-e-caps.branch [
-      | then-e-caps w ↦ w.y-is ∙ w.smaller-y.ensures
-      | else-e-caps w ↦ let past = w.if-e-caps.false in w.y-is ∙ none_smaller c.args.caps.now _ _ (omega arith)
+    lower c.loop-e.invariant c.loop-e-test.true _ (elim c.match-get.branch [
+      | in-Some w ↦ search (rules, tests)
+      | in_default w ↦ let past : length c.args.caps.now ≤ get_or c.args.path.now c.loop-e.e-index 0 = search (rules, tests) in w.y-is ∙ none_smaller c.args.caps.now _ _ past
     ])
 
 pub returns : goal.returns

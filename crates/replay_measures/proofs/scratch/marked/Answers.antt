@@ -1,9 +1,8 @@
 -- `fill` writes the mark into each entry.
 use mathlib.Core.Path.{ap, sym, subst, ◌∙◌}
-use lib.ListN.{take, replicate, length}
+use lib.ListN.{replicate, length}
 use Rattle.replay_measures.proofs.scratch.marked.Goals as goal
 
 pub returns : goal.returns
 returns g c =
-    c.front_mut.ensures
-    ∙ ap (take c.args.n) (c.fill.ensures.after (λ y e. c.requires.exact y (subst (λ x. g.T.Clone.is_clone x y) c.mark.ensures e) ∙ sym c.mark.ensures) ∙ ap (replicate (length c.args.xs.now)) c.mark.ensures)
+    c.fill.ensures.after (λ y e. c.requires.exact y (subst (λ x. g.T.Clone.is_clone x y) c.mark.ensures e) ∙ sym c.mark.ensures) ∙ ap (replicate (length c.args.xs.now)) c.mark.ensures

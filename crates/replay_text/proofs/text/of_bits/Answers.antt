@@ -8,4 +8,4 @@ use borrow.Author.Tests.{le-ltb}
 use Rattle.replay_text.proofs.text.of_bits.Goals as goal
 
 pub float_from_bits-result : goal.float_from_bits-result
-float_from_bits-result c = subst (λ (b : Bool). T (not b)) (sym (nan_bits_above binary64 c.args.bits ∙ le-ltb _ _ c.if-bits-gt9218868437227405312.false)) tt
+float_from_bits-result c = subst (λ (b : Bool). T (not b)) (sym (nan_bits_above binary64 c.args.bits ∙ le-ltb _ _ c.if-bits-gt-INFINITY.false)) tt

@@ -1,10 +1,12 @@
 -- `whole::transport_in` meets its contract: the links are written, and all below is over them (Carries.carried).
-use mathlib.Core.Path.{subst⁻¹, ◌∙◌}
+use mathlib.Core.Path.{sym, ap, subst⁻¹, ◌∙◌}
 use Prim.Native.Nat.{ℕ}
-use lib.ListN.{length, take}
-use Rattle.transport_theory.proofs.Places.{places_or}
+use lib.ListN.{take}
+use Rattle.std.specs.Prelude.{Option}
+use Rattle.std.specs.Option.{unwrap_or}
 use Rattle.transport_theory.proofs.TransportRows.{Carried}
-use Rattle.transport.proofs.Carries.{carried}
+use Rattle.transport.proofs.Carries.{carried, laid_places, laid_room}
+use lib.Seq.{length-take-le}
 use Rattle.transport.proofs.whole.transport_in.Goals as goal
 
 pub plan_links-requires : goal.plan_links-requires
@@ -12,7 +14,18 @@ plan_links-requires c =
     let M = c.args.of.now in
     let P = c.args.plan.now in
     let W = c.write_links.new.rows in
-    let B = c.requires.base in
     subst⁻¹ (λ (k : ℕ). Carried M.left.now M.right.now M.costs.now (take k W.heads.now) (take k W.caps.now) (take k W.prices.now) c.args.list.now P.rows.now P.columns.now P.masses.now)
-    (c.unwrap_or-places.ensures ∙ places_or (length M.left.now) (length M.right.now) B.few_a B.few_b c.places.result 0 c.places.ensures)
+    (c.unwrap_or-places.ensures ∙ ap (λ (o : Option ℕ). unwrap_or o 0) (laid_places c.requires _ _ _ _ c.write_links.ensures.written))
     (carried c.requires _ _ _ _ c.write_links.ensures.written)
+
+pub slice_bounds-links-end-3 : goal.slice_bounds-links-end-3
+slice_bounds-links-end-3 c = (laid_room c.requires _ _ _ _ c.write_links.ensures.written c.unwrap_or-places.ensures).1
+
+pub slice_bounds-links-end-4 : goal.slice_bounds-links-end-4
+slice_bounds-links-end-4 c = sym (length-take-le _ _ (laid_room c.requires _ _ _ _ c.write_links.ensures.written c.unwrap_or-places.ensures).1)
+
+pub slice_bounds-plan_links-end : goal.slice_bounds-plan_links-end
+slice_bounds-plan_links-end c = (laid_room c.requires _ _ _ _ c.write_links.ensures.written c.unwrap_or-places.ensures).0
+
+pub slice_bounds-plan_links-end-2 : goal.slice_bounds-plan_links-end-2
+slice_bounds-plan_links-end-2 c = sym (length-take-le _ _ (laid_room c.requires _ _ _ _ c.write_links.ensures.written c.unwrap_or-places.ensures).0)

@@ -10,8 +10,8 @@ max_flow_with-requires c = (c.if-count-le128.true, omega arith)
 pub returns-then-count-le128 : goal.returns-then-count-le128
 returns-then-count-le128 c = (c.max_flow_with.ensures, every_run _ _ _ _ _ _ _ _)
 
-pub returns-then-count-le2176 : goal.returns-then-count-le2176
-returns-then-count-le2176 c = (c.max_flow_with-then-count-le2176.ensures, every_run _ _ _ _ _ _ _ _)
+pub returns-then-count-gt2176 : goal.returns-then-count-gt2176
+returns-then-count-gt2176 c = (rw (lt-leb _ _ c.if-count-gt2176.true), every_run _ _ _ _ _ _ _ _)
 
 pub returns : goal.returns
-returns c = (rw (lt-leb _ _ c.if-count-le2176.false), every_run _ _ _ _ _ _ _ _)
+returns c = (c.max_flow_with-2.ensures, every_run _ _ _ _ _ _ _ _)

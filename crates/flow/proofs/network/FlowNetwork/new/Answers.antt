@@ -11,8 +11,8 @@ use Rattle.flow.proofs.network.FlowNetwork.new.Goals as goal
 abbrev made_if : ℕ → Bool → Result FlowNetwork ℕ
 made_if n b = cond b (Ok (bare n)) (Err 15)
 
-pub returns-then-nodes-le66 : goal.returns-then-nodes-le66
-returns-then-nodes-le66 c = rw c.empty-net.ensures (sym (ap (made_if c.args.nodes) (le-leb _ _ c.if-nodes-le66.true)))
+pub returns-then-nodes-gt66 : goal.returns-then-nodes-gt66
+returns-then-nodes-gt66 c = sym (ap (made_if c.args.nodes) (lt-leb _ _ c.if-nodes-gt66.true))
 
 pub returns : goal.returns
-returns c = sym (ap (made_if c.args.nodes) (lt-leb _ _ c.if-nodes-le66.false))
+returns c = rw c.empty-net.ensures (sym (ap (made_if c.args.nodes) (le-leb _ _ c.if-nodes-gt66.false)))

@@ -1,0 +1,24 @@
+-- What a phase, and a path in it, ask of the parts of the run. Words of private contracts.
+use Rattle.std.specs.Prelude.{ℕ, List, [], Float}
+use Rattle.flow_theory.specs.Augment.{Walked, walk, walk_fuel}
+use Rattle.flow_theory.proofs.PathRows.{Walkable}
+use Rattle.flow_theory.proofs.RunRows.{Runnable, PhaseReady}
+use Rattle.flow_check.specs.Lent.{net_on}
+use Rattle.flow_check.specs.declared.Course.{Course}
+use Rattle.flow_core.specs.declared.augment.Phase.{Phase}
+
+-- a run may go on from these capacities
+abbrev pub CourseRunnable : Course → List Float → Type 0
+CourseRunnable K c = Runnable (net_on K) K.net.starts.now K.net.list.now c
+
+-- a phase may begin with these marks
+abbrev pub PhaseOpen : Phase → List Float → List ℕ → Type 0
+PhaseOpen P c nx = PhaseReady (net_on P.course) P.course.net.starts.now P.course.net.list.now c P.level.now nx
+
+-- a path may be looked for from these marks on
+abbrev pub PhaseWalkable : Phase → List Float → List ℕ → Type 0
+PhaseWalkable P c nx = Walkable (net_on P.course) P.course.net.starts.now P.course.net.list.now c P.level.now nx
+
+-- how the definition's search for it ends
+abbrev pub walked : Phase → List Float → List ℕ → Walked
+walked P c nx = walk (net_on P.course) c P.level.now (walk_fuel (net_on P.course)) (record { at = P.course.ends.source; path = []; next = nx })
