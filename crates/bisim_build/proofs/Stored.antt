@@ -41,29 +41,32 @@ unranked a (l, t) = same a.source a.label a.target a.weight l t
     same s l t w hl ht =
         parts s l t w ((s * 524288 + l * 2048 + t) / 524288) (((s * 524288 + l * 2048 + t) / 2048) % 256) ((s * 524288 + l * 2048 + t) % 2048) (omega arith) (omega arith) (omega arith)
 
-module _ (E : List Edge) (T : List ℕ) (U : List Float) where
-  rank_at : (i : ℕ) → i < length E → get_or (over (map rank E) T) i 0 ≡ rank (get_or E i nil)
-  rank_at i h = over_at (map rank E) T i 0 (let l = length-map E rank in omega arith) ∙ column rank E i 0 nil h
+module _ (E : List Edge) where
+  rank_at : (i : ℕ) → i < length E → get_or (map rank E) i 0 ≡ rank (get_or E i nil)
+  rank_at i h = column rank E i 0 nil h
 
-  pub stored_edges : AllE Small E → edges_in (over (map rank E) T) (over (map weight_of E) U) (length E) ≡ E
-  stored_edges s = ext_get_or nil (edges_in T' U' (length E)) E (edges_length T' U' (length E)) (λ i h.
-      let l = edges_length T' U' (length E) in
-      let k : i < length E = omega arith in
-      edges_at T' U' (length E) i nil k ∙ ap (λ (q : ℕ). edge_in q (get_or U' i nan)) (rank_at i k)
+  pub stored_edges : (U : List Float) → AllE Small E → edges_in (map rank E) (over (map weight_of E) U) ≡ E
+  stored_edges U s = ext_get_or nil (edges_in T' U') E l (λ i h.
+      let k : i < length E = (let z = l in omega arith) in
+      edges_at T' U' (length T') i nil (let r = length-map E rank in omega arith) ∙ ap (λ (q : ℕ). edge_in q (get_or U' i nan)) (rank_at i k)
       ∙ ap (edge_in (rank (get_or E i nil))) (over_at (map weight_of E) U i nan (let m = length-map E weight_of in omega arith) ∙ column weight_of E i nan nil k)
       ∙ unranked (get_or E i nil) (all_at Small E nil s i k))
     where
       T' : List ℕ
-      T' = over (map rank E) T
+      T' = map rank E
 
       U' : List Float
       U' = over (map weight_of E) U
 
-  pub stored_rising : Strict E → Rising (over (map rank E) T) (length E)
+      l : length (edges_in T' U') ≡ length E
+      l = edges_length T' U' (length T') ∙ length-map E rank
+
+  pub stored_rising : Strict E → Rising (map rank E)
   stored_rising s i j h k =
+      let l = length-map E rank in
       let a = rank_at i (omega arith) in
-      let b = rank_at j k in
-      let r = rises E s i j h k in
+      let b = rank_at j (omega arith) in
+      let r = rises E s i j h (omega arith) in
       omega arith
     where
       rises : (l : List Edge) → Strict l → (i j : ℕ) → i < j → j < length l → rank (get_or l i nil) < rank (get_or l j nil)

@@ -1,6 +1,6 @@
 // The results, written into the columns lent.
-ghost use Rattle.std.specs.Prelude.{◌≡◌, List, ◌||◌, ◌+◌, ◌*◌, ◌≤◌, ◌<◌, ltb, Float, length};
-ghost use Rattle.numbers.specs.Lists.{over};
+ghost use Rattle.std.specs.Prelude.{◌≡◌, List, ◌||◌, ◌+◌, ◌*◌, ◌≤◌, ◌<◌, ltb, Float, length, map};
+ghost use Rattle.numbers.specs.Lists.{over, span};
 ghost use Rattle.build_theory.specs.Edges;
 ghost use Rattle.build_theory.specs.Lent.{kept};
 ghost use Rattle.build_theory.proofs.Steps.{Rising, edges_in, FirstFrom, Writable, Written};
@@ -22,27 +22,27 @@ pub(crate) fn short(draft: &Draft, store: &Store) -> bool
 // The first of triples[p..] whose source is not below s.
 fn first_from(triples: &[Triple], p: usize, s: u64) -> usize
     requires { p ≤ length triples.now }
-    ensures { FirstFrom (numbers triples.now) (length triples.now) p (s * 524288) result }
+    ensures { FirstFrom (numbers triples.now) p (s * 524288) result }
 {
     let n = triples.len();
     (p..n).find(|k| triples[*k].source() >= s).unwrap_or(n)
 }
 
-// Stays: over `offsets[..=states].iter_mut().enumerate()` the loop is as long, and its law, which is of the whole list, would be of a part of it.
-fn write_offsets(triples: &[Triple], states: usize, offsets: &mut [u32])
-    requires { (length triples.now ≤ 4096) × (states ≤ 2000) × (states < length offsets.old) × Rising (numbers triples.now) (length triples.now) }
-    ensures { (U : List Float) → offsets.new ≡ over (Edges.offsets states (edges_in (numbers triples.now) U (length triples.now))) offsets.old }
+// Each offset is how many triples have a source below its place.
+fn write_offsets(triples: &[Triple], offsets: &mut [u32])
+    requires { (length triples.now ≤ 4096) × Rising (numbers triples.now) }
+    ensures { (U : List Float) → offsets.new ≡ map (λ s. Edges.below s (edges_in (numbers triples.now) U)) (span 0 (length offsets.old)) }
 {
     let mut p = 0;
-    for s in 0..=states {
+    for (s, offset) in offsets.iter_mut().enumerate() {
         p = first_from(triples, p, s as u64);
-        offsets[s] = p as u32;
+        *offset = p as u32;
     }
 }
 
 fn write_edges(triples: &[Triple], labels: &mut [u32], targets: &mut [u32])
-    requires { Writable (numbers triples.now) (length triples.now) labels.old targets.old }
-    ensures { Written (numbers triples.now) (length triples.now) labels.old targets.old labels.new targets.new }
+    requires { Writable (numbers triples.now) labels.old targets.old }
+    ensures { Written (numbers triples.now) labels.old targets.old labels.new targets.new }
 {
     for (i, triple) in triples.iter().enumerate() {
         labels[i] = triple.label();
@@ -52,13 +52,13 @@ fn write_edges(triples: &[Triple], labels: &mut [u32], targets: &mut [u32])
 
 // Offsets, label ids and targets of triples.
 pub(crate) fn fill(triples: &[Triple], states: usize, store: &mut Store)
-    requires { Writable (numbers triples.now) (length triples.now) store.old.edge_labels.now store.old.edge_targets.now × (length triples.now ≤ 4096) × (states ≤ 2000) × (states < length store.old.offsets.now) × Rising (numbers triples.now) (length triples.now) }
-    ensures edges { Written (numbers triples.now) (length triples.now) store.old.edge_labels.now store.old.edge_targets.now store.new.edge_labels.now store.new.edge_targets.now }
-    ensures offsets { (U : List Float) → store.new.offsets.now ≡ over (Edges.offsets states (edges_in (numbers triples.now) U (length triples.now))) store.old.offsets.now }
+    requires { Writable (numbers triples.now) store.old.edge_labels.now store.old.edge_targets.now × (length triples.now ≤ 4096) × (states ≤ 2000) × (states < length store.old.offsets.now) × Rising (numbers triples.now) }
+    ensures edges { Written (numbers triples.now) store.old.edge_labels.now store.old.edge_targets.now store.new.edge_labels.now store.new.edge_targets.now }
+    ensures offsets { (U : List Float) → store.new.offsets.now ≡ over (Edges.offsets states (edges_in (numbers triples.now) U)) store.old.offsets.now }
     ensures labels { store.new.label_values.now ≡ store.old.label_values.now }
     ensures weights { store.new.edge_weights.now ≡ store.old.edge_weights.now }
     ensures same_lists { kept store.old store.new }
 {
-    write_offsets(triples, states, store.offsets);
+    write_offsets(triples, &mut store.offsets[..=states]);
     write_edges(triples, store.edge_labels, store.edge_targets);
 }

@@ -23,7 +23,7 @@ use Rattle.chain_theory.specs.declared.ChainShape.{ChainShape}
 use Rattle.chain_theory.specs.Chain.{Chain, common_rate, uniformise, Scaled, normalise}
 use Rattle.chain_theory.specs.Columns.{ChainColumns, chain_columns, shape_of, columns_of}
 use Rattle.chain_theory.proofs.Chains.{rows_length}
-use Rattle.chains.specs.Outcome.{Outcome, rated, ends, laid, settled, lay_refusal, lay_chain, LaidOut}
+use Rattle.chains.specs.Outcome.{Outcome, rated, ends, laid, settled, lay_refusal, try_lay_chain, LaidOut}
 use Rattle.chains.proofs.Answers.{ready, lay_fit}
 use Rattle.normalise.specs.Outcome.{scaling}
 use Rattle.bisim_core.specs.Data
@@ -78,13 +78,13 @@ module _ {S : Shape} {M : Columns} {s : ℕ} {seen : List Float} {C : ChainColum
   lays : 0 ≡ lay_refusal S M seen C
   lays = lay_fit S M seen C refl P.model_passes P.roomy
 
-  laid_so : (q : Float) → lay_chain S M q seen s C ≡ ends (Ok (shape_of (uniformise (model S M) q seen s))) (laid (columns_of (uniformise (model S M) q seen s)) C)
-  unfolding lay_chain
+  laid_so : (q : Float) → try_lay_chain S M q seen s C ≡ ends (Ok (shape_of (uniformise (model S M) q seen s))) (laid (columns_of (uniformise (model S M) q seen s)) C)
+  unfolding try_lay_chain
   laid_so q = ap (λ (k : ℕ). settled k (uniformise (model S M) q seen s) C) (sym lays)
 
-  module _ (q x : Float) (e : x ≡ q) (r : Result ChainShape ℕ) (D : ChainColumns) (f : ends r D ≡ lay_chain S M x seen s C) where
+  module _ (q x : Float) (e : x ≡ q) (r : Result ChainShape ℕ) (D : ChainColumns) (f : ends r D ≡ try_lay_chain S M x seen s C) where
     is_laid : ends r D ≡ ends (Ok (shape_of (uniformise (model S M) q seen s))) (laid (columns_of (uniformise (model S M) q seen s)) C)
-    is_laid = f ∙ ap (λ (z : Float). lay_chain S M z seen s C) e ∙ laid_so q
+    is_laid = f ∙ ap (λ (z : Float). try_lay_chain S M z seen s C) e ∙ laid_so q
 
     -- a chain is made
     pub not_turned_back : (n : ℕ) → r ≡ Err n → ⊥
@@ -151,7 +151,7 @@ module _ {SL : Shape} {ML : Columns} {s : ℕ} {seenL : List Float} {CL : ChainC
       ∙ ap (λ (l : List Float). made (Ok (shape_of A, shape_of B)) (observed (laid (columns_of A) CL) (over (take (length L) N.left) CL.observations)) (observed (laid (columns_of B) CR) (over l CR.observations))) d
 
   -- both are laid at that rate
-  module _ {y : Float} (z : Ok y ≡ rated SL ML SR MR) {H K : ChainShape} {D E : ChainColumns} (f : ends (Ok H) D ≡ lay_chain SL ML y seenL s CL) (g : ends (Ok K) E ≡ lay_chain SR MR y seenR t CR) where
+  module _ {y : Float} (z : Ok y ≡ rated SL ML SR MR) {H K : ChainShape} {D E : ChainColumns} (f : ends (Ok H) D ≡ try_lay_chain SL ML y seenL s CL) (g : ends (Ok K) E ≡ try_lay_chain SR MR y seenR t CR) where
     X : LaidOut A H CL D
     X = first_laid P q y (rate_is y z) _ _ f H refl
 

@@ -10,13 +10,13 @@ ghost use Rattle.bisim_chains.specs.Made.{made, models_made, bisim_made};
 use bisim_checks::rest::Rest;
 use bisim_checks::sides::bisim_refusal;
 use chain_theory::{ChainShape, ChainStore};
-use chains::chain::{common_rate, lay_chain};
+use chains::chain::{common_rate, try_lay_chain};
 use chains::observed::Observed;
 use normalise::scale_together;
 use numbers::refusal::Refusal;
 
 // Two models that passed all checks, at the common rate, from a state of each, their observations scaled together. None of the refusals is met.
-// Stays: a side and the store for its chain as one struct is refused where exports makes it: 'a struct holds at one lifetime parameter two references at two lifetimes of the signature'.
+// Stays: a side and the store for its chain as one struct would have four lifetimes (with one it is refused where exports makes it: 'a struct holds at one lifetime parameter two references at two lifetimes of the signature'), and each function that it is lent to by `&mut` would promise besides that the side is as it was.
 fn lay_chains(
     left: &Observed,
     left_store: &mut ChainStore,
@@ -29,8 +29,8 @@ fn lay_chains(
     ensures same_lists { SameLists left_store.old left_store.new × SameLists right_store.old right_store.new }
 {
     let rate = common_rate(&left.model, &right.model)?;
-    let first = lay_chain(left, rate, left_store)?;
-    let second = lay_chain(right, rate, right_store)?;
+    let first = try_lay_chain(left, rate, left_store)?;
+    let second = try_lay_chain(right, rate, right_store)?;
     scale_together(
         &mut left_store.observations[0..first.states],
         &mut right_store.observations[0..second.states],
@@ -39,7 +39,7 @@ fn lay_chains(
 }
 
 // The chains of two models, where no check of the arguments of `bisim_distance` fails; else the lists are as they were.
-// Stays: a side and the store for its chain as one struct is refused where exports makes it: 'a struct holds at one lifetime parameter two references at two lifetimes of the signature'.
+// Stays: a side and the store for its chain as one struct would have four lifetimes (with one it is refused where exports makes it: 'a struct holds at one lifetime parameter two references at two lifetimes of the signature'), and each function that it is lent to by `&mut` would promise besides that the side is as it was.
 pub fn make_chains(
     left: &Observed,
     left_store: &mut ChainStore,

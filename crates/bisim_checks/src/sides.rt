@@ -41,7 +41,7 @@ pub fn side_refusal(side: &Observed, store: &ChainStore) -> Result<(), Refusal>
 }
 
 // The same of the arguments of `bisim_distance`, over both models and the rest.
-// Stays: a side and the store for its chain as one struct is refused where exports makes it: 'a struct holds at one lifetime parameter two references at two lifetimes of the signature'.
+// Stays: a side and the store for its chain as one struct would have four lifetimes (with one it is refused where exports makes it: 'a struct holds at one lifetime parameter two references at two lifetimes of the signature'), and each function that it is lent to by `&mut` would promise besides that the side is as it was.
 pub fn bisim_refusal(
     left: &Observed,
     left_store: &ChainStore,

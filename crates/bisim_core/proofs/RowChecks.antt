@@ -1,9 +1,9 @@
--- The turns of the loops over one row. Edges: the row rises if its part from i on does. Targets: with a list of those known, whose marks and only they
+-- One row. Edges: each of a row that rises comes before the next. The turns of the loop over the targets: with a list of those known, whose marks and only they
 -- (and that of s itself) are s + 1, and whose length is the count, the targets still to come make the row's distinct ones; a target that is marked is known
 -- or s, and changes nothing; another goes to the end of the list.
 use mathlib.Core.Path.{◌≡◌, refl, sym, subst, ap, ◌∙◌}
 use mathlib.Core.Logic.{◌⊎◌, inl, inr, ◌≢◌}
-use mathlib.Core.Bool.{Bool, true, false, ◌&&◌, not, true≢false}
+use mathlib.Core.Bool.{Bool, true, false, ◌&&◌, not}
 use Prim.Native.Nat.{ℕ, zero, suc, ◌+◌, ◌-◌, ◌≤◌, ◌<◌}
 use mathlib.Core.List.{List, [], ◌∷◌, ◌++◌, map}
 use native.Mathlib.Omega.{arith}
@@ -14,13 +14,9 @@ use lib.ListN.{length, get_or, take, drop, set, replicate, length-set, length-ap
 use Rattle.std.proofs.lemmas.List.{length-take, get_or-take, get_or-drop}
 use lib.Seq.{get_or-set_same, get_or-set_other}
 use borrow.Author.Tests.{eq-eqb, ne_eqb, lt-ltb, le-ltb, ltb-true, ltb-false}
-use Rattle.std.specs.List.{list_all, range_with_len}
-use Rattle.std.proofs.lemmas.List.FromFn.{length-range_with_len, get_or-range_with_len}
 use Rattle.numbers.specs.Lists.{span}
 use Rattle.numbers.specs.Search.{here, seek}
 use Rattle.numbers.proofs.Bools.{eq_or_ne, lt_or_ge, and_t}
-use Rattle.numbers.proofs.Alls.{all_at, all_of}
-use Rattle.numbers.proofs.Loops.{list_all_is}
 use Rattle.numbers.proofs.Seeks.{seek_more, seek_new}
 use Rattle.bisim_core.specs.Data.{Columns, columns}
 use Rattle.bisim_core.specs.Ids.{listed, intern, distinct}
@@ -42,22 +38,7 @@ module _ (M : Columns) (s to : ℕ) where
       ∙ ap (λ (j : ℕ). follows (edge_at M s i) (edge_at M s j) && rises (map (edge_at M s) (span j (suc k)))) (sym (add-one i))
       ∙ ap (λ (n : ℕ). follows (edge_at M s i) (edge_at M s (i + 1)) && rises (map (edge_at M s) (span (i + 1) n))) (sym f)
 
-  pub rise_on : (i : ℕ) → i + 1 < to → follows (edge_at M s i) (edge_at M s (i + 1)) ≡ true → Rises i ≡ Rises (i + 1)
-  rise_on i h e = two i (to - i - 2) (omega arith) ∙ ap (λ (b : Bool). b && Rises (i + 1)) e
-
-  pub rise_stop : (i : ℕ) → i + 1 < to → follows (edge_at M s i) (edge_at M s (i + 1)) ≡ false → Rises i ≡ false
-  rise_stop i h e = two i (to - i - 2) (omega arith) ∙ ap (λ (b : Bool). b && Rises (i + 1)) e
-
-  pub rise_end : (i : ℕ) → to ≤ i + 1 → Rises i ≡ true
-  unfolding rises span
-  rise_end i h = pick (to - i) refl
-    where
-      pick : (n : ℕ) → to - i ≡ n → rises (map (edge_at M s) (span i n)) ≡ true
-      pick zero e = refl
-      pick (suc zero) e = refl
-      pick (suc (suc n)) e = absurd (omega arith)
-
-  -- and back: each edge of a row that rises comes before the next
+  -- each edge of a row that rises comes before the next
   rise_from : (d i : ℕ) → Rises i ≡ true → i + d + 1 < to → follows (edge_at M s (i + d)) (edge_at M s (i + d + 1)) ≡ true
   rise_from zero i e h =
       let z : i ≡ i + 0 = omega arith in
@@ -70,37 +51,6 @@ module _ (M : Columns) (s to : ℕ) where
   rise_at from i e h k =
       let z : from + (i - from) ≡ i = omega arith in
       subst (λ (j : ℕ). follows (edge_at M s j) (edge_at M s (j + 1)) ≡ true) z (rise_from (i - from) from e (omega arith))
-
-  -- and all of them, as the code asks it
-  abbrev rises_at : ℕ → Bool
-  rises_at i = follows (edge_at M s i) (edge_at M s (i + 1))
-
-  rises_of : (d i : ℕ) → to ≤ i + d + 1 → ((j : ℕ) → i ≤ j → j + 1 < to → rises_at j ≡ true) → Rises i ≡ true
-  rises_of zero i h f = rise_end i (omega arith)
-  rises_of (suc d) i h f = pick (rises_of d (i + 1) (omega arith) (λ j a b. f j (omega arith) b)) (lt_or_ge (i + 1) to)
-    where
-      pick : Rises (i + 1) ≡ true → (i + 1 < to) ⊎ (to ≤ i + 1) → Rises i ≡ true
-      pick ih (inl l) = rise_on i l (f i (omega arith) l) ∙ ih
-      pick ih (inr l) = rise_end i l
-
-  pub all_rise : (from n : ℕ) → n ≡ to - 1 - from → list_all rises_at (range_with_len from n) ≡ Rises from
-  all_rise from n e = pick (Rises from) refl
-    where
-      held : Rises from ≡ true → list_all rises_at (range_with_len from n) ≡ true
-      held r = list_all_is rises_at (range_with_len from n) ∙ all_of rises_at (range_with_len from n) 0 (λ j h.
-          let k : j < n = omega (arith, length-range_with_len from n, h) in
-          ap rises_at (get_or-range_with_len from n j 0 k) ∙ rise_at from (from + j) r (omega arith) (omega arith))
-
-      not_held : Rises from ≡ false → (b : Bool) → list_all rises_at (range_with_len from n) ≡ b → b ≡ false
-      not_held q true f = absurd (true≢false (sym (rises_of (to - from) from (omega arith) (λ j a b.
-          let k : j - from < n = omega arith in
-          let z : get_or (range_with_len from n) (j - from) 0 ≡ j = omega (arith, get_or-range_with_len from n (j - from) 0 k) in
-          sym (ap rises_at z) ∙ all_at rises_at (range_with_len from n) 0 (sym (list_all_is rises_at (range_with_len from n)) ∙ f) (j - from) (omega (arith, length-range_with_len from n)))) ∙ q))
-      not_held q false f = refl
-
-      pick : (b : Bool) → Rises from ≡ b → list_all rises_at (range_with_len from n) ≡ b
-      pick true q = held q
-      pick false q = not_held q _ refl
 
 -- ---- values listed
 

@@ -48,11 +48,10 @@ fn row_rises(model: &Wlts, s: usize) -> bool
     requires { (s + 1 < length model.now.offsets.now) × (begins (columns_of model.now) s ≤ begins (columns_of model.now) (s + 1)) × (begins (columns_of model.now) (s + 1) ≤ length model.now.edge_labels.now) × (begins (columns_of model.now) (s + 1) ≤ length model.now.edge_targets.now) }
     ensures { result ≡ rises (row (columns_of model.now) s) }
 {
-    let labels = model.edge_labels;
-    let targets = model.edge_targets;
     let edges = model.row(s);
-    (edges.start..edges.end.saturating_sub(1)).all(|i| (labels[i], targets[i])
-        < (labels[i + 1], targets[i + 1]))
+    let labels = &model.edge_labels[edges.start..edges.end];
+    let targets = &model.edge_targets[edges];
+    labels.iter().zip(targets).is_sorted_by(|a, b| a < b)
 }
 
 fn rows_rise(model: &Wlts) -> bool
@@ -84,27 +83,16 @@ fn sound_edges(model: &Wlts) -> bool
     })
 }
 
-// Stays: as one `||` each of these calls would have what the tests before it say through joined branches alone, a case more for each test; after an `if` it has it as it is.
 pub(crate) fn unfit(model: &Wlts) -> bool
     ensures { result ≡ Model.unfit model.now.shape (columns_of model.now) }
 {
     let shape = model.shape;
-    if starts_outside(shape.initial, shape.states) {
-        return true;
-    }
-    if thin(model) {
-        return true;
-    }
-    if !steady(model) {
-        return true;
-    }
-    if !rows_rise(model) {
-        return true;
-    }
-    if !sound_edges(model) {
-        return true;
-    }
-    !single(&model.label_values[..shape.labels])
+    starts_outside(shape.initial, shape.states)
+        || thin(model)
+        || !steady(model)
+        || !rows_rise(model)
+        || !sound_edges(model)
+        || !single(&model.label_values[..shape.labels])
 }
 
 // ---- check 5
@@ -147,10 +135,5 @@ pub(crate) fn crowded(model: &Wlts) -> bool
     ensures { result ≡ Model.crowded model.now.shape (columns_of model.now) }
 {
     let mut marks = [0u32; 2000];
-    for s in 0..model.shape.states {
-        if count_others(model, s, &mut marks) > 31 {
-            return true;
-        }
-    }
-    false
+    (0..model.shape.states).any(|s| count_others(model, s, &mut marks) > 31)
 }

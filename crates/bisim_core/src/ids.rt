@@ -23,11 +23,13 @@ pub struct Interner<'a> {
 }
 
 // No value is listed twice: each is found where it stands.
-// Stays: `labels.iter().enumerate().all(..)` over pairs (i, x) is no plainer, and its proof takes these pairs apart by one law more.
 pub(crate) fn single(labels: &[u32]) -> bool
     ensures { result ≡ Ids.single labels.now }
 {
-    (0..labels.len()).all(|i| seek(labels, labels[i]) == Some(i))
+    labels
+        .iter()
+        .enumerate()
+        .all(|(i, x)| seek(labels, *x) == Some(i))
 }
 
 // Over 256 values, once one that is not known is added.

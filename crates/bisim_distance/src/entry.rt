@@ -16,7 +16,7 @@ use distance_theory::{Distance, Goal, PairContribution};
 use numbers::refusal::Refusal;
 
 // The distance of a state of one model to a state of another: that of their chains at the common rate, from these states, with observations scaled together. Or the first check that fails. The lists lent for the chains are scratch too.
-// Stays: a side and the store for its chain as one struct is refused where exports makes it: 'a struct holds at one lifetime parameter two references at two lifetimes of the signature'.
+// Stays: a side and the store for its chain as one struct would have four lifetimes (with one it is refused where exports makes it: 'a struct holds at one lifetime parameter two references at two lifetimes of the signature'), and each function that it is lent to by `&mut` would promise besides that the side is as it was.
 pub fn bisim_distance(
     left: &Observed,
     left_chain: &mut ChainStore,

@@ -10,7 +10,7 @@ use native.Mathlib.Numerals.{add-one}
 use lib.Dec.{eqb, ltb}
 use lib.Ieee.{Float, nan}
 use lib.ListN.{length, get_or, take}
-use lib.Seq.{length-take-le, take-suc}
+use lib.Seq.{length-take-le, take-suc, take_all}
 use borrow.Author.Tests.{eq-eqb, ne_eqb, eqb-true, eqb-false, lt-ltb, le-ltb, not-true, not-false}
 use Rattle.numbers.specs.Real.{is_zero}
 use Rattle.numbers.specs.Search.{seek}
@@ -21,7 +21,7 @@ use Rattle.bisim_core.specs.Edges.{others}
 use Rattle.build_theory.specs.Edges.{keep, nonzero}
 use Rattle.bisim_core.proofs.Distinct.{intern_longer}
 use Rattle.bisim_core.proofs.Models.{others_append, crowded_not, crowded_by}
-use Rattle.build_theory.proofs.Steps.{edge_of, Keys, Noted, Crowded}
+use Rattle.build_theory.proofs.Steps.{edge_of, Keys, Noted, Overfull, Crowded}
 
 intern_append : (known xs ys : List ℕ) → intern known (xs ++ ys) ≡ intern (intern known xs) ys
 unfolding intern
@@ -119,6 +119,10 @@ module _ (K : List ℕ) (W : List Float) where
         let f = ap distinct (more s) ∙ intern_append [] (led j s) (others s (nonzero (a ∷ []))) in
         subst (λ (x : List ℕ). length (distinct (led j s)) ≤ length x) (sym f) (intern_longer (distinct (led j s)) (others s (nonzero (a ∷ []))))
 
+  -- those of all keys
+  pub led_all : (s : ℕ) → led (length K) s ≡ others s (nonzero (map (edge_of W) K))
+  led_all s = ap (λ (l : List ℕ). others s (nonzero (map (edge_of W) l))) (take_all (length K) K (omega arith))
+
   -- a state without transitions so far
   pub led_none : (s k : ℕ) → k ≤ length K → ((i : ℕ) → i < k → source_at i ≢ s) → led k s ≡ []
   unfolding nonzero others
@@ -134,18 +138,18 @@ module _ (K : List ℕ) (W : List Float) where
 
 -- ---- the loop
 
-pub record Crowding (K : List ℕ) (n : ℕ) (W : List Float) (seen : List ℕ) (count state j : ℕ) : Type 0 where
-  pub j_in : j ≤ n
+pub record Crowding (K : List ℕ) (W : List Float) (seen : List ℕ) (count state j : ℕ) : Type 0 where
+  pub j_in : j ≤ length K
   pub size : length seen ≡ 31
   pub few : count ≤ 31
   pub known : take count seen ≡ distinct (led K W j state)
   pub calm : (s : ℕ) → s ≢ state → length (distinct (led K W j s)) ≤ 31
   pub low : (i : ℕ) → i < j → source_at K W i ≤ state
-  pub ahead : (i : ℕ) → j ≤ i → i < n → state ≤ source_at K W i
+  pub ahead : (i : ℕ) → j ≤ i → i < length K → state ≤ source_at K W i
 
-pub crowding : (K : List ℕ) (n : ℕ) (W : List Float) (seen : List ℕ) → length seen ≡ 31 → Crowding K n W seen 0 0 0
+pub crowding : (K : List ℕ) (W : List Float) (seen : List ℕ) → length seen ≡ 31 → Crowding K W seen 0 0 0
 unfolding nonzero others intern
-crowding K n W seen e = record {
+crowding K W seen e = record {
   j_in = omega arith;
   size = e;
   few = omega arith;
@@ -155,7 +159,7 @@ crowding K n W seen e = record {
   ahead = λ i h k. omega arith;
 }
 
-module _ {K : List ℕ} {n : ℕ} {W : List Float} {seen : List ℕ} {count state j : ℕ} (I : Crowding K n W seen count state j) (R : Keys K n) where
+module _ {K : List ℕ} {W : List Float} {seen : List ℕ} {count state j : ℕ} (I : Crowding K W seen count state j) (R : Keys K) where
   counted : length (distinct (led K W j state)) ≡ count
   counted = ap length (sym I.known) ∙ length-take-le count seen (let a = I.few in let b = I.size in omega arith)
 
@@ -166,7 +170,7 @@ module _ {K : List ℕ} {n : ℕ} {W : List Float} {seen : List ℕ} {count stat
       pick (inl e) = subst (λ (x : ℕ). length (distinct (led K W j x)) ≤ 31) (sym e) (let a = counted in let b = I.few in omega arith)
       pick (inr e) = I.calm s e
 
-  module _ (h : j < n) where
+  module _ (h : j < length K) where
     abbrev s : ℕ
     s = source_at K W j
 
@@ -176,10 +180,7 @@ module _ {K : List ℕ} {n : ℕ} {W : List Float} {seen : List ℕ} {count stat
     abbrev z : Bool
     z = is_zero (get_or W (get_or K j 0 % 4096) nan)
 
-    j_low : j < length K
-    j_low = let a = R.within in omega arith
-
-    rest : (i : ℕ) → j + 1 ≤ i → i < n → s ≤ source_at K W i
+    rest : (i : ℕ) → j + 1 ≤ i → i < length K → s ≤ source_at K W i
     rest i k l = let a = R.rising j i (omega arith) l in over (get_or K j 0) (get_or K i 0) a
       where
         over : (x y : ℕ) → x ≤ y → x / 4096 / 524288 ≤ y / 4096 / 524288
@@ -200,7 +201,7 @@ module _ {K : List ℕ} {n : ℕ} {W : List Float} {seen : List ℕ} {count stat
     unfolding intern
     ready_new e count' p = rw p (record {
       few = omega arith;
-      known = sym (ap distinct (led_none K W s j (let a = j_low in omega arith) (λ i l y. let a = I.low i l in let b = I.ahead j (omega arith) h in e (omega arith))));
+      known = sym (ap distinct (led_none K W s j (omega arith) (λ i l y. let a = I.low i l in let b = I.ahead j (omega arith) h in e (omega arith))));
     })
 
     -- what the test of key j says, of the place, the target and the source that are read of it
@@ -215,53 +216,60 @@ module _ {K : List ℕ} {n : ℕ} {W : List Float} {seen : List ℕ} {count stat
         pick (inr e) = let a = I.low i (omega arith) in let b = I.ahead j (omega arith) h in omega arith
 
     calms : (x : ℕ) → x ≢ s → length (distinct (led K W (j + 1) x)) ≤ 31
-    calms x e = subst (λ (l : List ℕ). length (distinct l) ≤ 31) (sym (more_none K W j j_low x (λ y. e (sym y)))) (calm_all x)
+    calms x e = subst (λ (l : List ℕ). length (distinct l) ≤ 31) (sym (more_none K W j h x (λ y. e (sym y)))) (calm_all x)
 
     module _ (count' : ℕ) (Y : Ready count') where
-      pub crowd_self : not (z || eqb t s) ≡ false → (seen'' : List ℕ) (count'' s' : ℕ) → seen'' ≡ seen → count'' ≡ count' → s' ≡ s → Crowding K n W seen'' count'' s' (j + 1)
+      pub crowd_self : not (z || eqb t s) ≡ false → (seen'' : List ℕ) (count'' s' : ℕ) → seen'' ≡ seen → count'' ≡ count' → s' ≡ s → Crowding K W seen'' count'' s' (j + 1)
       crowd_self e seen'' count'' s' p q v = rw (p, q, v) (record {
         j_in = omega arith;
         size = I.size;
         few = Y.few;
-        known = Y.known ∙ ap distinct (sym (more_self K W j j_low (not-false _ e)));
+        known = Y.known ∙ ap distinct (sym (more_self K W j h (not-false _ e)));
         calm = calms;
         low = lows;
         ahead = rest;
       })
 
-      module _ (e : not (z || eqb t s) ≡ true) (seen₁ : List ℕ) (u : ℕ) (same : seen₁ ≡ seen) (read : u ≡ t) (seen' : List ℕ) (r : ℕ) (added : Noted seen₁ count' u seen' r) where
-        N : Noted seen count' t seen' r
-        N = subst (λ (l : List ℕ). Noted l count' t seen' r) same (subst (λ (x : ℕ). Noted seen₁ count' x seen' r) read added)
-
+      module _ (e : not (z || eqb t s) ≡ true) (seen₁ : List ℕ) (u : ℕ) (same : seen₁ ≡ seen) (read : u ≡ t) where
         noted_is : intern (take count' seen) (t ∷ []) ≡ distinct (led K W (j + 1) s)
-        noted_is = ap (λ (l : List ℕ). intern l (t ∷ [])) Y.known ∙ sym (more_one K W j j_low (not-true _ e))
+        noted_is = ap (λ (l : List ℕ). intern l (t ∷ [])) Y.known ∙ sym (more_one K W j h (not-true _ e))
 
-        pub crowd_more : length seen' ≡ length seen → r ≤ 31 → (seen'' : List ℕ) (count'' s' : ℕ) → seen'' ≡ seen' → count'' ≡ r → s' ≡ s → Crowding K n W seen'' count'' s' (j + 1)
-        crowd_more y l seen'' count'' s' p q v = rw (p, q, v) (record {
+        pub crowd_more : (seen' : List ℕ) (r : ℕ) → Noted seen₁ count' u seen' r → length seen' ≡ length seen
+            → (seen'' : List ℕ) (count'' s' : ℕ) → seen'' ≡ seen' → count'' ≡ r → s' ≡ s → Crowding K W seen'' count'' s' (j + 1)
+        crowd_more seen' r added y seen'' count'' s' p q v = rw (p, q, v) (record {
           j_in = omega arith;
           size = y ∙ I.size;
-          few = l;
-          known = N.known (let a = I.size in omega arith) ∙ noted_is;
+          few = let a = N.room in let b = I.size in omega arith;
+          known = N.known ∙ noted_is;
           calm = calms;
           low = lows;
           ahead = rest;
         })
+          where
+            N : Noted seen count' t seen' r
+            N = subst (λ (l : List ℕ). Noted l count' t seen' r) same (subst (λ (x : ℕ). Noted seen₁ count' x seen' r) read added)
 
-        pub crowd_found : 31 < r → Crowded K n W true
-        crowd_found l = record {
+        pub crowd_found : Overfull seen₁ count' u → Crowded K W true
+        crowd_found full = record {
           same = λ states all.
-              let a = N.size ∙ ap length noted_is in
-              let w = R.within in
-              let y : (j + 1) + Prim.Native.Nat.◌-◌ n (j + 1) ≡ n = omega arith in
-              let b = led_grows K W s (j + 1) (Prim.Native.Nat.◌-◌ n (j + 1)) (omega arith) in
+              let a = ap length noted_is in
+              let o = over in
+              let size = I.size in
+              let y : (j + 1) + Prim.Native.Nat.◌-◌ (length K) (j + 1) ≡ length K = omega arith in
+              let b = led_grows K W s (j + 1) (Prim.Native.Nat.◌-◌ (length K) (j + 1)) (omega arith) in
               let g = ap (λ (x : ℕ). length (distinct (led K W x s))) y in
-              sym (crowded_by (nonzero (map (edge_of W) (take n K))) states s (all j h) (lt-ltb 31 (length (distinct (led K W n s))) (omega arith)));
+              let f = ap (λ (l : List ℕ). length (distinct l)) (led_all K W s) in
+              sym (crowded_by (nonzero (map (edge_of W) K)) states s (all j h) (lt-ltb 31 (length (distinct (others s (nonzero (map (edge_of W) K))))) (omega arith)));
         }
+          where
+            over : Overfull seen count' t
+            over = subst (λ (l : List ℕ). Overfull l count' t) same (subst (λ (x : ℕ). Overfull seen₁ count' x) read full)
 
-  pub crowd_none : n ≤ j → Crowded K n W false
+  pub crowd_none : length K ≤ j → Crowded K W false
   crowd_none h = record {
     same = λ states all.
         let a = I.j_in in
-        let e : j ≡ n = omega arith in
-        sym (crowded_not (nonzero (map (edge_of W) (take n K))) states (λ s k. le-ltb 31 (length (distinct (led K W n s))) (subst (λ (x : ℕ). length (distinct (led K W x s)) ≤ 31) e (calm_all s))));
+        let e : j ≡ length K = omega arith in
+        sym (crowded_not (nonzero (map (edge_of W) K)) states (λ s k. le-ltb 31 (length (distinct (others s (nonzero (map (edge_of W) K)))))
+        (let c = calm_all s in let d = ap (λ (x : ℕ). length (distinct (led K W x s))) e in let f = ap (λ (l : List ℕ). length (distinct l)) (led_all K W s) in omega arith)));
   }

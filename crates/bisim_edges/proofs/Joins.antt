@@ -10,7 +10,8 @@ use native.Mathlib.Nat.{le_of_suc-le-suc, not-suc-le-zero}
 use lib.Dec.{eqb}
 use lib.Ieee.{Float, nan, binary64, add}
 use lib.ListN.{length, get_or, drop, set, length-append, length-map, length-drop}
-use lib.Seq.{slice, slice-cons, slice_empty}
+use lib.Seq.{drop-cons}
+use Rattle.std.proofs.lemmas.List.{drop_all}
 use borrow.Author.Tests.{eq-eqb, eqb-true}
 use Rattle.numbers.specs.Lists.{over}
 use Rattle.numbers.specs.Real.{is_zero}
@@ -19,7 +20,7 @@ use Rattle.bisim_core.specs.Data.{Edge}
 use Rattle.build_theory.specs.Edges.{same, taken, ended, runs, join, keep, nonzero}
 use Rattle.build_theory.proofs.Orders.{whole}
 use Rattle.build_theory.proofs.Plan.{weight_of}
-use Rattle.build_theory.proofs.Steps.{edge_in, edge_of, rank, stored, grown, Pushed, Keys, joined, Joined}
+use Rattle.build_theory.proofs.Steps.{edge_in, edge_of, rank, stored, grown, Pushed, joined, Joined}
 
 -- ---- triples
 
@@ -49,6 +50,21 @@ same_ne p q v w h = pick (same (edge_in p v) (edge_in q w)) refl
     pick false e = refl
 
 -- ---- the edges stored
+
+-- a run that ends is not stored, if its sum is zero; else it is one more
+pub not_pushed : (T : List ℕ) (W : List Float) (m q : ℕ) (w : Float) → is_zero w ≡ true → Pushed T W m q w T W m
+not_pushed T W m q w z = record {
+  triples = ap (λ b. stored b T m q) (sym z);
+  sums = ap (λ b. stored b W m w) (sym z);
+  count = ap (λ b. grown b m) (sym z);
+}
+
+pub one_pushed : (T : List ℕ) (W : List Float) (m q : ℕ) (w : Float) → is_zero w ≡ false → (T' : List ℕ) → T' ≡ set T m q → (W' : List Float) → W' ≡ set W m w → Pushed T W m q w T' W' (m + 1)
+one_pushed T W m q w z T' t W' u = record {
+  triples = t ∙ ap (λ b. stored b T m q) (sym z);
+  sums = u ∙ ap (λ b. stored b W m w) (sym z);
+  count = ap (λ b. grown b m) (sym z);
+}
 
 -- one more entry over the front of a list
 over_snoc : {A : Type 0} (l d : List A) (x : A) → length l < length d → set (over l d) (length l) x ≡ over (l ++ (x ∷ [])) d
@@ -106,25 +122,25 @@ kept_before E false a rest = append_assoc E (a ∷ []) rest
 pub behind : (x : ℕ) (l : List ℕ) (i : ℕ) → get_or l i 0 ≡ get_or (x ∷ l) (i + 1) 0
 behind x l i = rw (add-one i) refl
 
-pub record Joining (K : List ℕ) (n : ℕ) (W : List Float) (T₀ : List ℕ) (U₀ : List Float) (T : List ℕ) (U : List Float) (run : ℕ) (sum : Float) (m i : ℕ) : Type 0 where
-  pub i_in : i ≤ n
+pub record Joining (K : List ℕ) (W : List Float) (T₀ : List ℕ) (U₀ : List Float) (T : List ℕ) (U : List Float) (run : ℕ) (sum : Float) (m i : ℕ) : Type 0 where
+  pub i_in : i ≤ length K
   pub m_low : m < i
   pub made : List Edge
   pub holds : Holds T₀ U₀ T U made m
-  pub same_edges : made ++ nonzero (runs (edge_in run sum) (map (edge_of W) (slice i n K))) ≡ joined K n W
+  pub same_edges : made ++ nonzero (runs (edge_in run sum) (map (edge_of W) (drop i K))) ≡ joined K W
 
-module _ (K : List ℕ) (n : ℕ) (W : List Float) (T₀ : List ℕ) (U₀ : List Float) (J : Keys K n) where
-  pub joining : n ≢ 0 → (run at m : ℕ) → run ≡ get_or K 0 0 / 4096 → at ≡ get_or K 0 0 % 4096 → m ≡ 0 → Joining K n W T₀ U₀ T₀ U₀ run (get_or W at nan) m 1
-  unfolding join
-  joining h run at m p q r = rw (p, q, r) (record {
-    i_in = omega arith;
-    m_low = omega arith;
-    made = [];
-    holds = record { triples = refl; sums = refl; count = refl };
-    same_edges = ap (λ (l : List ℕ). nonzero (join (map (edge_of W) l))) (sym (slice-cons 0 n K 0 (omega arith) J.within));
-  })
+pub joining : (x : ℕ) (l : List ℕ) (W : List Float) (T₀ : List ℕ) (U₀ : List Float) (run at m : ℕ) → run ≡ x / 4096 → at ≡ x % 4096 → m ≡ 0 → Joining (x ∷ l) W T₀ U₀ T₀ U₀ run (get_or W at nan) m 1
+unfolding join
+joining x l W T₀ U₀ run at m p q r = rw (p, q, r) (record {
+  i_in = omega arith;
+  m_low = omega arith;
+  made = [];
+  holds = record { triples = refl; sums = refl; count = refl };
+  same_edges = refl;
+})
 
-  module _ (t-in : n ≤ length T₀) (u-in : n ≤ length U₀) {T : List ℕ} {U : List Float} {run : ℕ} {sum : Float} {m i : ℕ} (I : Joining K n W T₀ U₀ T U run sum m i) where
+module _ (K : List ℕ) (W : List Float) (T₀ : List ℕ) (U₀ : List Float) where
+  module _ (t-in : length K ≤ length T₀) (u-in : length K ≤ length U₀) {T : List ℕ} {U : List Float} {run : ℕ} {sum : Float} {m i : ℕ} (I : Joining K W T₀ U₀ T U run sum m i) where
     m_t : m < length T₀
     m_t = let a = I.m_low in let b = I.i_in in omega arith
 
@@ -144,7 +160,7 @@ module _ (K : List ℕ) (n : ℕ) (W : List Float) (T₀ : List ℕ) (U₀ : Lis
     grown_low true = let a = I.m_low in omega arith
     grown_low false = let a = I.m_low in omega arith
 
-    module _ (h : i < n) where
+    module _ (h : i < length K) where
       abbrev k : ℕ
       k = get_or K i 0
 
@@ -154,12 +170,12 @@ module _ (K : List ℕ) (n : ℕ) (W : List Float) (T₀ : List ℕ) (U₀ : Lis
       abbrev w : Float
       w = get_or W (k % 4096) nan
 
-      cut : slice i n K ≡ k ∷ slice (suc i) n K
-      cut = slice-cons i n K 0 h J.within
+      cut : drop i K ≡ k ∷ drop (suc i) K
+      cut = drop-cons K i 0 h
 
       -- the run goes on
       pub goes_on : q ≡ run → (T' : List ℕ) (U' : List Float) (run' : ℕ) (sum' : Float) (m' : ℕ) → T' ≡ T → U' ≡ U → run' ≡ run → sum' ≡ add binary64 sum w → m' ≡ m
-          → Joining K n W T₀ U₀ T' U' run' sum' m' (i + 1)
+          → Joining K W T₀ U₀ T' U' run' sum' m' (i + 1)
       unfolding runs
       goes_on e T' U' run' sum' m' eT eU er es em = rw (eT, eU, er, es, em) (record {
         i_in = omega arith;
@@ -170,39 +186,39 @@ module _ (K : List ℕ) (n : ℕ) (W : List Float) (T₀ : List ℕ) (U₀ : Lis
       })
         where
           pick : (b : Bool) → same (edge_in run sum) (edge_in q w) ≡ b → b ≡ true
-              → ended b (edge_in run sum) (runs (taken b (edge_in run sum) (edge_in q w)) (map (edge_of W) (slice (suc i) n K))) ≡ runs (edge_in run (add binary64 sum w)) (map (edge_of W) (slice (suc i) n K))
+              → ended b (edge_in run sum) (runs (taken b (edge_in run sum) (edge_in q w)) (map (edge_of W) (drop (suc i) K))) ≡ runs (edge_in run (add binary64 sum w)) (map (edge_of W) (drop (suc i) K))
           pick true e t = refl
           pick false e t = absurd (false≢true t)
 
-          step : runs (edge_in run sum) (map (edge_of W) (slice i n K)) ≡ runs (edge_in run (add binary64 sum w)) (map (edge_of W) (slice (suc i) n K))
+          step : runs (edge_in run sum) (map (edge_of W) (drop i K)) ≡ runs (edge_in run (add binary64 sum w)) (map (edge_of W) (drop (suc i) K))
           step = ap (λ (l : List ℕ). runs (edge_in run sum) (map (edge_of W) l)) cut
               ∙ pick (same (edge_in run sum) (edge_in q w)) refl (subst (λ (x : ℕ). same (edge_in run sum) (edge_in x w) ≡ true) (sym e) (same_of run sum w))
 
       -- the run ends, and another begins
       pub begins : q ≢ run → (T' : List ℕ) (U' : List Float) (m' : ℕ) → Pushed T U m run sum T' U' m'
           → (T'' : List ℕ) (U'' : List Float) (run'' : ℕ) (sum'' : Float) (m'' : ℕ) → T'' ≡ T' → U'' ≡ U' → run'' ≡ q → sum'' ≡ w → m'' ≡ m'
-          → Joining K n W T₀ U₀ T'' U'' run'' sum'' m'' (i + 1)
+          → Joining K W T₀ U₀ T'' U'' run'' sum'' m'' (i + 1)
       unfolding runs nonzero
       begins e T' U' m' P T'' U'' run'' sum'' m'' eT eU er es em = rw (eT, eU, er, es, em) (record {
         i_in = omega arith;
         m_low = let a = subst (λ (x : ℕ). x ≤ i) (sym P.count) (grown_low (is_zero sum)) in omega arith;
         made = I.made ++ keep (is_zero sum) (edge_in run sum) [];
         holds = pushed I.holds m_t m_u run sum T' U' m' P;
-        same_edges = rw (add-one i) (kept_before I.made (is_zero sum) (edge_in run sum) (nonzero (runs (edge_in q w) (map (edge_of W) (slice (suc i) n K))))
+        same_edges = rw (add-one i) (kept_before I.made (is_zero sum) (edge_in run sum) (nonzero (runs (edge_in q w) (map (edge_of W) (drop (suc i) K))))
             ∙ ap (λ (l : List Edge). I.made ++ nonzero l) (sym step) ∙ I.same_edges);
       })
         where
           pick : (b : Bool) → same (edge_in run sum) (edge_in q w) ≡ b → b ≡ false
-              → ended b (edge_in run sum) (runs (taken b (edge_in run sum) (edge_in q w)) (map (edge_of W) (slice (suc i) n K))) ≡ edge_in run sum ∷ runs (edge_in q w) (map (edge_of W) (slice (suc i) n K))
+              → ended b (edge_in run sum) (runs (taken b (edge_in run sum) (edge_in q w)) (map (edge_of W) (drop (suc i) K))) ≡ edge_in run sum ∷ runs (edge_in q w) (map (edge_of W) (drop (suc i) K))
           pick true e t = absurd (true≢false t)
           pick false e t = refl
 
-          step : runs (edge_in run sum) (map (edge_of W) (slice i n K)) ≡ edge_in run sum ∷ runs (edge_in q w) (map (edge_of W) (slice (suc i) n K))
+          step : runs (edge_in run sum) (map (edge_of W) (drop i K)) ≡ edge_in run sum ∷ runs (edge_in q w) (map (edge_of W) (drop (suc i) K))
           step = ap (λ (l : List ℕ). runs (edge_in run sum) (map (edge_of W) l)) cut
               ∙ pick (same (edge_in run sum) (edge_in q w)) refl (same_ne run q sum w (λ z. e (sym z)))
 
     -- the end: the last run is pushed
-    pub all_joined : n ≤ i → (T' : List ℕ) (U' : List Float) (r : ℕ) → Pushed T U m run sum T' U' r → Joined K n W T₀ U₀ T' U' r
+    pub all_joined : length K ≤ i → (T' : List ℕ) (U' : List Float) (r : ℕ) → Pushed T U m run sum T' U' r → Joined K W T₀ U₀ T' U' r
     unfolding runs nonzero
     all_joined h T' U' r P = record {
       triples = H.triples ∙ ap (λ (l : List Edge). over (map rank l) T₀) all;
@@ -213,15 +229,13 @@ module _ (K : List ℕ) (n : ℕ) (W : List Float) (T₀ : List ℕ) (U₀ : Lis
         H : Holds T₀ U₀ T' U' (I.made ++ keep (is_zero sum) (edge_in run sum) []) r
         H = pushed I.holds m_t m_u run sum T' U' r P
 
-        step : runs (edge_in run sum) (map (edge_of W) (slice i n K)) ≡ edge_in run sum ∷ []
-        step =
-            let a = I.i_in in
-            let e : i ≡ n = omega arith in
-            ap (λ (l : List ℕ). runs (edge_in run sum) (map (edge_of W) l)) (ap (λ (x : ℕ). slice x n K) e ∙ slice_empty n K)
+        step : runs (edge_in run sum) (map (edge_of W) (drop i K)) ≡ edge_in run sum ∷ []
+        step = ap (λ (l : List ℕ). runs (edge_in run sum) (map (edge_of W) l)) (drop_all i K h)
 
-        all : I.made ++ keep (is_zero sum) (edge_in run sum) [] ≡ joined K n W
+        all : I.made ++ keep (is_zero sum) (edge_in run sum) [] ≡ joined K W
         all = ap (λ (l : List Edge). I.made ++ nonzero l) (sym step) ∙ I.same_edges
 
-  pub joined_none : n ≡ 0 → Joined K n W T₀ U₀ T₀ U₀ 0
-  unfolding join nonzero
-  joined_none e = rw e (record { triples = refl; sums = refl; count = refl })
+pub joined_none : (K : List ℕ) (W : List Float) (T₀ : List ℕ) (U₀ : List Float) → length K ≡ 0 → Joined K W T₀ U₀ T₀ U₀ 0
+unfolding join nonzero
+joined_none [] W T₀ U₀ e = record { triples = refl; sums = refl; count = refl }
+joined_none (x ∷ K) W T₀ U₀ e = absurd (omega arith)

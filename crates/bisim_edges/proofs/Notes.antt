@@ -1,4 +1,4 @@
--- One value more, as `note` has it: known, new with room for it, or new without.
+-- One value more, as `Seen::add` has it: known, new with room for it, or new without.
 use mathlib.Core.Path.{◌≡◌, sym, ap, ◌∙◌}
 use Prim.Native.Nat.{ℕ, ◌+◌, ◌≤◌, ◌<◌}
 use mathlib.Core.List.{List, [], ◌∷◌, ◌++◌}
@@ -12,7 +12,7 @@ use Rattle.std.specs.Prelude.{Option, is_some}
 use Rattle.numbers.specs.Search.{place}
 use Rattle.bisim_core.specs.Ids.{intern, listed}
 use Rattle.bisim_core.proofs.Interning.{placed}
-use Rattle.build_theory.proofs.Steps.{Noted}
+use Rattle.build_theory.proofs.Steps.{Noted, Overfull}
 use Rattle.bisim_core.proofs.Distinct.{intern_old, intern_new}
 
 module _ (seen : List ℕ) (count t : ℕ) (w : count ≤ length seen) {k : Option ℕ} (e : k ≡ place t (take count seen)) where
@@ -28,7 +28,7 @@ module _ (seen : List ℕ) (count t : ℕ) (w : count ≤ length seen) {k : Opti
       let l = known_length in
       let f = ltb-true _ _ (is_listed h) in
       let z : intern (take count seen) (t ∷ []) ≡ take count seen = intern_old (take count seen) t [] (omega arith) in
-      record { size = sym (ap length z ∙ l); known = λ r. sym z }
+      record { room = w; known = sym z }
 
   module _ (h : is_some k ≡ false) where
     new : intern (take count seen) (t ∷ []) ≡ take count seen ++ (t ∷ [])
@@ -39,7 +39,7 @@ module _ (seen : List ℕ) (count t : ℕ) (w : count ≤ length seen) {k : Opti
     grown = let a = ap length new in let b = length-append (take count seen) (t ∷ []) in let l = known_length in omega arith
 
     pub note_new : count < length seen → (seen' : List ℕ) → seen' ≡ set seen count t → Noted seen count t seen' (count + 1)
-    note_new g seen' p = rw p (record { size = grown; known = λ r. ap (λ (x : ℕ). take x (set seen count t)) (add-one count) ∙ take-suc-set seen count t g ∙ sym new })
+    note_new g seen' p = rw p (record { room = omega arith; known = ap (λ (x : ℕ). take x (set seen count t)) (add-one count) ∙ take-suc-set seen count t g ∙ sym new })
 
-    pub note_full : length seen ≤ count → (seen' : List ℕ) → Noted seen count t seen' (length seen + 1)
-    note_full g seen' = record { size = let e = grown in omega arith; known = λ r. absurd (omega arith) }
+    pub note_full : length seen ≤ count → Overfull seen count t
+    note_full g = let e = grown in omega arith

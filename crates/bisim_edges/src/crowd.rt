@@ -1,7 +1,7 @@
 // Check 6: the targets of a state.
-ghost use Rattle.std.specs.Prelude.{◌≡◌, ◌||◌, not, ◌+◌, ◌≤◌, eqb, length, true, false};
+ghost use Rattle.std.specs.Prelude.{◌≡◌, ◌||◌, not, ◌≤◌, eqb, length, true, false};
 ghost use Rattle.numbers.specs.Real.{is_zero};
-ghost use Rattle.build_theory.proofs.Steps.{Keys, Noted, Crowded};
+ghost use Rattle.build_theory.proofs.Steps.{Keys, Noted, Overfull, Crowded};
 
 use build_theory::keys::Key;
 use numbers::seek;
@@ -21,8 +21,8 @@ impl Seen {
     fn add(&mut self, t: u32) -> bool
         requires { self.old.count ≤ length self.old.targets }
         ensures added { result ≡ true → Noted self.old.targets self.old.count t self.new.targets self.new.count }
-        ensures full { result ≡ false → Noted self.old.targets self.old.count t self.new.targets (length self.old.targets + 1) }
-        ensures room { (length self.new.targets ≡ length self.old.targets) × (self.new.count ≤ length self.old.targets) }
+        ensures full { result ≡ false → Overfull self.old.targets self.old.count t }
+        ensures room { length self.new.targets ≡ length self.old.targets }
     {
         if seek(&self.targets[..self.count], t).is_some() {
             return true;
@@ -45,8 +45,8 @@ fn leads(s: u64, t: u64, w: f64) -> bool
 
 // 6: whether some state has over 31 distinct targets other than itself, zero weights dropped. `seen` holds those of the state at hand.
 pub(crate) fn crowded(keys: &[u64], weights: &[f64]) -> bool
-    requires { Keys keys.now (length keys.now) × (length keys.now ≤ length weights.now) }
-    ensures { Crowded keys.now (length keys.now) weights.now result }
+    requires { Keys keys.now × (length keys.now ≤ length weights.now) }
+    ensures { Crowded keys.now weights.now result }
 {
     let mut seen = Seen {
         targets: [0; MOST],

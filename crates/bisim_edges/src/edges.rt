@@ -1,5 +1,5 @@
 // From sorted transitions to edges: equal triples joined, zero weights dropped.
-ghost use Rattle.std.specs.Prelude.{◌≡◌, ◌+◌, ◌≤◌, ◌<◌, ◌∷◌, length};
+ghost use Rattle.std.specs.Prelude.{◌≡◌, ◌≤◌, ◌<◌, ◌∷◌, length};
 ghost use Rattle.build_theory.proofs.Steps.{Pushed, Keys, Joined};
 ghost use Rattle.bisim_edges.specs.Lent.{numbers};
 
@@ -31,10 +31,10 @@ impl Edges<'_> {
     // Those of sorted keys, of which the first is apart.
     fn join(&mut self, first: Key, rest: &[u64], weights: &[f64])
         requires few { self.old.len ≡ 0 }
-        requires keys { Keys (first.0 ∷ rest.now) (length rest.now + 1) × (length rest.now < length weights.now) }
+        requires keys { Keys (first.0 ∷ rest.now) × (length rest.now < length weights.now) }
         requires room { (length rest.now < length self.old.triples.now) × (length rest.now < length self.old.sums.now) }
         ensures lists { (self.new.triples.ghost_name ≡ self.old.triples.ghost_name) × (self.new.sums.ghost_name ≡ self.old.sums.ghost_name) }
-        ensures joined { Joined (first.0 ∷ rest.now) (length rest.now + 1) weights.now (numbers self.old.triples.now) self.old.sums.now (numbers self.new.triples.now) self.new.sums.now self.new.len }
+        ensures joined { Joined (first.0 ∷ rest.now) weights.now (numbers self.old.triples.now) self.old.sums.now (numbers self.new.triples.now) self.new.sums.now self.new.len }
     {
         let mut run = first.triple();
         let mut sum = weights[first.at()];
@@ -60,8 +60,8 @@ pub(crate) fn join_runs(
     triples: &mut [Triple],
     sums: &mut [f64],
 ) -> usize
-    requires { Keys keys.now (length keys.now) × (length keys.now ≤ length weights.now) × (length keys.now ≤ length triples.old) × (length keys.now ≤ length sums.old) }
-    ensures { Joined keys.now (length keys.now) weights.now (numbers triples.old) sums.old (numbers triples.new) sums.new result }
+    requires { Keys keys.now × (length keys.now ≤ length weights.now) × (length keys.now ≤ length triples.old) × (length keys.now ≤ length sums.old) }
+    ensures { Joined keys.now weights.now (numbers triples.old) sums.old (numbers triples.new) sums.new result }
 {
     let Some((first, rest)) = keys.split_first() else {
         return 0;

@@ -19,6 +19,7 @@ use distance_words::told::Answer;
 use numbers::refusal::Refusal;
 
 // Every entry of the lists that are lent for a chain is 0.
+// Stays: `measure` alone calls it; a method of `ChainStore` would stand in chain_theory and be public.
 fn clear_chain(chain: &mut ChainStore)
     ensures same_lists { SameLists chain.old chain.new }
     ensures cleared { of_store chain.new ≡ blank (of_store chain.old) }
@@ -30,7 +31,7 @@ fn clear_chain(chain: &mut ChainStore)
 }
 
 // Two models measured: a refusal of the arguments leaves all as it was; else the chains are made and run, and every list is all zero.
-// Stays: a side and the store for its chain as one struct is refused where exports makes it: 'a struct holds at one lifetime parameter two references at two lifetimes of the signature'.
+// Stays: a side and the store for its chain as one struct would have four lifetimes (with one it is refused where exports makes it: 'a struct holds at one lifetime parameter two references at two lifetimes of the signature'), and each function that it is lent to by `&mut` would promise besides that the side is as it was.
 pub fn measure(
     left: &Observed,
     left_chain: &mut ChainStore,

@@ -2,12 +2,13 @@
 -- By the number of the refusal: one that is not 0 stands, and without one the final relation is read at the initial states, which are below their counts.
 use mathlib.Core.Path.{◌≡◌, refl, sym, ap, ◌∙◌}
 use Prim.Native.Nat.{ℕ, zero, suc, ◌+◌, ◌*◌, ◌/◌, ◌≤◌}
-use mathlib.Core.Bool.{Bool, ◌||◌}
+use mathlib.Core.Bool.{Bool, false, ◌||◌, true≢false}
 use mathlib.Core.List.{List}
 use native.Mathlib.Omega.{arith}
 use lib.ListN.{length, drop, replicate, length-append, length-drop}
 use lib.Ieee.{Float}
-use Rattle.std.specs.Prelude.{Result, Ok, Err, IsErrAnd}
+use Rattle.std.specs.Prelude.{Option, Some, None, IsSome, Result, Ok, Err, IsErrAnd}
+use Rattle.std.specs.Result.{is_ok}
 use Rattle.numbers.specs.declared.refusal.Refusal.{Refusal}
 use Rattle.numbers.specs.Refuse.{number, numbered}
 use Rattle.numbers.specs.Bits.{packed}
@@ -15,11 +16,12 @@ use Rattle.numbers.specs.Lists.{over}
 use Rattle.numbers.proofs.Bools.{or_f}
 use Rattle.numbers.proofs.Packed.{packed_length}
 use Rattle.bisim_core.specs.Data.{Columns}
+use Rattle.bisim_core.specs.declared.ids.StateId.{StateId}
 use Rattle.bisim_core.specs.declared.wlts.Shape.{Shape}
 use Rattle.epsdelta_theory.specs.Relation.{related, relation_bytes}
 use Rattle.epsdelta_theory.specs.Epsdelta.{given, task, epsdelta}
 use Rattle.epsdelta_theory.specs.Claim.{final}
-use Rattle.epsdelta_theory.specs.Refusal.{absent, tolerances_outside, bisimilar_refusal}
+use Rattle.epsdelta_theory.specs.Refusal.{absent, tolerances_outside, relation_refusal, bisimilar_refusal}
 use Rattle.epsdelta_theory.specs.Bisimilar.{start, bisimilar}
 use Rattle.epsdelta_theory.proofs.Runs.{run_length}
 use Rattle.epsdelta_theory.proofs.Theorem.{total}
@@ -43,6 +45,15 @@ concluded (Ok x) left right s t store = ends (related_outcome left right store s
 pub handed_on : {A : Type 0} (a : Result A Refusal) (r : Refusal) (store : List ℕ) → IsErrAnd a (λ e. e ≡ r) → ends (numbered a) store ≡ ends (Err (number r)) store
 handed_on (Ok x) r store h = absurd h
 handed_on (Err e) r store h = ap (λ (x : Refusal). ends (Err (number x)) store) h
+
+-- an answer comes of no refusal
+answered_zero : (n : ℕ) {x : Unit {0}} {bytes : List ℕ} (store : List ℕ) (R : List Bool) → made.ends (Ok x) bytes ≡ made.settled n store R → n ≡ 0
+answered_zero zero store R e = refl
+answered_zero (suc n) store R e = absurd (true≢false (ap (λ (o : made.Outcome (Result (Unit {0}) ℕ)). is_ok o.answer) e))
+
+present : (i : Option StateId) → absent i ≡ false → IsSome i
+present None e = absurd (true≢false e)
+present (Some s) e = refl
 
 module _ (SL : Shape) (ML : Columns) (SR : Shape) (MR : Columns) (cl cr : List ℕ) (ε ρ : Float) where
   abbrev R : List Bool
@@ -78,6 +89,13 @@ module _ (SL : Shape) (ML : Columns) (SR : Shape) (MR : Columns) (cl cr : List �
     unfolding bisimilar_refusal
     settle zero e = read (passed (absent SL.initial || absent SR.initial) (tolerances_outside ε ρ) SL ML SR MR cl cr (length store) e)
     settle (suc n) e = refl
+
+    -- an answer comes of two models with initial states
+    pub both_present : {b : Bool} {x : Unit {0}} {bytes : List ℕ} → b ≡ (absent SL.initial || absent SR.initial) → made.ends (Ok x) bytes ≡ made.outcome_unless b SL ML SR MR cl cr ε ρ store → IsSome SL.initial × IsSome SR.initial
+    both_present {b} p e =
+        let P = passed b (tolerances_outside ε ρ) SL ML SR MR cl cr (length store) (answered_zero (relation_refusal b (tolerances_outside ε ρ) SL ML SR MR cl cr (length store)) store R e) in
+        let a = or_f (absent SL.initial) (absent SR.initial) (sym p ∙ P.passes8) in
+        (present SL.initial a.0, present SR.initial a.1)
 
     -- the relation made or refused, then read and cleared
     pub ended_by : {b : Bool} {s t : ℕ} (x : Result (Unit {0}) ℕ) (bytes : List ℕ) → b ≡ (absent SL.initial || absent SR.initial) → s ≡ start SL.initial → t ≡ start SR.initial

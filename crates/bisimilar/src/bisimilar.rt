@@ -13,7 +13,6 @@ use epsdelta::asked::{Settings, Sides};
 use epsdelta::relation::epsdelta_unless;
 use epsdelta_theory::tolerances::Tolerances;
 use numbers::refusal::Refusal;
-use parts::starts::start;
 
 // Whether one of two models has no initial state.
 fn one_absent(left: Option<StateId>, right: Option<StateId>) -> bool
@@ -53,5 +52,5 @@ pub fn epsdelta_bisimilar(
         absent: one_absent(first, second),
     };
     epsdelta_unless(&settings, relation)?;
-    conclude(sides, start(first), start(second), relation)
+    conclude(sides, first.unwrap(), second.unwrap(), relation)
 }

@@ -27,11 +27,8 @@ const WEIGHTS: Bounds = Bounds {
 fn all_below(draft: &Draft, column: &[u32]) -> bool
     ensures { result ≡ all (λ x. ltb x draft.now.states) (take draft.now.given column.now) }
 {
-    let bound = draft.states;
-    column
-        .iter()
-        .take(draft.given)
-        .all(|x| (*x as usize) < bound)
+    let counting = &column[..draft.given.min(column.len())];
+    numbers::all_below(counting, draft.states)
 }
 
 // 4: a state number that is not below the state count.

@@ -34,7 +34,7 @@ fn print_both(
     let middle = heads.left.states as usize;
     let end = middle + heads.right.states as usize;
     match models {
-        Err(refusal) => refusal_text(refusal, out),
+        Err(refusal) => refusal_text(refusal.number(), out),
         Ok((a, b)) => {
             let sides = Sides {
                 left: Side {
@@ -174,7 +174,7 @@ pub fn report(card: &[u8], out: &mut [u8]) -> Result<usize, Refusal>
         weights: &mut weights,
     };
     match read_card(card, &mut lists) {
-        Err(refusal) => refusal_text(refusal, out),
+        Err(refusal) => refusal_text(refusal.number(), out),
         Ok(heads) => print_card(heads, &lists, out),
     }
 }

@@ -3,10 +3,11 @@ use mathlib.Core.Path.{◌≡◌, sym, ap, ◌∙◌}
 use mathlib.Core.Bool.{Bool, true, false}
 use mathlib.Core.List.{List}
 use Prim.Native.Nat.{ℕ, ◌+◌, ◌*◌, ◌-◌, ◌≤◌, ◌<◌}
+use native.Mathlib.Omega.{arith}
 use lib.ListN.{length, take, drop}
 use lib.Seq.{drop-drop}
 use borrow.Author.Tests.{lt-ltb, le-ltb}
-use Rattle.card_layout.specs.Layout.{laid}
+use Rattle.card_layout.specs.Layout.{value, laid}
 use Rattle.card_layout.proofs.Steps.{rest_is}
 use Rattle.card_layout.specs.Card.{states, count, class_part, transition_part, side_fault}
 
@@ -31,6 +32,16 @@ module _ (bs : List ℕ) (n m : ℕ) (en : n ≡ states bs) (em : m ≡ count bs
 
   pub transitions_laid : {r b : Bool} → r ≡ laid m 4 (take (length lines - 7 * n) (drop (7 * n) lines)) → r ≡ b → laid (count bs) 4 (transition_part bs) ≡ b
   transitions_laid e t = sym (e ∙ ap (laid m 4) transition_lines ∙ ap (λ (x : ℕ). laid x 4 (transition_part bs)) em) ∙ t
+
+-- the parts of the model that begins at `at` among other bytes, n states
+module _ (s : List ℕ) (at n : ℕ) (en : n ≡ value (drop at s)) where
+  pub class_part_lem : class_part (drop at s) ≡ drop (at + 19) s
+  class_part_lem = drop-drop 19 at s
+
+  pub transition_part_lem : transition_part (drop at s) ≡ drop (at + 19 + 7 * n) s
+  transition_part_lem =
+      let e : at + (19 + 7 * n) ≡ at + 19 + 7 * n = omega arith in
+      ap (λ (x : ℕ). drop (19 + 7 * x) (drop at s)) (sym en) ∙ drop-drop (19 + 7 * n) at s ∙ ap (λ (x : ℕ). drop x s) e
 
 -- ---- the checks of a model
 

@@ -106,7 +106,7 @@ fn fill_classes(s: &[u8], n: u32, classes: &mut [u32])
 }
 
 // The transitions on the n lines that the bytes begin with, stored from `from` on.
-// Stays: with the lists cut for each model in `fill_card` there would be nine cuts, and a law for each that what is written to the part is written to the list, in place of `from` here and both places of `fill_side`; not tried. The four columns by `zip` would be four iterators in one, in place of i.
+// Stays: with the lists cut in `fill_card` the right model would have five cuts in place of one, each with a law that what is written to the part is written to the list, in place of `from` here and both places of `fill_side`. The four columns by `zip` would be four iterators in one, in place of i.
 fn fill_transitions(s: &[u8], n: u32, lists: &mut CardLists, from: usize)
     requires { (25 * n ≤ length s.now) × TransitionsRoom n from lists.old.sources.now lists.old.labels.now lists.old.targets.now lists.old.weights.now }
     ensures stored { TransitionsStored (Card.transitions_in n s.now) from lists.old.sources.now lists.old.labels.now lists.old.targets.now lists.old.weights.now lists.new.sources.now lists.new.labels.now lists.new.targets.now lists.new.weights.now }

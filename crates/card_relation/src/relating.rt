@@ -47,7 +47,7 @@ fn finish(
     let right = sides.right.model.shape.states as u32;
     match ended {
         Ok(()) => report_text(left, right, relation, out),
-        Err(refusal) => refusal_text(refusal, out),
+        Err(refusal) => refusal_text(refusal.number(), out),
     }
 }
 

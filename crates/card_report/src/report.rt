@@ -1,11 +1,10 @@
 // The report's text in a lent store.
 ghost use Rattle.std.specs.Prelude.{◌≡◌, ◌+◌, ◌*◌, ◌≤◌, ◌<◌, length};
-ghost use Rattle.numbers.specs.Refuse.{number, numbered};
+ghost use Rattle.numbers.specs.Refuse.{numbered};
 ghost use Rattle.epsdelta_theory.specs.Relation;
 ghost use Rattle.card_layout.proofs.Writes.{PairsPut};
 ghost use Rattle.card_report.specs.Report;
 ghost use Rattle.card_report.specs.Report.{relation_in, refusal_line, Printed};
-ghost use Rattle.card_report.specs.Paired.{Few, relation_of};
 
 use crate::lines::put_line;
 use epsdelta_theory::relation_bytes;
@@ -21,12 +20,15 @@ struct Pairs<'a> {
     relation: &'a [u8],
     left: u32,
     right: u32,
+    ghost few: { (left ≤ 32) × (right ≤ 32) },
 }
 
 impl Pairs<'_> {
+    ghost use Rattle.card_report.specs.Paired.{relation_of};
+
     // Left state s and right state t are related.
     fn related(&self, s: u32, t: u32) -> bool
-        requires { Few self.now × (s < self.now.left) × (t < self.now.right) }
+        requires { (s < self.now.left) × (t < self.now.right) }
         ensures { result ≡ Relation.related (self.now.left + self.now.right) self.now.left (relation_of self.now) s t }
     {
         let bit_of = s * (self.left + self.right) + (self.left + t);
@@ -35,7 +37,7 @@ impl Pairs<'_> {
 
     // The related pairs of left state s, written to the first bytes. Gives how many bytes.
     fn put_across(&self, s: u32, out: &mut [u8]) -> usize
-        requires { Few self.now × (s < self.now.left) × (13 * self.now.right ≤ length out.old) }
+        requires { (s < self.now.left) × (13 * self.now.right ≤ length out.old) }
         ensures { PairsPut (Report.across (relation_of self.now) self.now.left self.now.right s self.now.right 0) (13 * self.now.right) out.old result out.new }
     {
         let mut size = 0;
@@ -50,7 +52,7 @@ impl Pairs<'_> {
 
     // The related pairs by left then right, written to the first bytes. Gives how many bytes.
     fn put(&self, out: &mut [u8]) -> usize
-        requires { Few self.now × (416 * self.now.left ≤ length out.old) }
+        requires { 416 * self.now.left ≤ length out.old }
         ensures { PairsPut (Report.pairs (relation_of self.now) self.now.left self.now.right) (416 * self.now.left) out.old result out.new }
     {
         let mut size = 0;
@@ -83,12 +85,12 @@ pub fn report_text(left: u32, right: u32, relation: &[u8], out: &mut [u8]) -> Re
 }
 
 // Writes a refusal's line, and gives its length; 7 where the store is short for a report.
-pub fn refusal_text(refusal: Refusal, out: &mut [u8]) -> Result<usize, Refusal>
-    ensures { Printed (Report.store_fault (length out.old)) (refusal_line (number refusal)) out.old (numbered result) out.new }
+pub fn refusal_text(number: u32, out: &mut [u8]) -> Result<usize, Refusal>
+    ensures { Printed (Report.store_fault (length out.old)) (refusal_line number) out.old (numbered result) out.new }
 {
     if out.len() < MOST_REPORT {
         return Err(Refusal::Store);
     }
-    put_line(out, &[refusal.number()]);
+    put_line(out, &[number]);
     Ok(7)
 }

@@ -1,10 +1,10 @@
 // Check 4: state numbers below the state count, and columns as they must be.
-ghost use Rattle.std.specs.Prelude.{◌≡◌, ◌<◌, length, ltb};
-ghost use Rattle.numbers.specs.Lists.{all};
+ghost use Rattle.std.specs.Prelude.{◌≡◌, ◌<◌, length};
 ghost use Rattle.chain_theory.specs.Lent.{of_chain};
 ghost use Rattle.chain_theory.specs.Check;
 
 use chain_theory::{Chain, ChainShape};
+use numbers::all_below;
 
 // Too few offsets or entries for the counts.
 fn thin(chain: &Chain) -> bool
@@ -28,13 +28,6 @@ fn steady(chain: &Chain) -> bool
         && offsets[..=states].is_sorted()
 }
 
-// Each target is below the state count.
-fn all_low(targets: &[u32], states: usize) -> bool
-    ensures { result ≡ all (λ t. ltb t states) targets.now }
-{
-    targets.iter().all(|t| (*t as usize) < states)
-}
-
 // Whether check 4 turns the chain back.
 pub fn misshapen(chain: &Chain) -> bool
     ensures { result ≡ Check.misshapen chain.now.shape (of_chain chain.now) }
@@ -47,5 +40,5 @@ pub fn misshapen(chain: &Chain) -> bool
     initial.0 as usize >= states
         || thin(chain)
         || !steady(chain)
-        || !all_low(&chain.targets[..entries], states)
+        || !all_below(&chain.targets[..entries], states)
 }

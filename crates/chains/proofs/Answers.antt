@@ -1,17 +1,17 @@
--- Which answer is due of `common_rate`, `uniformise` and `lay_chain`, and what follows where nothing is refused.
+-- Which answer is due of `common_rate`, `uniformise`, `try_lay_chain` and `lay_chain`, and what follows where nothing is refused.
 use mathlib.Core.Path.{◌≡◌, refl, sym, ap, subst, ◌∙◌}
 use mathlib.Core.Logic.{◌≢◌}
-use mathlib.Core.Bool.{Bool, true, false}
+use mathlib.Core.Bool.{Bool, true, false, not, ◌&&◌}
 use Prim.Native.Nat.{ℕ, zero, suc, ◌+◌, ◌-◌, ◌≤◌, ◌<◌}
 use mathlib.Core.List.{List, [], ◌∷◌, ◌++◌, map}
 use native.Mathlib.Omega.{arith}
-use lib.Dec.{ltb}
+use lib.Dec.{ltb, eqb}
 use lib.Ieee.{Float}
 use lib.ListN.{length, take, drop}
 use lib.Seq.{length-take-le}
-use borrow.Author.Tests.{ltb-false}
+use borrow.Author.Tests.{ltb-false, ne_eqb}
 use Rattle.std.specs.Prelude.{Result, Ok, Err}
-use Rattle.std.specs.Result.{IsErrAnd}
+use Rattle.std.specs.Result.{IsErrAnd, result_unwrap_or}
 use Rattle.numbers.specs.Refuse
 use Rattle.numbers.specs.Refuse.{check, numbered}
 use Rattle.numbers.specs.declared.refusal.Refusal.{Refusal}
@@ -37,7 +37,7 @@ use Rattle.chain_theory.specs.Chain.{Chain, exit_rate, greatest_from, greatest_e
 use Rattle.chain_theory.specs.Columns.{ChainColumns, chain_columns, shape_of, columns_of}
 use Rattle.chain_theory.specs.Check.{rate_outside, unfitting, cramped}
 use Rattle.chain_theory.specs.declared.ChainShape.{ChainShape}
-use Rattle.chains.specs.Outcome.{rated, uniformise_refusal, ends, settled, uniformised, lay_refusal, lay_chain, shape, LaidOut, RowsLaid}
+use Rattle.chains.specs.Outcome.{Outcome, Laying, rated, uniformise_refusal, ends, settled, uniformised, lay_refusal, try_lay_chain, laying, layable, lay_if, lay_chain, shape, LaidOut, RowsLaid}
 use Rattle.chains.proofs.Rowing.{Made, made_length, equal_columns}
 
 -- ---- `common_rate`
@@ -159,33 +159,84 @@ module _ (A : Chain) (C : ChainColumns) where
       ap (λ (K : ChainShape). ends (Ok K) D) L.shape_is ∙ ap (ends (Ok (shape_of A))) L.lists_are
       ∙ ap (λ (j : ℕ). settled j A C) z
 
--- ---- `lay_chain`
+-- ---- `try_lay_chain`
 
-module _ (S : Shape) (M : Columns) (seen : List Float) (C : ChainColumns) {m : ℕ} (e : m ≡ model_refusal S M) where
+-- a refusal by a number up to 7 comes before a short list
+before : (n : ℕ) (b : Bool) → n < 7 → earlier (suc n) (check 7 b 0) ≡ suc n
+before n true h = omega arith
+before n false h = refl
+
+together : (a b c d e : Bool) → earlier (check 3 a (check 4 b (check 5 c (check 6 d 0)))) (check 7 e 0) ≡ check 3 a (check 4 b (check 5 c (check 6 d (check 7 e 0))))
+together true b c d e = before 2 e (omega arith)
+together false true c d e = before 3 e (omega arith)
+together false false true d e = before 4 e (omega arith)
+together false false false true e = before 5 e (omega arith)
+together false false false false e = refl
+
+module _ (S : Shape) (M : Columns) (seen : List Float) (C : ChainColumns) where
   abbrev short : ℕ
   short = check 7 (cramped S.states S.edges (length seen) C) 0
 
-  lay_refusal_is : first m short ≡ lay_refusal S M seen C
+  -- the checks 3 to 7 in a row
+  pub in_a_row : lay_refusal S M seen C ≡ check 3 (large S) (check 4 (unfit S M) (check 5 (weights_outside S M) (check 6 (crowded S M) short)))
   unfolding lay_refusal model_refusal
-  lay_refusal_is = ap (λ (k : ℕ). first k short) e ∙ split (large S) (unfit S M) (weights_outside S M) (crowded S M) short
+  in_a_row = together (large S) (unfit S M) (weights_outside S M) (crowded S M) (cramped S.states S.edges (length seen) C)
+
+module _ (S : Shape) (M : Columns) (seen : List Float) (C : ChainColumns) {m : ℕ} (e : m ≡ model_refusal S M) where
+  lay_refusal_is : first m (short S M seen C) ≡ lay_refusal S M seen C
+  unfolding model_refusal
+  lay_refusal_is = ap (λ (k : ℕ). first k (short S M seen C)) e ∙ split (large S) (unfit S M) (weights_outside S M) (crowded S M) (short S M seen C) ∙ sym (in_a_row S M seen C)
 
   pub lay_unfit : m ≢ 0 → m ≡ lay_refusal S M seen C
-  lay_unfit h = sym (first_hit m short h) ∙ lay_refusal_is
+  lay_unfit h = sym (first_hit m (short S M seen C) h) ∙ lay_refusal_is
 
   pub lay_short : m ≡ 0 → cramped S.states S.edges (length seen) C ≡ true → 7 ≡ lay_refusal S M seen C
-  lay_short z c = sym (first_skip m short 7 z (check_hit 7 _ _ c)) ∙ lay_refusal_is
+  lay_short z c = sym (first_skip m (short S M seen C) 7 z (check_hit 7 _ _ c)) ∙ lay_refusal_is
 
   pub lay_fit : m ≡ 0 → cramped S.states S.edges (length seen) C ≡ false → 0 ≡ lay_refusal S M seen C
-  lay_fit z c = sym (first_skip m short 0 z (check_skip 7 _ _ _ c refl)) ∙ lay_refusal_is
+  lay_fit z c = sym (first_skip m (short S M seen C) 0 z (check_skip 7 _ _ _ c refl)) ∙ lay_refusal_is
 
 module _ (S : Shape) (M : Columns) (q : Float) (seen : List Float) (i : ℕ) (C : ChainColumns) where
-  pub lay_refused : (a : Result ChainShape Refusal) (r : Refusal) → IsErrAnd a (λ s. s ≡ r) → Refuse.number r ≡ lay_refusal S M seen C → ends (numbered a) C ≡ lay_chain S M q seen i C
-  unfolding lay_chain
+  pub lay_refused : (a : Result ChainShape Refusal) (r : Refusal) → IsErrAnd a (λ s. s ≡ r) → Refuse.number r ≡ lay_refusal S M seen C → ends (numbered a) C ≡ try_lay_chain S M q seen i C
+  unfolding try_lay_chain
   lay_refused a r h f = settled_refused (uniformise (model S M) q seen i) C a r _ h f
 
-  pub lay_made : 0 ≡ lay_refusal S M seen C → (H : ChainShape) (D : ChainColumns) → LaidOut (uniformise (model S M) q seen i) H C D → ends (Ok H) D ≡ lay_chain S M q seen i C
-  unfolding lay_chain
+  pub lay_made : 0 ≡ lay_refusal S M seen C → (H : ChainShape) (D : ChainColumns) → LaidOut (uniformise (model S M) q seen i) H C D → ends (Ok H) D ≡ try_lay_chain S M q seen i C
+  unfolding try_lay_chain
   lay_made z H D L = settled_made (uniformise (model S M) q seen i) C _ z H D L
+
+-- ---- `lay_chain`: what `try_lay_chain` lays, or no states
+
+-- no states, and the lists, where the answer is a refusal
+laying_or : Outcome → Laying
+laying_or o = laying (result_unwrap_or o.answer (shape 0 0 (record { 0 = 0 }))) o.lists
+
+number_or : (a : Result ChainShape Refusal) (H : ChainShape) → result_unwrap_or a H ≡ result_unwrap_or (numbered a) H
+number_or (Ok K) H = refl
+number_or (Err r) H = refl
+
+settled_or : (k : ℕ) (A : Chain) (C : ChainColumns) → laying_or (settled k A C) ≡ lay_if (eqb k 0) A C
+unfolding laying_or
+settled_or zero A C = refl
+settled_or (suc k) A C = ap (λ (b : Bool). lay_if b A C) (sym (ne_eqb (suc k) 0 (λ z. omega arith)))
+
+passes : (m : ℕ) (b : Bool) → eqb (first m (check 7 b 0)) 0 ≡ (eqb m 0 && not b)
+passes zero true = refl
+passes zero false = refl
+passes (suc m) b = let e = ne_eqb (suc m) 0 (λ z. omega arith) in e ∙ ap (λ (p : Bool). p && not b) (sym e)
+
+module _ (S : Shape) (M : Columns) (q : Float) (seen : List Float) (i : ℕ) (C : ChainColumns) where
+  layable_is : eqb (lay_refusal S M seen C) 0 ≡ layable S M seen C
+  layable_is = ap (λ (k : ℕ). eqb k 0) (sym (lay_refusal_is S M seen C refl)) ∙ passes (model_refusal S M) (cramped S.states S.edges (length seen) C)
+
+  pub lay_or_none : (a : Result ChainShape Refusal) (D : ChainColumns) → ends (numbered a) D ≡ try_lay_chain S M q seen i C
+      → laying (result_unwrap_or a (shape 0 0 (record { 0 = 0 }))) D ≡ lay_chain S M q seen i C
+  unfolding laying_or try_lay_chain lay_chain
+  lay_or_none a D e =
+      ap (λ (H : ChainShape). laying H D) (number_or a (shape 0 0 (record { 0 = 0 })))
+      ∙ ap laying_or e
+      ∙ settled_or (lay_refusal S M seen C) (uniformise (model S M) q seen i) C
+      ∙ ap (λ (b : Bool). lay_if b (uniformise (model S M) q seen i) C) layable_is
 
 -- ---- `uniformise`
 

@@ -50,6 +50,11 @@ pub left_end : (M : Columns) (s i b : ℕ) (x : Float) → i ≡ b → x ≡ sum
 unfolding span leaving sum_from
 left_end M s i b x e = let z : 0 ≡ b - i = omega arith in ap (λ (n : ℕ). sum_from x (leaving (map (edge_at M s) (span i n)))) z
 
+-- what leaves s, by the edges between its two offsets
+pub exit_at_lem : (M : Columns) (s a b : ℕ) → a ≡ begins M s → b ≡ begins M (s + 1) → exit_rate (map (edge_at M s) (span a (b - a))) ≡ exit_rate (row M s)
+unfolding row
+exit_at_lem M s a b p q = rw (p, q)
+
 from_none : (l : List Float) → sum_from (of_bits binary64 0) l ≡ sum l
 unfolding sum
 from_none l = refl

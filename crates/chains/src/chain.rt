@@ -9,12 +9,13 @@ ghost use Rattle.chain_theory.specs.Chain.{or_one};
 ghost use Rattle.chain_theory.specs.Check;
 ghost use Rattle.chain_theory.specs.Lent.{of_store, SameLists};
 ghost use Rattle.chains.specs.Outcome;
-ghost use Rattle.chains.specs.Observing.{lay_observed};
+ghost use Rattle.chains.specs.Observing.{lay_observed, try_lay_observed};
 
 use crate::checks::{cramped, uniformise_refusal};
 use crate::observed::Observed;
 use crate::rates::greatest_exit;
 use crate::rows::make_rows;
+use bisim_core::ids::StateId;
 use bisim_core::wlts::Wlts;
 use chain_theory::{ChainShape, ChainStore};
 use numbers::larger;
@@ -78,12 +79,12 @@ pub fn uniformise(
 }
 
 // The chain of a model at a rate from a state, as `uniformise` makes it, whatever the rate, the state and the observations. The lists are as they were where the model is refused, or by 7 where a list is short.
-pub fn lay_chain(
+pub fn try_lay_chain(
     observed: &Observed,
     rate: f64,
     store: &mut ChainStore,
 ) -> Result<ChainShape, Refusal>
-    ensures outcome { Outcome.ends (numbered result) (of_store store.new) ≡ lay_observed observed.now rate store.old }
+    ensures outcome { Outcome.ends (numbered result) (of_store store.new) ≡ try_lay_observed observed.now rate store.old }
     ensures same_lists { SameLists store.old store.new }
 {
     observed.model.check()?;
@@ -91,4 +92,17 @@ pub fn lay_chain(
         return Err(Refusal::Store);
     }
     Ok(lay(observed, rate, store))
+}
+
+// The chain that `try_lay_chain` lays. No states, and the lists as they were, where the model is refused or a list is short.
+// Stays: `unwrap_or_default()` would ask a default of `ChainShape` and so of `StateId`, and state 0 is a state like any other.
+pub fn lay_chain(observed: &Observed, rate: f64, store: &mut ChainStore) -> ChainShape
+    ensures outcome { Outcome.laying result (of_store store.new) ≡ lay_observed observed.now rate store.old }
+    ensures same_lists { SameLists store.old store.new }
+{
+    try_lay_chain(observed, rate, store).unwrap_or(ChainShape {
+        states: 0,
+        entries: 0,
+        initial: StateId(0),
+    })
 }

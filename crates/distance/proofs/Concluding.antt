@@ -1,5 +1,5 @@
 -- What is told and written is the definition's outcome.
-use mathlib.Core.Path.{◌≡◌, refl, sym, ap, ap₂, ◌∙◌}
+use mathlib.Core.Path.{◌≡◌, refl, sym, ap, ◌∙◌}
 use Rattle.std.specs.Prelude.{Result, Ok, Err}
 use Rattle.std.specs.Result.{IsErrAnd}
 use Prim.Native.Nat.{ℕ, zero, suc, ◌≤◌, min}
@@ -11,7 +11,7 @@ use lib.ListN.{length, take, length-take}
 use lib.Ieee.{Float}
 use borrow.Author.Tests.{ltb-false, le-leb, not-false}
 use Rattle.numbers.specs.Real.{nought, one}
-use Rattle.numbers.specs.Refuse.{check, numbered}
+use Rattle.numbers.specs.Refuse.{numbered}
 use Rattle.numbers.specs.Refuse.{number as number_of}
 use Rattle.numbers.specs.declared.refusal.Refusal.{Refusal}
 use Rattle.numbers.specs.Lists.{all}
@@ -31,7 +31,7 @@ use Rattle.distance_theory.specs.declared.MetricOptions.{MetricOptions}
 use Rattle.distance_theory.specs.declared.PairContribution.{PairContribution}
 use Rattle.distance_theory.proofs.Inside.{row_proper, proper_few}
 use Rattle.distance_words.specs.Told.{row, Ran, ran_as}
-use Rattle.distance_contributions.specs.Row.{Stored, stored, stored_if, written}
+use Rattle.distance_contributions.specs.Row.{Stored, stored, written}
 use Rattle.distance_contributions.proofs.Records.{listed_written}
 use Rattle.distance_words.specs.declared.told.Answer.{Answer}
 use Rattle.distance_words.specs.Told.{Told, told_if, told_of}

@@ -28,6 +28,8 @@ use Rattle.distance_theory.proofs.Rank.{key}
 use Rattle.distance_theory.proofs.Choosing.{record_at, Weighed, Read, Ranks, listed_same}
 use Rattle.distance_words.specs.Told.{nothing, row}
 use Rattle.distance_words.proofs.Listing.{observing, pair_in, pairs_in, record_of, share_of, below, known, listable, listing, listed_of}
+use Rattle.distance_theory.specs.declared.lent.Visited.{Visited}
+use Rattle.distance_contributions.specs.Visited.{ReadAt, listable_in}
 use Rattle.distance_contributions.specs.Row.{row_refusal, stored, stored_if, written}
 use Rattle.distance_words.specs.declared.told.Listed.{Listed}
 
@@ -53,13 +55,13 @@ known_at n states count e k h =
     (omega arith, ltb-true (get_or states k 0) count (all_front (below count) states 0 n w b k h))
 
 module _ (n : ℕ) (lefts rights : List ℕ) (seenL seenR spent : List Float) (top : ℕ) (e : listable n lefts rights seenL seenR spent top ≡ true) where
-  pub few_pairs : n ≤ most
+  few_pairs : n ≤ most
   few_pairs = leb-true n most (and_t (leb n most) _ e).0
 
-  pub few_asked : top ≤ 64
+  few_asked : top ≤ 64
   few_asked = leb-true top 64 (and_t (leb top 64) _ (and_t (leb n most) _ e).1).0
 
-  pub all_read : (k : ℕ) → k < n → Read lefts rights seenL seenR spent k
+  all_read : (k : ℕ) → k < n → Read lefts rights seenL seenR spent k
   all_read k h =
       let (a, b) = and_t (leb n (length spent)) _ (and_t (leb top 64) _ (and_t (leb n most) _ e).1).1 in
       let (c, d) = and_t (known n lefts (length seenL)) _ b in
@@ -67,6 +69,13 @@ module _ (n : ℕ) (lefts rights : List ℕ) (seenL seenR spent : List Float) (t
       let p = known_at n lefts (length seenL) c k h in
       let q = known_at n rights (length seenR) d k h in
       record { left_in = p.0; right_in = q.0; spent_in = omega arith; left_low = p.1; right_low = q.1 }
+
+-- pairs that can be listed: so few, so few asked for, each of them read
+pub listable_reads : (V : Visited) (top : ℕ) → listable_in V top ≡ true → (length V.pairs.lefts.now ≤ most) × (top ≤ 64) × ((k : ℕ) → k < length V.pairs.lefts.now → ReadAt V k)
+listable_reads V top e =
+    let P = V.pairs in
+    let n = length P.lefts.now in
+    (few_pairs n P.lefts.now P.rights.now V.left.now V.right.now V.spent.now top e, few_asked n P.lefts.now P.rights.now V.left.now V.right.now V.spent.now top e, all_read n P.lefts.now P.rights.now V.left.now V.right.now V.spent.now top e)
 
 -- ---- the contribution of each pair
 

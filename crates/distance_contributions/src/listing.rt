@@ -12,15 +12,15 @@ use bisim_core::ids::StateId;
 use distance_theory::lent::Visited;
 use distance_theory::{MetricOptions, PairContribution};
 use distance_words::told::Listed;
-use numbers::apart;
 use numbers::refusal::Refusal;
+use numbers::{all_below, apart};
 
 // Whether there are n states, each below a count.
 // Stays: n is the length of the left states, but with `known(lefts, ..)` and `rights.get(..n).is_some_and(|rights| known(rights, ..))` the caller would ask one thing in two forms, and the definition asks it of both lists by n.
 fn known(n: usize, states: &[u32], count: usize) -> bool
     ensures { result ≡ Listing.known n states.now count }
 {
-    n <= states.len() && states[..n].iter().all(|state| (*state as usize) < count)
+    n <= states.len() && all_below(&states[..n], count)
 }
 
 // Whether the contributions of all pairs can be listed, `top` of them.

@@ -26,6 +26,7 @@ fn price_each(pairs: &Pairs, left: &Chain, right: &Chain, gamma: f64, cost: &mut
 }
 
 // The costs of the pairs of two chains, over the front of a list. 4, and nothing is written, where a list is short.
+// Stays: two chains, for the reason that `discover_from` of distance_pairs gives.
 pub fn price(
     pairs: &Pairs,
     left: &Chain,

@@ -9,7 +9,7 @@ use native.Mathlib.Omega.{arith}
 use mathlib.Core.Logic.{◌⊎◌, inl, inr}
 use native.Mathlib.Nat.{mul-le-mul}
 use lib.ListN.{length, get_or, take, drop, length-append, length-drop, length-map, replicate, length-replicate, drop_of_length-le}
-use lib.Seq.{slice, length-take-le}
+use lib.Seq.{length-take-le}
 use lib.Dec.{leb, eqb}
 use lib.Ieee.{Float, binary64, mul, div}
 use borrow.Author.Tests.{le-leb, le-ltb, eq-eqb, ne_eqb}
@@ -54,35 +54,53 @@ err_is : (r : Result Plan Refusal) {o : Option Plan} → o ≡ result_ok r → o
 err_is (Ok q) e f = absurd (true≢false (ap is_some (sym e ∙ f)))
 err_is (Err k) e f = (k, refl)
 
--- the work lists of rows and of columns
-abbrev blank : List ℕ
-blank = replicate 1024 0
-
 -- masses that can be moved
-module _ {a b costs : List Float} {xs ys : List ℕ} {codes : ℕ} (p₀ : List ℕ) (x₀ : List Float) (M : Movable a b costs xs ys codes (length p₀) (length x₀)) where
-  abbrev result : Transport
-  result = transport a b costs
-
+module _ {a b costs : List Float} {xs ys : List ℕ} {codes places masses : ℕ} (M : Movable a b costs xs ys codes places masses) where
   size : length a * length b ≡ length xs * length ys
   size = ap₂ ◌*◌ M.left M.right
 
-  enough : short (length a) (length b) (length costs) (length blank) (length blank) (length x₀) ≡ false
+  enough : (rows columns : ℕ) → rows ≡ 1024 → columns ≡ 1024 → short (length a) (length b) (length costs) rows columns masses ≡ false
   unfolding short
-  enough =
+  enough rows columns er ec =
       let s = size in
       let q : length xs * length ys ≤ 32 * 32 = mul-le-mul M.few_left M.few_right in
-      let p = M.enough in let h = M.masses_room in let w = length-replicate {A = ℕ} 1024 0 in
-      rw (le-ltb (length costs) (length a * length b) (omega arith), le-ltb (length blank) (length a * length b) (omega arith), le-ltb (length x₀) (length a * length b) (omega arith))
+      let p = M.enough in let h = M.masses_room in
+      rw (le-ltb (length costs) (length a * length b) (omega arith), le-ltb rows (length a * length b) (omega arith), le-ltb columns (length a * length b) (omega arith), le-ltb masses (length a * length b) (omega arith))
 
   few : not (leb (length a) 32 && leb (length b) 32) ≡ false
   few = let p = M.left in let q = M.right in let f = M.few_left in let g = M.few_right in rw (le-leb (length a) 32 (omega arith), le-leb (length b) 32 (omega arith))
 
-  accepted : size_refusal (length a) (length b) (length costs) (length blank) (length blank) (length x₀) ≡ 0
-  accepted = check_skip 7 _ _ 0 enough (check_skip 15 _ 0 0 few refl)
+  accepted : (rows columns : ℕ) → rows ≡ 1024 → columns ≡ 1024 → size_refusal (length a) (length b) (length costs) rows columns masses ≡ 0
+  accepted rows columns er ec = check_skip 7 _ _ 0 (enough rows columns er ec) (check_skip 15 _ 0 0 few refl)
+
+  -- there is room for each cell of the plan, in any work lists of 1,024
+  module _ (i₀ j₀ : List ℕ) (x₀ : List Float) (er : length i₀ ≡ 1024) (ec : length j₀ ≡ 1024) (ex : length x₀ ≡ masses) {r : Result Plan Refusal} {i j : List ℕ} {x : List Float}
+      (E : ends (numbered r) i j x ≡ transport_sized a b costs i₀ j₀ x₀) (total : Float) (cells : ℕ) (e : r ≡ Ok (record { total = total; cells = cells })) where
+    pub has_room_lem : (codes ≤ 4096) × (cells ≤ length i) × (cells ≤ length j) × (cells ≤ places)
+    has_room_lem =
+        let result = transport a b costs in
+        let P : ends (numbered r) i j x ≡ settled 0 result i₀ j₀ x₀ = E ∙ ap (λ (k : ℕ). settled k result i₀ j₀ x₀) (ap (size_refusal (length a) (length b) (length costs) (length i₀) (length j₀)) ex ∙ accepted (length i₀) (length j₀) er ec) in
+        let z : cells ≡ length result.plan = sym (ap (λ (s : Result Plan Refusal). (plan_of (numbered s)).cells) e) ∙ ap (λ (o : Outcome). (plan_of o.answer).cells) P in
+        let f = moved_few a b costs xs ys codes places masses M in
+        let q = M.places_room in
+        let u = length-map result.plan (λ (c : Cell). c.row) in
+        let w = length-map result.plan (λ (c : Cell). c.column) in
+        let n = ap (λ (o : Outcome). length o.rows) P ∙ length-append (map (λ (c : Cell). c.row) result.plan) (drop (length (map (λ (c : Cell). c.row) result.plan)) i₀) in
+        let k = ap (λ (o : Outcome). length o.columns) P ∙ length-append (map (λ (c : Cell). c.column) result.plan) (drop (length (map (λ (c : Cell). c.column) result.plan)) j₀) in
+        (M.few_codes, omega arith, omega arith, omega arith)
+
+-- the work lists of rows and of columns
+abbrev blank : List ℕ
+blank = replicate 1024 0
+
+-- masses that are moved with these
+module _ {a b costs : List Float} {xs ys : List ℕ} {codes : ℕ} (p₀ : List ℕ) (x₀ : List Float) (M : Movable a b costs xs ys codes (length p₀) (length x₀)) where
+  abbrev result : Transport
+  result = transport a b costs
 
   module _ (r : Result Plan Refusal) {i j : List ℕ} {x : List Float} (E : ends (numbered r) i j x ≡ transport_sized a b costs blank blank x₀) where
     planned : ends (numbered r) i j x ≡ settled 0 result blank blank x₀
-    planned = E ∙ ap (λ (k : ℕ). settled k result blank blank x₀) accepted
+    planned = let w = length-replicate {A = ℕ} 1024 0 in E ∙ ap (λ (k : ℕ). settled k result blank blank x₀) (accepted M (length blank) (length blank) w w)
 
     -- there is a plan
     pub some_plan : {o : Option Plan} → o ≡ result_ok r → o ≡ None → ⊥
@@ -174,12 +192,12 @@ module _ (look : Look) (xs : List ℕ) (ps : List Float) (ys : List ℕ) (qs : L
   -- ---- a row of one entry
 
   pub alone_best : (v : List Float) (x : Float) (n : ℕ) (p p₀ : List ℕ) (m m₀ : List Float) → n ≡ length xs * length ys → p ≡ over (ats (independent_by look es fs)) p₀ → m ≡ over (parts (independent_by look es fs)) m₀
-      → x ≡ expected v (shares_of (slice 0 n p) (slice 0 n m)) → bested x n p m ≡ best_if true (best_by true look v es fs) p₀ m₀
+      → {j : List ℕ} {w : List Float} → (j ≡ take n p) × (w ≡ take n m) → x ≡ expected v (shares_of j w) → bested x n p m ≡ best_if true (best_by true look v es fs) p₀ m₀
   unfolding best_by
-  alone_best v x n p p₀ m m₀ en ep em ex =
+  alone_best v x n p p₀ m m₀ en ep em {j} {w} (ej, ew) ex =
       let cs : List Share = independent_by look es fs in
       let z : n ≡ length cs = en ∙ sym (freely_length look xs ps ys qs codes R) in
-      let s : shares_of (slice 0 n p) (slice 0 n m) ≡ cs = ap₂ (λ (u : List ℕ) (w : List Float). shares_of (slice 0 n u) (slice 0 n w)) ep em ∙ shares_front cs p₀ m₀ n z in
+      let s : shares_of j w ≡ cs = ap₂ shares_of ej ew ∙ ap₂ (λ (u : List ℕ) (w : List Float). shares_of (take n u) (take n w)) ep em ∙ shares_front cs p₀ m₀ n z in
       ap₂ (λ (y : Float) (k : ℕ). bested y k p m) (ex ∙ ap (expected v) s) z ∙ ap₂ (λ (u : List ℕ) (w : List Float). bested (expected v cs) (length cs) u w) ep em
 
   -- ---- which of the two
@@ -194,6 +212,9 @@ module _ (look : Look) (xs : List ℕ) (ps : List Float) (ys : List ℕ) (qs : L
     pub with_one : (length xs ≡ 1) ⊎ ((length xs ≡ 1 → ⊥) × (length ys ≡ 1)) → b ≡ chosen true → b ≡ chosen (point_mass es fs)
     with_one (inl h) e = e ∙ ap chosen (sym (point ∙ rw (eq-eqb (length xs) 1 h) refl))
     with_one (inr (g, h)) e = e ∙ ap chosen (sym (point ∙ rw (ne_eqb (length xs) 1 g, eq-eqb (length ys) 1 h) refl))
+
+    pub with_left_lem : length xs ≡ 1 → b ≡ chosen true → b ≡ chosen (point_mass es fs)
+    with_left_lem h e = with_one (inl h) e
 
     pub with_several : (length xs ≡ 1 → ⊥) → (length ys ≡ 1 → ⊥) → b ≡ chosen false → b ≡ chosen (point_mass es fs)
     with_several g h e = e ∙ ap chosen (sym (point ∙ rw (ne_eqb (length xs) 1 g, ne_eqb (length ys) 1 h) refl))

@@ -1,36 +1,42 @@
 // The cheapest coupling of two rows against some values.
-ghost use Rattle.std.specs.Prelude.{◌≡◌, map, ◌*◌, ◌≤◌, Float, length, true, false, Some};
+ghost use Rattle.std.specs.Prelude.{◌≡◌, map, ◌*◌, Float, length, true, false, Some};
 ghost use Rattle.std.specs.Float.{binary64};
 ghost use Rattle.std.specs.Float.Ieee.{mul, div};
-ghost use Rattle.std.proofs.Math.Seq.{slice};
 ghost use Rattle.numbers.specs.Real.{sum};
 ghost use Rattle.distance_theory.specs.Lent.{SameShares};
 ghost use Rattle.distance_theory.proofs.Index.{look_up};
 ghost use Rattle.transport_theory.specs.Transport.{transport};
-ghost use Rattle.distance_theory.specs.Couplings.{expected, point_mass, shares_of};
+ghost use Rattle.distance_theory.specs.Couplings.{point_mass};
 ghost use Rattle.distance_theory.proofs.PairRows.{row_jumps};
 ghost use Rattle.distance_theory.proofs.Bests.{places_by, Movable, moved_on};
 ghost use Rattle.distance_theory.proofs.RowsLent.{RowsBeside, CellsRoom, PlanCells, rows_fitting, values_rows, best_rows, bested_in, best_over};
 
 use crate::shares::{cells, fits, lay_shares, place};
-use distance_theory::lent::{Best, Rows, Shares, SharesMut};
+use distance_theory::lent::{Best, Rows, SharesMut};
 use distance_theory::value_at;
 use numbers::Real;
 use transport::entry::transport_sized;
 use transport::plan::PlanRows;
 use transport_theory::Masses;
 
+// Two rows whose entries are paired, and the values of pairs that a coupling of them is chosen by.
+#[derive(Clone, Copy, Debug)]
+pub(crate) struct Valued<'a> {
+    pub(crate) rows: Rows<'a>,
+    pub(crate) values: &'a [f64],
+}
+
 // The value of each cell's pair.
-fn lay_values(rows: &Rows, values: &[f64], costs: &mut [f64])
-    requires beside { RowsBeside rows.now }
-    requires cells { length costs.old ≡ length rows.now.xs.targets.now * length rows.now.ys.targets.now }
-    ensures { costs.new ≡ values_rows rows.now values.now }
+fn lay_values(of: &Valued, costs: &mut [f64])
+    requires beside { RowsBeside of.now.rows }
+    requires cells { length costs.old ≡ length of.now.rows.xs.targets.now * length of.now.rows.ys.targets.now }
+    ensures { costs.new ≡ values_rows of.now.rows of.now.values.now }
 {
-    let Rows { xs, ys, codes } = *rows;
+    let Rows { xs, ys, codes } = of.rows;
     let n = ys.targets.len();
     for (k, cost) in costs.iter_mut().enumerate() {
         let at = place(codes, xs.targets[k / n], ys.targets[k % n]);
-        *cost = value_at(values, at as usize);
+        *cost = value_at(of.values, at as usize);
     }
 }
 
@@ -41,7 +47,7 @@ fn fit(ps: &[f64], qs: &[f64], fitted: &mut [f64])
 {
     let left = Real::sum(ps).value();
     let right = Real::sum(qs).value();
-    // Stays: no zip with `qs`, for the reason that `price_each` of distance_costs gives; `lay_planned` neither.
+    // Stays: no zip with `qs`, for the reason that `price_each` of distance_costs gives.
     for (j, x) in fitted.iter_mut().enumerate() {
         *x = qs[j] * left / right;
     }
@@ -53,6 +59,7 @@ fn lay_planned(rows: &Rows, plan: &PlanRows, places: &mut [u32])
     ensures { places.new ≡ places_by (look_up rows.now.codes.now) rows.now.xs.targets.now rows.now.ys.targets.now plan.now.rows.now plan.now.columns.now (length places.old) }
 {
     let Rows { xs, ys, codes } = *rows;
+    // Stays: no zip with the plan's rows and columns, for the reason that `price_each` of distance_costs gives.
     for (i, at) in places.iter_mut().enumerate() {
         let x = xs.targets[plan.rows[i] as usize];
         let y = ys.targets[plan.columns[i] as usize];
@@ -82,71 +89,59 @@ fn move_masses(of: &Masses, pairs: &Rows, shares: &mut SharesMut) -> Option<Best
 }
 
 // Rows of several entries each: by transport of one to the other, the values as costs.
-fn best_moved(rows: &Rows, values: &[f64], shares: &mut SharesMut) -> Option<Best>
-    requires beside { RowsBeside rows.now }
-    requires room { CellsRoom rows.now shares.old }
+fn best_moved(of: &Valued, shares: &mut SharesMut) -> Option<Best>
+    requires beside { RowsBeside of.now.rows }
+    requires room { CellsRoom of.now.rows shares.old }
     ensures lists { SameShares shares.old shares.new }
-    ensures bested { bested_in result shares.new ≡ best_over true (best_rows false rows.now values.now) shares.old }
+    ensures bested { bested_in result shares.new ≡ best_over true (best_rows false of.now.rows of.now.values.now) shares.old }
 {
     let mut costs = [0.0f64; 1024];
     let mut fitted = [0.0f64; 32];
-    let costs = &mut costs[..cells(rows)];
-    let fitted = &mut fitted[..rows.ys.targets.len()];
-    lay_values(rows, values, costs);
-    fit(rows.xs.probs, rows.ys.probs, fitted);
-    let of = Masses {
-        left: rows.xs.probs,
+    let costs = &mut costs[..cells(&of.rows)];
+    let fitted = &mut fitted[..of.rows.ys.targets.len()];
+    lay_values(of, costs);
+    fit(of.rows.xs.probs, of.rows.ys.probs, fitted);
+    let masses = Masses {
+        left: of.rows.xs.probs,
         right: fitted,
         costs,
     };
-    move_masses(&of, rows, shares)
-}
-
-// Σ mass × value of the first `cells` shares.
-fn worth(values: &[f64], shares: &SharesMut, cells: usize) -> f64
-    requires { (cells ≤ length shares.now.places.now) × (cells ≤ length shares.now.masses.now) }
-    ensures { result ≡ expected values.now (shares_of (slice 0 cells shares.now.places.now) (slice 0 cells shares.now.masses.now)) }
-{
-    let laid = Shares {
-        places: &shares.places[..cells],
-        masses: &shares.masses[..cells],
-    };
-    laid.expected(values)
+    move_masses(&masses, &of.rows, shares)
 }
 
 // A row of one entry: only one coupling exists.
-fn best_alone(rows: &Rows, values: &[f64], shares: &mut SharesMut) -> Best
-    requires beside { RowsBeside rows.now }
-    requires room { CellsRoom rows.now shares.old }
+fn best_alone(of: &Valued, shares: &mut SharesMut) -> Best
+    requires beside { RowsBeside of.now.rows }
+    requires room { CellsRoom of.now.rows shares.old }
     ensures lists { SameShares shares.old shares.new }
-    ensures bested { bested_in (Some result) shares.new ≡ best_over true (best_rows true rows.now values.now) shares.old }
+    ensures bested { bested_in (Some result) shares.new ≡ best_over true (best_rows true of.now.rows of.now.values.now) shares.old }
 {
-    let cells = cells(rows);
-    lay_shares(rows, shares);
-    let value = worth(values, shares, cells);
+    let cells = cells(&of.rows);
+    lay_shares(&of.rows, shares);
+    let value = shares.first(cells).expected(of.values);
     Best { value, cells }
 }
 
 // One coupling alone where a row has one entry; else the one that transport gives.
-fn cheapest(rows: &Rows, values: &[f64], shares: &mut SharesMut) -> Option<Best>
-    requires beside { RowsBeside rows.now }
-    requires room { CellsRoom rows.now shares.old }
+fn cheapest(of: &Valued, shares: &mut SharesMut) -> Option<Best>
+    requires beside { RowsBeside of.now.rows }
+    requires room { CellsRoom of.now.rows shares.old }
     ensures lists { SameShares shares.old shares.new }
-    ensures bested { bested_in result shares.new ≡ best_over true (best_rows (point_mass (row_jumps rows.now.xs) (row_jumps rows.now.ys)) rows.now values.now) shares.old }
+    ensures bested { bested_in result shares.new ≡ best_over true (best_rows (point_mass (row_jumps of.now.rows.xs) (row_jumps of.now.rows.ys)) of.now.rows of.now.values.now) shares.old }
 {
-    if rows.xs.targets.len() == 1 || rows.ys.targets.len() == 1 {
-        return Some(best_alone(rows, values, shares));
+    if of.rows.xs.targets.len() == 1 || of.rows.ys.targets.len() == 1 {
+        return Some(best_alone(of, shares));
     }
-    best_moved(rows, values, shares)
+    best_moved(of, shares)
 }
 
 // The cheapest coupling of two rows, over the front of two lists. None where the rows have over 32 entries or are no rows, there are over 4,096 codes, or a list is short: the lists are then as they were.
-pub(crate) fn best_coupling(rows: &Rows, values: &[f64], shares: &mut SharesMut) -> Option<Best>
+pub(crate) fn best_coupling(of: &Valued, shares: &mut SharesMut) -> Option<Best>
     ensures lists { SameShares shares.old shares.new }
-    ensures bested { bested_in result shares.new ≡ best_over (rows_fitting rows.now shares.old) (best_rows (point_mass (row_jumps rows.now.xs) (row_jumps rows.now.ys)) rows.now values.now) shares.old }
+    ensures bested { bested_in result shares.new ≡ best_over (rows_fitting of.now.rows shares.old) (best_rows (point_mass (row_jumps of.now.rows.xs) (row_jumps of.now.rows.ys)) of.now.rows of.now.values.now) shares.old }
 {
-    if !fits(rows, shares) {
+    if !fits(&of.rows, shares) {
         return None;
     }
-    cheapest(rows, values, shares)
+    cheapest(of, shares)
 }

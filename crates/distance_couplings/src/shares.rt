@@ -12,7 +12,7 @@ use distance_pairs::index::place_of;
 use distance_theory::lent::{Rows, SharesMut};
 
 // The place of a pair, as it is stored; how many codes there are if none is its own.
-// Stays: no Option; the couplings of the definition have that number for such a pair, and their lists, which are lent, hold numbers alone.
+// Stays: of two numbers, as the rows that are lent hold them: by two ids each of its three callers would write `StateId(..)` twice, which stands here once. No Option; the couplings of the definition have that number for such a pair, and their lists, which are lent, hold numbers alone.
 pub(crate) fn place(codes: &[u64], x: u32, y: u32) -> u32
     requires { length codes.now ≤ 4096 }
     ensures { result ≡ look_up codes.now (pair x y) }

@@ -9,7 +9,7 @@ ghost use Rattle.distance_theory.proofs.Discovery;
 ghost use Rattle.distance_theory.proofs.Index.{keyed, past_keys};
 ghost use Rattle.distance_theory.proofs.Index;
 
-use crate::index::{code, goes_by, is_at, key};
+use crate::index::{Code, goes_by, is_at, key};
 use chain_check::shape::misshapen;
 use chain_theory::Chain;
 use distance_theory::lent::PairsMut;
@@ -48,7 +48,7 @@ fn meet(pairs: &mut PairsMut, x: u32, y: u32) -> Result<(), Refusal>
     if n >= 4096 {
         return Err(Refusal::Pairs);
     }
-    insert(pairs.codes, at, n, code(x, y, n));
+    insert(pairs.codes, at, n, Code::new(x, y, n).0);
     pairs.lefts[n] = x;
     pairs.rights[n] = y;
     pairs.count = n + 1;
@@ -134,13 +134,14 @@ fn discover(left: &Chain, right: &Chain, pairs: &mut PairsMut) -> Result<(), Ref
     let right_state = right.shape.initial.0;
     pairs.lefts[0] = left_state;
     pairs.rights[0] = right_state;
-    pairs.codes[0] = code(left_state, right_state, 0);
+    pairs.codes[0] = Code::new(left_state, right_state, 0).0;
     pairs.count = 1;
     discover_in(left, right, pairs)
 }
 
 // The pairs of states that are met from the initial ones on, in the order of their discovery: left and right states, and their index. How many there are; 17 where there are more than 4,096, of which the first 4,096 are listed then.
 // 4 where the chains are not as check 4 wants them, have over 2,000 states, or a list is short: the lists are then as they were.
+// Stays: with a struct `Chains` of both, here and in `Question` and `Task`, five functions would have a parameter less, but the four that make a `Question` would make a `Chains` in it, and ten reads of a chain, eight clauses and the words over both structs would go by `.chains`.
 pub fn discover_from(left: &Chain, right: &Chain, pairs: &mut PairsMut) -> Result<usize, Refusal>
     ensures lists { SamePairs pairs.old pairs.new }
     ensures found { found_as (numbered result) pairs.new ≡ found_in (Discovery.discover_in left.now right.now pairs.old) }

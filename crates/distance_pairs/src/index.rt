@@ -7,43 +7,49 @@ ghost use Rattle.distance_theory.proofs.Index;
 use bisim_core::ids::StateId;
 
 // A pair as one number.
-// Stays: the C interface lends the index as a list of u64, so that a pair and its number are packed into one and not a struct with a derived order.
+// Stays: a number and no struct of two states with a derived order, for `Code` is made of it.
 pub(crate) fn key(x: u32, y: u32) -> u64
     ensures { (result ≡ Index.key (pair x y)) × (result < past_keys) }
 {
     u64::from(x) * 2048 + u64::from(y)
 }
 
-// Pair number n.
-// Stays: a u64, as `key`.
-pub(crate) fn code(x: u32, y: u32, n: usize) -> u64
-    requires { n < 4096 }
-    ensures { result ≡ Index.code (pair x y) n }
-{
-    key(x, y) * 4096 + n as u64
-}
+// A pair with its number.
+// Stays: packed into one number, for the C interface lends the index as a list of u64.
+#[derive(Clone, Copy, Debug, PartialEq, Eq, PartialOrd, Ord)]
+pub(crate) struct Code(pub(crate) u64);
 
-// The key of a code's pair.
-fn key_of(code: u64) -> u64
-    ensures { result ≡ code / 4096 }
-{
-    code / 4096
-}
+impl Code {
+    // Pair number n.
+    pub(crate) fn new(x: u32, y: u32, n: usize) -> Code
+        requires { n < 4096 }
+        ensures { result.0 ≡ Index.code (pair x y) n }
+    {
+        Code(key(x, y) * 4096 + n as u64)
+    }
 
-// The number of a code's pair.
-fn number_of(code: u64) -> usize
-    ensures { result ≡ code % 4096 }
-{
-    (code % 4096) as usize
-}
+    // The key of its pair.
+    fn key(self) -> u64
+        ensures { result ≡ self.0 / 4096 }
+    {
+        self.0 / 4096
+    }
 
-// 1 where a code is below those of a key, else 0: the sign of a difference.
-// Stays: `usize::from(key_of(code) < key)` becomes a branch, which half of the time is foretold wrongly: a look-up among 4,096 codes took 104 ns in place of 36, among 64 as long (`goes_by` with either form, without its contracts, built by rustc 1.95 -O3; medians of 25 runs).
-fn below(code: u64, key: u64) -> usize
-    requires { key ≤ past_keys }
-    ensures { (result ≡ Index.below code key) × (result ≤ 1) }
-{
-    ((key + 9223372036854775807 - key_of(code)) / 9223372036854775808) as usize
+    // The number of its pair.
+    fn number(self) -> usize
+        ensures { result ≡ self.0 % 4096 }
+    {
+        (self.0 % 4096) as usize
+    }
+
+    // 1 where it is below those of a key, else 0: the sign of a difference.
+    // Stays: `usize::from(self.key() < key)` becomes a branch, which half of the time is foretold wrongly: a look-up among 4,096 codes took 104 ns in place of 36, among 64 as long (`goes_by` with either form, without its contracts, built by rustc 1.95 -O3; medians of 25 runs).
+    fn below(self, key: u64) -> usize
+        requires { key ≤ past_keys }
+        ensures { (result ≡ Index.below self.0 key) × (result ≤ 1) }
+    {
+        ((key + 9223372036854775807 - self.key()) / 9223372036854775808) as usize
+    }
 }
 
 // Where the codes of a key go in a list that rises: the larger half is passed by or not.
@@ -56,7 +62,7 @@ pub(crate) fn goes_by(list: &[u64], key: u64) -> usize
     // Stays: `keyed` is what this halving finds in any list, rising or not; `partition_point` promises that of partitioned lists alone.
     while n > 0 {
         let half = n - n / 2;
-        lo = lo + half * below(list[lo + half - 1], key);
+        lo = lo + half * Code(list[lo + half - 1]).below(key);
         n = n / 2;
     }
     lo
@@ -66,7 +72,7 @@ pub(crate) fn goes_by(list: &[u64], key: u64) -> usize
 pub(crate) fn is_at(list: &[u64], at: usize, key: u64) -> bool
     ensures { result ≡ Index.is_at list.now at key }
 {
-    list.get(at).is_some_and(|code| key_of(*code) == key)
+    list.get(at).is_some_and(|code| Code(*code).key() == key)
 }
 
 // The number of a pair of states, by the codes of all pairs; none if it is none of them.
@@ -77,6 +83,6 @@ pub fn place_of(codes: &[u64], left: StateId, right: StateId) -> Option<usize>
         return None;
     }
     let pair = key(left.0, right.0);
-    let code = *codes.get(goes_by(codes, pair))?;
-    (key_of(code) == pair).then_some(number_of(code))
+    let code = Code(*codes.get(goes_by(codes, pair))?);
+    (code.key() == pair).then_some(code.number())
 }

@@ -1,5 +1,5 @@
 -- The turns of the loop over the rounds.
-use mathlib.Core.Path.{◌≡◌, refl, sym, ap, ap₂, ◌∙◌}
+use mathlib.Core.Path.{◌≡◌, refl, sym, ap, ◌∙◌}
 use Prim.Native.Nat.{ℕ, suc, ◌+◌, ◌-◌, ◌≤◌, ◌<◌}
 use mathlib.Core.Bool.{Bool, true, false, not, ◌||◌}
 use mathlib.Core.List.{List}
@@ -21,14 +21,14 @@ pub record Iterates (T : Task) (k : ℕ) (v₀ : List Float) (l₀ p₀ : List �
   pub comes : iterate_from T (k - n) x n v l p m ≡ iterate_from T k (inf false) 0 v₀ l₀ p₀ m₀
 
 -- what the calls of a round answer, by the task
-pub values_in : (G : Given) (Z : StoreMut) (aim fine : Float) (v : List Float) {s : List ℕ} {n r : ℕ} {u : List Float} → valued r u ≡ valued_in G Z fine v → Z.starts.now ≡ s → length v ≡ n
+pub values_in : (G : Given) (s : List ℕ) (Z : StoreMut) (aim fine : Float) (v : List Float) {n r : ℕ} {u : List Float} → valued r u ≡ valued_in G s Z fine v → length v ≡ n
     → u ≡ values_of (task_of G n s aim fine) v Z.lengths.now Z.places.now Z.masses.now
-values_in G Z aim fine v e es en = ap (λ (w : Valued). w.value) (e ∙ ap₂ (λ (s : List ℕ) (n : ℕ). evaluated many s Z.lengths.now Z.places.now Z.masses.now G.cost.now G.gamma fine v n) es en)
+values_in G s Z aim fine v e en = ap (λ (w : Valued). w.value) (e ∙ ap (evaluated many s Z.lengths.now Z.places.now Z.masses.now G.cost.now G.gamma fine v) en)
 
-pub betters_in : (G : Given) (Z : StoreMut) (aim fine : Float) (v : List Float) {s : List ℕ} {n : ℕ} {b : Bettered} → b ≡ improve_in G v Z → Z.starts.now ≡ s → length v ≡ n
+pub betters_in : (G : Given) (s : List ℕ) (Z : StoreMut) (aim fine : Float) (v : List Float) {n : ℕ} {b : Bettered} → b ≡ improve_in G v s Z → length v ≡ n
     → b ≡ bettered_of (task_of G n s aim fine) v Z.lengths.now Z.places.now Z.masses.now
-betters_in G Z aim fine v e es en =
-    e ∙ ap₂ (λ (s : List ℕ) (n : ℕ). improve n G.pairs.lefts.now G.pairs.rights.now G.pairs.codes.now (of_chain G.left) (of_chain G.right) v G.cost.now G.gamma s Z.lengths.now Z.places.now Z.masses.now) es en
+betters_in G s Z aim fine v e en =
+    e ∙ ap (λ (n : ℕ). improve n G.pairs.lefts.now G.pairs.rights.now G.pairs.codes.now (of_chain G.left) (of_chain G.right) v G.cost.now G.gamma s Z.lengths.now Z.places.now Z.masses.now) en
 
 module _ {T : Task} {k : ℕ} {v₀ : List Float} {l₀ p₀ : List ℕ} {m₀ : List Float} {x : Float} {n : ℕ} {v : List Float} {l p : List ℕ} {m : List Float} (I : Iterates T k v₀ l₀ p₀ m₀ x n v l p m) where
   pub iterates_end : k ≤ n → iterated x k v l p m ≡ iterate_from T k (inf false) 0 v₀ l₀ p₀ m₀

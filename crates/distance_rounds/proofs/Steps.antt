@@ -1,6 +1,4 @@
 -- What the improvement of one pair leaves, and the turns of the loop over all pairs.
-use Rattle.std.specs.Prelude.{Option, Some, None}
-use Rattle.std.specs.Option.{unwrap_or}
 use Rattle.distance_theory.specs.declared.lent.Best.{Best as Chosen}
 use mathlib.Core.Path.{◌≡◌, refl, sym, subst, ap, ap₂, ◌∙◌}
 use Prim.Native.Nat.{ℕ, suc, ◌+◌, ◌*◌, ◌-◌, ◌≤◌, ◌<◌}
@@ -10,7 +8,7 @@ use native.Mathlib.Omega.{arith}
 use native.Mathlib.Numerals.{add-one}
 use lib.Dec.{leb}
 use lib.ListN.{length, get_or, set, take, drop, length-map, length-set}
-use lib.Seq.{take_at, drop-drop}
+use lib.Seq.{take_at, drop-drop, length-take-le}
 use borrow.Rule.Slice.PartMut.{put_mid, Post-is}
 use lib.Ieee.{Float, nan, binary64, add, sub, mul, lt}
 use borrow.Author.Tests.{leb-true, le-leb, lt-leb, not-true, not-false}
@@ -34,21 +32,33 @@ use Rattle.distance_theory.proofs.Index.{look_up}
 use Rattle.distance_theory.proofs.Crossings.{cross_length}
 use Rattle.distance_theory.proofs.Held.{coupling}
 use Rattle.distance_theory.proofs.Store.{rates_length, fitted_length, transport_length}
-use Rattle.distance_theory.proofs.Bests.{Look, ats, parts, independent_by, values_by, planned_by, best_by, rows_fit, cells_fit, fitting, Bested, bested, bested_as, best_if, beside, cells_few}
+use Rattle.distance_theory.proofs.Bests.{Look, ats, parts, independent_by, values_by, planned_by, best_by, rows_fit, cells_fit, fitting, Bested, bested, best_if, beside, cells_few}
 use Rattle.distance_theory.proofs.PairRows.{bested_when, best_pair, best_pair_of}
 use Rattle.distance_words.proofs.Improving.{best_when, best_at, Adopted, adopted, gains, room_for, adopt_if, adopt, Bettered, bettered, better_from, best_in, counted, better_if}
 
 -- ---- a coupling for a pair
 
--- what the coupling in the store comes to, as it is read
-pub current_is : (v : List Float) (S : StoreMut) (R : Store) (k : ℕ) → Reads S R → (C : Shares) → Couples R k C → {y : Float} → y ≡ expected v (shares_of C.places.now C.masses.now) → y ≡ expected v (coupling S.starts.now S.lengths.now S.places.now S.masses.now k)
-current_is v S R k (es, el, ep, em) C (a, b) e = e ∙ rw (a, b, es, el, ep, em)
-
 -- a part that is written over
 put_is : {A : Type 0} (a n : ℕ) (l u : List A) → n ≡ length u → put_mid a (a + n - a) l u ≡ take a l ++ over u (drop a l)
 put_is {A} a n l u e = ap (λ (z : List A). take a l ++ (u ++ z)) (Post-is a (a + n) l (omega arith) ∙ sym (drop-drop n a l) ∙ ap (λ (j : ℕ). drop j (drop a l)) e)
 
-module _ (x : Float) (js : List ℕ) (ms v : List Float) (k : ℕ) (s l p : List ℕ) (m : List Float) (y : Float) (ey : y ≡ expected v (coupling s l p m k)) where
+-- shares that come to x, where the coupling of pair k, as it is read, comes to y
+module _ (x : Float) (P : Shares) (v : List Float) (k : ℕ) (s : List ℕ) (S : StoreMut) (R : Store) (r : Reads s S R) (C : Shares) (q : Couples R k C) (y : Float) (yy : y ≡ expected v (shares_of C.places.now C.masses.now)) where
+  abbrev js : List ℕ
+  js = P.places.now
+
+  abbrev ms : List Float
+  ms = P.masses.now
+
+  abbrev l : List ℕ
+  l = S.lengths.now
+
+  abbrev p : List ℕ
+  p = S.places.now
+
+  abbrev m : List Float
+  m = S.masses.now
+
   abbrev f : ℕ
   f = get_or s k 0
 
@@ -61,8 +71,11 @@ module _ (x : Float) (js : List ℕ) (ms v : List Float) (k : ℕ) (s l p : List
   abbrev adopting : Bool → Adopted
   adopting b = adopt_if b k (get_or s k 0) js ms l p m
 
+  current_is : y ≡ expected v (coupling s l p m k)
+  current_is = let (es, el, ep, em) = r in let (a, b) = q in yy ∙ rw (a, b, es, el, ep, em)
+
   gain_is : lt x (sub binary64 y eps) ≡ gain
-  gain_is = ap (λ (z : Float). lt x (sub binary64 z eps)) ey
+  gain_is = ap (λ (z : Float). lt x (sub binary64 z eps)) current_is
 
   pub no_gain : lt x (sub binary64 y eps) ≡ false → adopted false l p m ≡ adopt x js ms v k s l p m
   no_gain h = let e : gain ≡ false = sym gain_is ∙ h in ap adopting (sym e ∙ and_first _ _ e)
@@ -91,11 +104,6 @@ adopt_size x js ms v k s l p m e = ap (λ (r : Adopted). length r.lengths) e ∙
     pick false = refl
 
 -- ---- the cheapest coupling in two work lists
-
--- what is answered, or no share of value 0
-pub bested_or : (r : Option Chosen) {b : Chosen} {p : List ℕ} {m : List Float} → b ≡ unwrap_or r (record { value = nought; cells = 0 }) → bested b.value b.cells p m ≡ bested_as r p m
-bested_or (Some c) {b} {p} {m} e = ap (λ (a : Chosen). bested a.value a.cells p m) e
-bested_or None {b} {p} {m} e = ap (λ (a : Chosen). bested a.value a.cells p m) e
 
 by_length : (t : Bool) (look : Look) (v : List Float) (es fs : List Jump) → length (best_by t look v es fs).coupling ≤ length es * length fs
 unfolding best_by independent_by
@@ -182,9 +190,17 @@ module _ (look : Look) (C D : ChainColumns) (codes : ℕ) (v : List Float) (x y 
 
 -- of a task's pair k, by what `best_pair` answers in work lists of 1,024 entries
 pub worked_in : (T : Given) (v : List Float) (k : ℕ) → k < length v → length v ≤ length T.pairs.lefts.now → length v ≤ length T.pairs.rights.now → (p : List ℕ) (m : List Float) → length p ≡ 1024 → length m ≡ 1024
-    → (r : Option Chosen) {b : Chosen} → b ≡ unwrap_or r (record { value = nought; cells = 0 }) → {js : List ℕ} {ms : List Float} → (HasPair T k → bested_as r js ms ≡ best_pair_of T k v p m) → Worked (best_in T v k) b.value b.cells js ms
-worked_in T v k h hl hr p m zp zm r {b} e {js} {ms} d =
-    worked (look_up T.pairs.codes.now) (of_chain T.left) (of_chain T.right) (length T.pairs.codes.now) v (get_or T.pairs.lefts.now k 0) (get_or T.pairs.rights.now k 0) p m zp zm b.value b.cells js ms (bested_or r e ∙ d (omega arith, omega arith))
+    → (b : Chosen) {js : List ℕ} {ms : List Float} → (HasPair T k → bested b.value b.cells js ms ≡ best_pair_of T k v p m) → Worked (best_in T v k) b.value b.cells js ms
+worked_in T v k h hl hr p m zp zm b {js} {ms} d =
+    worked (look_up T.pairs.codes.now) (of_chain T.left) (of_chain T.right) (length T.pairs.codes.now) v (get_or T.pairs.lefts.now k 0) (get_or T.pairs.rights.now k 0) p m zp zm b.value b.cells js ms (d (omega arith, omega arith))
+
+-- as many places as masses, few of them
+pub work_cut : {B : Best} {x : Float} {n : ℕ} {js : List ℕ} {ms : List Float} → Worked B x n js ms → length js ≡ 1024 → length ms ≡ 1024 → {p : List ℕ} {m : List Float} → (p ≡ take n js) × (m ≡ take n ms) → (length m ≡ length p) × (length p ≤ 1024)
+work_cut {B} {x} {n} {js} {ms} W hj hm {p} {m} (ep, em) =
+    let f = W.few in
+    let a = ap length ep ∙ length-take-le n js (omega arith) in
+    let b = ap length em ∙ length-take-le n ms (omega arith) in
+    (omega arith, omega arith)
 
 -- ---- the loop: at pair k of n
 
@@ -229,20 +245,24 @@ module _ {best : ℕ → Best} {v : List Float} {γ : Float} {cost : List Float}
             ∙ ap (λ (j : ℕ). better_from best v γ cost s j k x t l p m) (let e : suc (n - (k + 1)) ≡ n - k = omega arith in e) ∙ B.comes;
       }
 
--- ---- the check of the counts
+-- ---- the check of the counts: so many values, for a task's pairs and what is lent
 
-module _ (n lefts rights values cost starts lengths : ℕ) (b : Bool) (e : b ≡ counted n lefts rights values cost starts lengths) where
-  pub counts_known : not b ≡ false → (n ≤ lefts) × (n ≤ rights) × (n ≤ cost) × (n ≤ starts) × (n ≤ lengths)
-  counts_known h =
-      let (a₁, r₁) = and_t (leb n lefts) _ (sym e ∙ not-false b h) in
-      let (a₂, r₂) = and_t (leb n rights) _ r₁ in
-      let (a₃, r₃) = and_t (leb n values) _ r₂ in
-      let (a₄, r₄) = and_t (leb n cost) _ r₃ in
-      let (a₅, a₆) = and_t (leb n starts) _ r₄ in
-      (leb-true n lefts a₁, leb-true n rights a₂, leb-true n cost a₄, leb-true n starts a₅, leb-true n lengths a₆)
+module _ (T : Given) (s : List ℕ) (S : StoreMut) (n : ℕ) where
+  abbrev enough : Bool
+  enough = counted n (length T.pairs.lefts.now) (length T.pairs.rights.now) n (length T.cost.now) (length s) (length S.lengths.now)
 
-  pub uncounted : not b ≡ true → (r : Bettered) (l p : List ℕ) (m : List Float) → bettered nought false l p m ≡ better_if (counted n lefts rights values cost starts lengths) r l p m
-  uncounted h r l p m = ap (λ (t : Bool). better_if t r l p m) (sym (not-true b h) ∙ e)
+  module _ (b : Bool) (e : b ≡ enough) where
+    pub counts_known : not b ≡ false → (n ≤ length T.pairs.lefts.now) × (n ≤ length T.pairs.rights.now) × (n ≤ length T.cost.now) × (n ≤ length s) × (n ≤ length S.lengths.now)
+    counts_known h =
+        let (a₁, r₁) = and_t (leb n (length T.pairs.lefts.now)) _ (sym e ∙ not-false b h) in
+        let (a₂, r₂) = and_t (leb n (length T.pairs.rights.now)) _ r₁ in
+        let (a₃, r₃) = and_t (leb n n) _ r₂ in
+        let (a₄, r₄) = and_t (leb n (length T.cost.now)) _ r₃ in
+        let (a₅, a₆) = and_t (leb n (length s)) _ r₄ in
+        (leb-true n _ a₁, leb-true n _ a₂, leb-true n _ a₄, leb-true n _ a₅, leb-true n _ a₆)
 
-  pub counting : not b ≡ false → (f r : Bettered) (l p : List ℕ) (m : List Float) → f ≡ r → f ≡ better_if (counted n lefts rights values cost starts lengths) r l p m
-  counting h f r l p m q = q ∙ ap (λ (t : Bool). better_if t r l p m) (sym (not-false b h) ∙ e)
+    pub uncounted : not b ≡ true → (r : Bettered) → bettered nought false S.lengths.now S.places.now S.masses.now ≡ better_if enough r S.lengths.now S.places.now S.masses.now
+    uncounted h r = ap (λ (t : Bool). better_if t r S.lengths.now S.places.now S.masses.now) (sym (not-true b h) ∙ e)
+
+    pub counting : not b ≡ false → (f r : Bettered) → f ≡ r → f ≡ better_if enough r S.lengths.now S.places.now S.masses.now
+    counting h f r q = q ∙ ap (λ (t : Bool). better_if t r S.lengths.now S.places.now S.masses.now) (sym (not-false b h) ∙ e)

@@ -2,13 +2,14 @@
 ghost use Rattle.std.specs.Prelude.{◌≡◌, not, ◌||◌};
 ghost use Rattle.std.specs.Float.Ieee.{le};
 ghost use Rattle.numbers.specs.Refuse.{code};
+ghost use Rattle.distance_theory.specs.Lent.{SameStore};
 ghost use Rattle.distance_words.proofs.Valuing.{valued};
-ghost use Rattle.distance_words.proofs.Improving.{SameStarts};
 ghost use Rattle.distance_words.proofs.Iterating.{iterated_as, iterate_in, valued_in};
 
 use crate::improve::improve;
 use distance_theory::lent::{StoreMut, Task};
 use distance_values::values::{Costed, sweeps};
+use distance_values::visits::Policy;
 use distance_words::told::{Improvement, Rounds};
 use numbers::infinity;
 use numbers::refusal::Refusal;
@@ -21,13 +22,22 @@ fn ended(step: Improvement, aim: f64) -> bool
 }
 
 // The values of the couplings of all pairs, to within tol or after 1,000,000 sweeps.
-fn evaluate(task: &Task, store: &StoreMut, tol: f64, value: &mut [f64]) -> Result<(), Refusal>
-    ensures { valued (code result) value.new ≡ valued_in task.now store.now tol value.old }
+fn evaluate(
+    task: &Task,
+    starts: &[u32],
+    store: &StoreMut,
+    tol: f64,
+    value: &mut [f64],
+) -> Result<(), Refusal>
+    ensures { valued (code result) value.new ≡ valued_in task.now starts.now store.now tol value.old }
 {
-    let of = Costed {
-        store: store.read(),
-        cost: task.cost,
+    let policy = Policy {
+        store: store.read(starts),
         gamma: task.gamma,
+    };
+    let of = Costed {
+        policy,
+        cost: task.cost,
     };
     sweeps(1000000, &of, tol, value)
 }
@@ -38,17 +48,18 @@ pub fn iterate(
     task: &Task,
     aim: f64,
     tol: f64,
+    starts: &[u32],
     store: &mut StoreMut,
     values: &mut [f64],
 ) -> Rounds
-    ensures kept { SameStarts store.old store.new }
-    ensures iterated { iterated_as result values.new store.new ≡ iterate_in max_rounds task.now aim tol store.old values.old }
+    ensures lists { SameStore store.old store.new }
+    ensures iterated { iterated_as result values.new store.new ≡ iterate_in max_rounds task.now aim tol starts.now store.old values.old }
 {
     let mut residual = infinity();
     for rounds in 0..max_rounds {
         // Stays: the refusal is dropped, for `iterate` is public and could not fail before, and so it may not now; `sweeps` leaves the values as they were then.
-        let _ = evaluate(task, store, tol, values);
-        let step = improve(task, values, store);
+        let _ = evaluate(task, starts, store, tol, values);
+        let step = improve(task, values, starts, store);
         residual = step.residual;
         if ended(step, aim) {
             return Rounds {

@@ -1,9 +1,9 @@
 -- What `discover_from` lists is run as the definition says, however many pairs there are.
 use mathlib.Core.Path.{◌≡◌, refl, sym, ap, ap₂, ◌∙◌}
-use mathlib.Core.Bool.{true, false, true≢false}
+use mathlib.Core.Bool.{false, true≢false}
 use lib.Dec.{eqb}
 use mathlib.Core.Logic.{◌⊎◌, inl, inr}
-use Prim.Native.Nat.{ℕ, zero, suc, ◌≤◌, ◌<◌, min}
+use Prim.Native.Nat.{ℕ, ◌≤◌, ◌<◌, min}
 use mathlib.Core.List.{List}
 use native.Mathlib.Omega.{arith}
 use lib.ListN.{length, take, length-map, length-append, drop}
@@ -113,9 +113,6 @@ module _ (HL : ChainShape) (CL : ChainColumns) (HR : ChainShape) (CR : ChainColu
 
     pub right_long : n ≤ length r
     right_long = long (rights all) r₀ r right_front (length-map all (λ (q : Pair). q.right))
-
-    pub code_long : n ≤ length c
-    code_long = long (index all) c₀ c code_front (index_length all)
 
     cut_is : (a b x : List ℕ) → x ≡ over a b → length a ≡ length all → take n x ≡ a
     cut_is a b x f g = ap (take n) f ∙ take_at a _ n (g ∙ sym some.0)

@@ -38,7 +38,7 @@ use Rattle.distance_theory.specs.declared.lent.Scratch.{Scratch}
 use Rattle.distance_run.specs.Asked.{ran_on, runnable_in}
 use Rattle.distance_run.specs.declared.question.Question.{Question}
 use Rattle.distance_run.proofs.Chains.{cut}
-use Rattle.distance_run.proofs.Explored.{explored_refused, explored_told, some, left_long, right_long, code_long}
+use Rattle.distance_run.proofs.Explored.{explored_refused, explored_told, some, left_long, right_long}
 
 -- ---- one chain
 
@@ -185,25 +185,24 @@ module _ (Q : Question) (P : PairsMut) (p : List ℕ) (m : List Float) where
         in_rights : n ≤ length r
         in_rights = right_long HL CL HR CR γ o fit_l.shape fit_r.shape fit_r.few fit_l.rows fit_r.rows left_seen right_seen asked l r c l₀ r₀ c₀ p m n (d ∙ ap found_in discovers)
 
-        in_codes : n ≤ length c
-        in_codes = code_long HL CL HR CR γ o fit_l.shape fit_r.shape fit_r.few fit_l.rows fit_r.rows left_seen right_seen asked l r c l₀ r₀ c₀ p m n (d ∙ ap found_in discovers)
+        -- the pairs that are noted: so many are run
+        module _ {j : ℕ} (w : j ≡ n) {x y z : List ℕ} (N : (x ≡ take j l) × (y ≡ take j r) × (z ≡ take j c)) where
+          pub run_few : (length x ≤ 4096) × (length x ≤ length y)
+          run_few =
+              let few = pairs_few in
+              let a = in_lefts in
+              let b = in_rights in
+              let i = ap length N.0 ∙ length-take-le j l (omega arith) in
+              let k = ap length N.1 ∙ length-take-le j r (omega arith) in
+              (omega arith, omega arith)
 
-        pub in_lists : (n ≤ length l) × (n ≤ length r) × (n ≤ length c)
-        in_lists = (in_lefts, in_rights, in_codes)
-
-        -- so many are run
-        pub run_few : {x y : List ℕ} → x ≡ take n l → y ≡ take n r → (length x ≤ 4096) × (length x ≤ length y)
-        run_few e f =
-            let few = pairs_few in
-            let i = ap length e ∙ length-take-le n l in_lefts in
-            let j = ap length f ∙ length-take-le n r in_rights in
-            (omega arith, omega arith)
-
-        pub pairs_told : {x y z : List ℕ} → (x ≡ take n l) × (y ≡ take n r) × (z ≡ take n c) → {C D : ChainColumns} → C ≡ cut HL CL → D ≡ cut HR CR → {t : Told}
-            → t ≡ found_of (length x) x y z C D C.observations D.observations γ o p m → t ≡ answer
-        pairs_told {x} {y} {z} (e₁, e₂, e₃) {C} {D} f g k =
-            explored_told HL CL HR CR γ o fit_l.shape fit_r.shape fit_r.few fit_l.rows fit_r.rows left_seen right_seen asked l r c l₀ r₀ c₀ p m n (d ∙ ap found_in discovers) f g
-            (k ∙ ap₂ (λ (i j : List ℕ). found_of (length i) i j z C D C.observations D.observations γ o p m) e₁ e₂ ∙ ap (λ (j : List ℕ). found_of (length (take n l)) (take n l) (take n r) j C D C.observations D.observations γ o p m) e₃)
+          pub pairs_told : {C D : ChainColumns} → C ≡ cut HL CL → D ≡ cut HR CR → {t : Told} → t ≡ found_of (length x) x y z C D C.observations D.observations γ o p m → t ≡ answer
+          pairs_told {C} {D} f g k =
+              let e₁ = N.0 ∙ ap (λ (i : ℕ). take i l) w in
+              let e₂ = N.1 ∙ ap (λ (i : ℕ). take i r) w in
+              let e₃ = N.2 ∙ ap (λ (i : ℕ). take i c) w in
+              explored_told HL CL HR CR γ o fit_l.shape fit_r.shape fit_r.few fit_l.rows fit_r.rows left_seen right_seen asked l r c l₀ r₀ c₀ p m n (d ∙ ap found_in discovers) f g
+              (k ∙ ap₂ (λ (i j : List ℕ). found_of (length i) i j z C D C.observations D.observations γ o p m) e₁ e₂ ∙ ap (λ (j : List ℕ). found_of (length (take n l)) (take n l) (take n r) j C D C.observations D.observations γ o p m) e₃)
 
 -- ---- the ways that `run` ends
 

@@ -47,11 +47,10 @@ module _ (n : ℕ) (lefts rights codes : List ℕ) (C D : ChainColumns) (cost : 
     pub odd : u ≡ true → solving 16 nought 0 s' l' p' m' v ≡ whole
     odd g = ap (from true) (sym g) ∙ laid
 
-    pub made : u ≡ false → {y : Float} → y ≡ aim_of γ o → {j : ℕ} → j ≡ n → {s'' : List ℕ} → s'' ≡ s' → {x : Float} {k : ℕ} {v' : List Float} {l'' p'' : List ℕ} {m'' : List Float}
+    pub made : u ≡ false → {y : Float} → y ≡ aim_of γ o → {j : ℕ} → j ≡ n → {x : Float} {k : ℕ} {v' : List Float} {l'' p'' : List ℕ} {m'' : List Float}
         → iterated x k v' l'' p'' m'' ≡ iterate_from (task j lefts rights codes C D cost γ s' y (mul binary64 y tenth)) o.max_rounds (inf false) 0 v l' p' m'
-        → solving 0 x k s'' l'' p'' m'' v' ≡ whole
-    made g a ej es {x} {k} {v'} {l''} {p''} {m''} i =
-        ap (λ (z : List ℕ). solving 0 x k z l'' p'' m'' v') es
-        ∙ ap (λ (w : Iterated). solving 0 w.residual w.rounds s' w.lengths w.places w.masses w.values)
+        → solving 0 x k s' l'' p'' m'' v' ≡ whole
+    made g a ej {x} {k} {v'} {l''} {p''} {m''} i =
+        ap (λ (w : Iterated). solving 0 w.residual w.rounds s' w.lengths w.places w.masses w.values)
         (i ∙ ap₂ (λ (h : ℕ) (z : Float). iterate_from (task h lefts rights codes C D cost γ s' z (mul binary64 z tenth)) o.max_rounds (inf false) 0 v l' p' m') ej a)
         ∙ ap (from true) (sym g) ∙ laid

@@ -43,7 +43,7 @@ fn account(pairs: &Pairs, of: &Question, policy: &Policy) -> Result<Accounted, R
 }
 
 // The run of at most 4,096 pairs, with a right state for each left one. The store is left as the rounds leave it.
-// Stays: of two slices the check knows that they are as long after a call as before it, which `run` needs of `clear`; with `places` and `masses` as a `SharesMut` the seven functions that promise `SameStore` or `SameStarts` would have to prove it, which say now only that the lists are the same.
+// Stays: of two slices the check knows that they are as long after a call as before it, which `run` needs of `clear`; with `places` and `masses` as a `SharesMut` the seven functions that promise `SameStore` would have to prove it, which say now only that the lists are the same.
 pub(crate) fn run_found<'a>(
     pairs: &Pairs<'a>,
     of: &Question<'a>,
@@ -68,14 +68,19 @@ pub(crate) fn run_found<'a>(
         gamma,
     };
     let mut store = StoreMut {
-        starts: &mut starts,
         lengths: &mut lengths,
         places,
         masses,
     };
-    let made = solve(&task, of.goal.options, &mut store, &mut values[..n])?;
+    let made = solve(
+        &task,
+        of.goal.options,
+        &mut starts,
+        &mut store,
+        &mut values[..n],
+    )?;
     let policy = Policy {
-        store: store.read(),
+        store: store.read(&starts),
         gamma,
     };
     let accounted = account(pairs, of, &policy)?;

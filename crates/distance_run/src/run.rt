@@ -1,5 +1,5 @@
 // The run of two chains, from the discovery of their pairs on.
-ghost use Rattle.std.specs.Prelude.{◌≡◌, true, ◌<◌, ◌≤◌, min, length, take};
+ghost use Rattle.std.specs.Prelude.{◌≡◌, true, ◌<◌, ◌≤◌, min, length};
 ghost use Rattle.numbers.specs.Refuse.{numbered};
 ghost use Rattle.chain_theory.specs.Columns.{chain_of};
 ghost use Rattle.chain_theory.specs.Lent.{of_chain};
@@ -13,13 +13,13 @@ use crate::found::run_found;
 use crate::question::Question;
 use crate::scratch::clear;
 use chain_theory::Chain;
-use distance_pairs::discover::{discover_from, readable};
-use distance_theory::lent::{Pairs, PairsMut, Scratch};
-use distance_theory::long;
+use distance_pairs::discover::{discover_from, readable, roomy};
+use distance_theory::lent::{PairsMut, Scratch};
 use distance_words::told::Answer;
 use numbers::refusal::Refusal;
 
 // Rows of at most 32 entries.
+// Stays: as `offsets[..=states].is_sorted_by(|from, to| *to as usize <= *from as usize + 32)` it is as long, and calls sorted what is no order.
 fn slim(chain: &Chain) -> bool
     requires { chain.now.shape.states < length chain.now.offsets.now }
     ensures { result ≡ Run.slim chain.now.shape (of_chain chain.now) }
@@ -35,26 +35,11 @@ fn fits(chain: &Chain) -> bool
     readable(chain) && slim(chain) && chain.shape.states <= chain.observations.len()
 }
 
-// At least 4,096 entries of each list of pairs.
-// Stays: distance_pairs' `roomy` is of a `PairsMut`; `run` would lend scratch's lists to one before it knows whether the chains can be run.
-fn roomy(scratch: &Scratch) -> bool
-    ensures { result ≡ Run.roomy (length scratch.now.lefts.now) (length scratch.now.rights.now) (length scratch.now.codes.now) }
-{
-    long(
-        4096,
-        &[
-            scratch.lefts.len(),
-            scratch.rights.len(),
-            scratch.codes.len(),
-        ],
-    )
-}
-
 // Whether the chains can be run, with these lists of pairs and so many contributions asked for.
-fn runnable(of: &Question, scratch: &Scratch) -> bool
-    ensures { result ≡ runnable_in of.now (length scratch.now.lefts.now) (length scratch.now.rights.now) (length scratch.now.codes.now) }
+fn runnable(of: &Question, pairs: &PairsMut) -> bool
+    ensures { result ≡ runnable_in of.now (length pairs.now.lefts.now) (length pairs.now.rights.now) (length pairs.now.codes.now) }
 {
-    fits(&of.left) && fits(&of.right) && of.goal.options.top <= 64 && roomy(scratch)
+    fits(&of.left) && fits(&of.right) && of.goal.options.top <= 64 && roomy(pairs)
 }
 
 // The chain, with as many observations as it has states.
@@ -82,22 +67,6 @@ fn observed<'a>(of: &Question<'a>) -> Question<'a>
     }
 }
 
-// The first n pairs, to be read.
-// Stays: n is the number that `discover_from` answers; read from `pairs.count`, that answer would be dropped, and the three bounds be proved of the count.
-fn first<'a>(pairs: &'a PairsMut, n: usize) -> Pairs<'a>
-    requires { (n ≤ length pairs.now.lefts.now) × (n ≤ length pairs.now.rights.now) × (n ≤ length pairs.now.codes.now) }
-    ensures { (result.lefts.now ≡ take n pairs.now.lefts.now) × (result.rights.now ≡ take n pairs.now.rights.now) × (result.codes.now ≡ take n pairs.now.codes.now) }
-{
-    let lefts: &[u32] = pairs.lefts;
-    let rights: &[u32] = pairs.rights;
-    let codes: &[u64] = pairs.codes;
-    Pairs {
-        lefts: &lefts[..n],
-        rights: &rights[..n],
-        codes: &codes[..n],
-    }
-}
-
 // The run of chains that can be run. The lists are left as it leaves them.
 // Stays: `places` and `masses`, for the reason that `run_found` gives.
 fn run_pairs(
@@ -111,8 +80,8 @@ fn run_pairs(
     ensures lengths { (length pairs.new.lefts.now ≡ length pairs.old.lefts.now) × (length pairs.new.rights.now ≡ length pairs.old.rights.now) × (length pairs.new.codes.now ≡ length pairs.old.codes.now) }
     ensures told { numbered result ≡ told_of (Outcome.run (chain_of of.now.left.shape (of_chain of.now.left)) (chain_of of.now.right.shape (of_chain of.now.right)) of.now.goal.gamma of.now.goal.options (min (length places.old) (length masses.old))) }
 {
-    let n = discover_from(&of.left, &of.right, pairs)?;
-    run_found(&first(pairs, n), &observed(of), places, masses)
+    discover_from(&of.left, &of.right, pairs)?;
+    run_found(&pairs.noted(), &observed(of), places, masses)
 }
 
 // The run of two chains: refusals 17, 18, 16 and 19, or the distance and its contributions. 4 where they can't be run; the lists are then as they were, else all zero.
@@ -120,15 +89,15 @@ pub fn run(of: &Question, scratch: &mut Scratch) -> Result<Answer, Refusal>
     ensures lists { SameScratch scratch.old scratch.new }
     ensures ran { ran_in (numbered result) scratch.new ≡ ran_on of.now scratch.old }
 {
-    if !runnable(of, scratch) {
-        return Err(Refusal::OutOfRange);
-    }
     let mut pairs = PairsMut {
         lefts: &mut *scratch.lefts,
         rights: &mut *scratch.rights,
         codes: &mut *scratch.codes,
         count: 0,
     };
+    if !runnable(of, &pairs) {
+        return Err(Refusal::OutOfRange);
+    }
     let told = run_pairs(of, &mut pairs, &mut *scratch.places, &mut *scratch.masses);
     clear(scratch);
     told

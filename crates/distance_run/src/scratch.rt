@@ -6,6 +6,7 @@ ghost use Rattle.distance_theory.specs.Outcome.{zeros, noughts};
 use distance_theory::lent::Scratch;
 
 // Every entry of the lists of pairs and of the coupling store is 0.
+// Stays: a function of one caller; a method of `Scratch` would stand in distance_theory and be public.
 pub(crate) fn clear(scratch: &mut Scratch)
     ensures same { SameScratch scratch.old scratch.new }
     ensures lefts { scratch.new.lefts.now ≡ zeros scratch.old.lefts.now }

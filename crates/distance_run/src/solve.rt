@@ -33,17 +33,26 @@ fn uneven(max_rounds: usize, task: &Task) -> bool
 pub(crate) fn solve(
     task: &Task,
     options: MetricOptions,
+    starts: &mut [u32],
     store: &mut StoreMut,
     values: &mut [f64],
 ) -> Result<Rounds, Refusal>
     requires { length values.old ≡ length task.now.pairs.lefts.now }
     ensures lists { SameStore store.old store.new }
-    ensures solved { solved (numbered result) store.new.starts.now store.new.lengths.now store.new.places.now store.new.masses.now values.new ≡ solve_of (length task.now.pairs.lefts.now) task.now.pairs.lefts.now task.now.pairs.rights.now task.now.pairs.codes.now (of_chain task.now.left) (of_chain task.now.right) task.now.cost.now task.now.gamma options store.old.starts.now store.old.lengths.now store.old.places.now store.old.masses.now values.old }
+    ensures solved { solved (numbered result) starts.new store.new.lengths.now store.new.places.now store.new.masses.now values.new ≡ solve_of (length task.now.pairs.lefts.now) task.now.pairs.lefts.now task.now.pairs.rights.now task.now.pairs.codes.now (of_chain task.now.left) (of_chain task.now.right) task.now.cost.now task.now.gamma options starts.old store.old.lengths.now store.old.places.now store.old.masses.now values.old }
 {
-    lay_store(task, store)?;
+    lay_store(task, starts, store)?;
     if uneven(options.max_rounds, task) {
         return Err(Refusal::Totals);
     }
     let near = aim(task.gamma, options);
-    Ok(iterate(options.max_rounds, task, near, near * TENTH, store, values))
+    Ok(iterate(
+        options.max_rounds,
+        task,
+        near,
+        near * TENTH,
+        starts,
+        store,
+        values,
+    ))
 }

@@ -2,15 +2,16 @@
 use Rattle.std.specs.Prelude.{Some}
 use Rattle.chain_theory.specs.declared.Row.{Row}
 use mathlib.Core.Path.{◌≡◌, refl, sym, ap, ap₂, ◌∙◌}
-use Prim.Native.Nat.{ℕ, ◌≤◌}
+use Prim.Native.Nat.{ℕ, ◌≤◌, ◌<◌, ◌+◌}
 use mathlib.Core.Bool.{Bool, true, false, ◌&&◌, true≢false}
-use mathlib.Core.List.{List}
+use mathlib.Core.List.{List, []}
 use native.Mathlib.Omega.{arith}
 use lib.ListN.{length, get_or}
 use lib.Ieee.{Float}
 use Rattle.numbers.specs.Real.{nought}
-use Rattle.numbers.proofs.Bools.{and_t}
-use Rattle.chain_theory.specs.Columns.{ChainColumns, reads_row, row_targets, row_rates}
+use borrow.Author.Tests.{lt-ltb, le-leb, lt-leb}
+use Rattle.numbers.proofs.Bools.{and_t, and_first, and_second}
+use Rattle.chain_theory.specs.Columns.{ChainColumns, chain_columns, reads_row, row_targets, row_rates}
 use Rattle.chain_theory.specs.Lent.{RowRead, of_chain}
 use Rattle.epsdelta_theory.specs.Jumps.{Jump, jumps_of}
 use Rattle.distance_theory.specs.Couplings.{Share}
@@ -46,6 +47,12 @@ module _ (look : Look) (C D : ChainColumns) (codes x y : ℕ) where
 
   abbrev pub best_pair : List Float → List ℕ → List Float → Bested
   best_pair v p m = bested_when (reads_row C x && reads_row D y) (best_read v p m) p m
+
+-- a row whose end lies past the targets can't be read
+pub row_targets_lem : (O T : List ℕ) (P : List Float) (x : ℕ) → x + 1 < length O → (f t : ℕ) → f ≡ get_or O x 0 → t ≡ get_or O (x + 1) 0 → f ≤ t → length T < t → false ≡ reads_row (chain_columns O T P []) x
+row_targets_lem O T P x h f t ef et k l =
+    let e = lt-leb (get_or O (x + 1) 0) (length T) (omega arith) in
+    and_second _ _ _ (lt-ltb (x + 1) (length O) h) (and_second _ _ _ (le-leb (get_or O x 0) (get_or O (x + 1) 0) (omega arith)) (sym e ∙ and_first _ _ e))
 
 -- ---- what is laid where both rows are read
 

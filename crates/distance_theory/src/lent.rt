@@ -3,7 +3,7 @@ ghost use Rattle.std.specs.Prelude.{◌≡◌};
 ghost use Rattle.std.proofs.Math.Seq.{slice};
 ghost use Rattle.distance_theory.specs.Couplings;
 ghost use Rattle.distance_theory.specs.Couplings.{shares_of};
-ghost use Rattle.distance_theory.specs.Lent.{Reads, Couples, RowsRead};
+ghost use Rattle.distance_theory.specs.Lent.{PairsNoted, FirstShares, Reads, Couples, RowsRead};
 
 use crate::value_at;
 use chain_theory::{Chain, Row};
@@ -17,8 +17,8 @@ pub struct Rows<'a> {
 }
 
 // What a coupling comes to, Σ mass × value, and its number of shares.
-// Stays: `Plan` of transport has these two, and stands in a crate above this one; it speaks of cells and costs, and would tell less here.
-#[derive(Clone, Copy, Debug, PartialEq)]
+// Stays: `Plan` of transport has such a number and a count too; it is what a plan costs, and this crate doesn't stand on transport.
+#[derive(Clone, Copy, Debug, Default, PartialEq)]
 pub struct Best {
     pub value: f64,
     pub cells: usize,
@@ -48,6 +48,27 @@ pub struct PairsMut<'a> {
     pub rights: &'a mut [u32],
     pub codes: &'a mut [u64],
     pub count: usize,
+}
+
+// The entries from..to, of those that there are.
+fn part<T>(list: &[T], from: usize, to: usize) -> &[T]
+    ensures { result.now ≡ slice from to list.now }
+{
+    let to = to.min(list.len());
+    &list[from.min(to)..to]
+}
+
+impl PairsMut<'_> {
+    // The pairs that are noted so far.
+    pub fn noted(&self) -> Pairs<'_>
+        ensures { PairsNoted self.now result }
+    {
+        Pairs {
+            lefts: part(self.lefts, 0, self.count),
+            rights: part(self.rights, 0, self.count),
+            codes: part(self.codes, 0, self.count),
+        }
+    }
 }
 
 // The coupling of each pair: where its shares start and how many they are, in lists of places of pairs and of masses.
@@ -80,14 +101,6 @@ impl Shares<'_> {
     }
 }
 
-// The entries from..to, of those that there are.
-fn part<T>(list: &[T], from: usize, to: usize) -> &[T]
-    ensures { result.now ≡ slice from to list.now }
-{
-    let to = to.min(list.len());
-    &list[from.min(to)..to]
-}
-
 impl<'a> Store<'a> {
     // The coupling of pair k: those of its shares that are in the store.
     pub fn shares(&self, k: usize) -> Shares<'a>
@@ -102,11 +115,11 @@ impl<'a> Store<'a> {
     }
 }
 
-// The lists that couplings are laid in.
-// Stays: its lists of places and masses are flat, though `SharesMut` is those two; nested, the check refuses it ('a reference at an intersection of lifetimes').
+// The lists that couplings are laid in: how many shares each has, and the places and masses of all.
+// Stays: where each coupling starts is lent beside it, since the rounds only read it: as a field `improve` and `iterate` would ask for it by `&mut`, which is more than they asked.
+// Stays: its lists of places and masses are flat, though `SharesMut` is those two; nested, it needs a second lifetime (with one, reading it is refused: 'a reference at an intersection of lifetimes'), and its users would go by `shares.` to the same two lists; no line would go.
 #[derive(Drop)]
 pub struct StoreMut<'a> {
-    pub starts: &'a mut [u32],
     pub lengths: &'a mut [u32],
     pub places: &'a mut [u32],
     pub masses: &'a mut [f64],
@@ -119,13 +132,25 @@ pub struct SharesMut<'a> {
     pub masses: &'a mut [f64],
 }
 
+impl SharesMut<'_> {
+    // The first n shares.
+    pub fn first(&self, n: usize) -> Shares<'_>
+        ensures { FirstShares self.now n result }
+    {
+        Shares {
+            places: part(self.places, 0, n),
+            masses: part(self.masses, 0, n),
+        }
+    }
+}
+
 impl StoreMut<'_> {
-    // The couplings that are laid in it.
-    pub fn read(&self) -> Store<'_>
-        ensures { Reads self.now result }
+    // The couplings that are laid in it and start at these places.
+    pub fn read<'a>(&'a self, starts: &'a [u32]) -> Store<'a>
+        ensures { Reads starts.now self.now result }
     {
         Store {
-            starts: self.starts,
+            starts,
             lengths: self.lengths,
             places: self.places,
             masses: self.masses,

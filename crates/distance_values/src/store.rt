@@ -1,24 +1,15 @@
 // Whether the couplings in rows of numbers can be read: each in the store, and of pairs that are there. And the coupling of a pair.
-ghost use Rattle.std.specs.Prelude.{◌≡◌, ◌+◌, ◌≤◌, ◌<◌, length, get_or};
-ghost use Rattle.numbers.specs.Lists.{all};
-ghost use Rattle.distance_theory.specs.Lent.{Couples};
-ghost use Rattle.distance_words.proofs.Readable;
+ghost use Rattle.std.specs.Prelude.{◌≡◌, ◌+◌, ◌≤◌, length, get_or};
+ghost use Rattle.distance_theory.specs.Lent.{Couples, HasCoupling};
 ghost use Rattle.distance_words.proofs.Readable.{held_in, lies_in};
 
 use distance_theory::lent::{Shares, Store};
-
-// Whether each of these places is below n.
-// Stays: n is a bound on each of them, not how many of them are meant.
-fn all_below(places: &[u32], n: usize) -> bool
-    ensures { result ≡ all (Readable.below n) places.now }
-{
-    places.iter().all(|place| (*place as usize) < n)
-}
+use numbers::all_below;
 
 // Whether the coupling of pair k is in the store, and leads to some of n pairs.
 // Stays: whether all of it is in the store is asked of where it ends, which `Store::shares` has cut off.
 fn lies(store: &Store, n: usize, k: usize) -> bool
-    requires { (k < length store.now.starts.now) × (k < length store.now.lengths.now) }
+    requires { HasCoupling store.now k }
     ensures { result ≡ lies_in store.now n k }
 {
     let from = store.starts[k] as usize;
@@ -29,7 +20,7 @@ fn lies(store: &Store, n: usize, k: usize) -> bool
 // The coupling of pair k, all of which is in the store.
 // Stays: `Store::shares` asks how much of it is there each time, and with it replay_distance takes 13.6 % more instructions (the program text without contracts, built by rustc -O3).
 pub(crate) fn coupling<'a>(store: &Store<'a>, k: usize) -> Shares<'a>
-    requires indexed { (k < length store.now.starts.now) × (k < length store.now.lengths.now) }
+    requires indexed { HasCoupling store.now k }
     requires stored { (get_or store.now.starts.now k 0 + get_or store.now.lengths.now k 0 ≤ length store.now.places.now) × (get_or store.now.starts.now k 0 + get_or store.now.lengths.now k 0 ≤ length store.now.masses.now) }
     ensures { Couples store.now k result }
 {

@@ -7,25 +7,25 @@ ghost use Rattle.distance_theory.proofs.ValueRows.{Swept};
 ghost use Rattle.distance_words.proofs.Valuing.{priced, valued, evaluated_in};
 
 use crate::store::{coupling, held};
-use distance_theory::lent::Store;
+use crate::visits::Policy;
 use numbers::refusal::Refusal;
 use numbers::{apart, larger};
 
-// What a sweep reads: the coupling of each pair, its cost, and the discount.
+// What a sweep reads: the coupling of each pair, the discount, and each pair's cost.
 #[derive(Clone, Copy, Debug)]
 pub struct Costed<'a> {
-    pub store: Store<'a>,
+    pub policy: Policy<'a>,
     pub cost: &'a [f64],
-    pub gamma: f64,
 }
 
 // A sweep: each pair in turn gets cost + γ × what its coupling expects. Gives by how much a value has moved at most.
 fn sweep(of: &Costed, value: &mut [f64]) -> f64
-    requires holds { StoreHolds of.now.store (length value.old) }
+    requires holds { StoreHolds of.now.policy.store (length value.old) }
     requires value_in_bounds { length value.old ≤ length of.now.cost.now }
-    ensures { Swept (Rounds.swept (priced of.now.gamma of.now.cost.now) (policy_of of.now.store (length value.old)) value.old) value.new result }
+    ensures { Swept (Rounds.swept (priced of.now.policy.gamma of.now.cost.now) (policy_of of.now.policy.store (length value.old)) value.old) value.new result }
 {
-    let Costed { store, cost, gamma } = *of;
+    let Costed { policy, cost } = *of;
+    let Policy { store, gamma } = policy;
     let mut delta = 0.0;
     for k in 0..value.len() {
         let x = cost[k] + gamma * coupling(&store, k).expected(value);
@@ -37,9 +37,9 @@ fn sweep(of: &Costed, value: &mut [f64]) -> f64
 
 // Sweeps up to one that moves no value by more than tol, at most `limit`.
 fn sweeps_in(limit: usize, of: &Costed, tol: f64, value: &mut [f64])
-    requires holds { StoreHolds of.now.store (length value.old) }
+    requires holds { StoreHolds of.now.policy.store (length value.old) }
     requires value_in_bounds { length value.old ≤ length of.now.cost.now }
-    ensures { value.new ≡ Rounds.sweeps (priced of.now.gamma of.now.cost.now) (policy_of of.now.store (length value.old)) tol limit value.old }
+    ensures { value.new ≡ Rounds.sweeps (priced of.now.policy.gamma of.now.cost.now) (policy_of of.now.policy.store (length value.old)) tol limit value.old }
 {
     for _ in 0..limit {
         if sweep(of, value) <= tol {
@@ -50,10 +50,10 @@ fn sweeps_in(limit: usize, of: &Costed, tol: f64, value: &mut [f64])
 
 // The values of the pairs, each with its cost and its coupling, after at most `limit` sweeps. 18, and nothing changes, where these can't be read.
 pub fn sweeps(limit: usize, of: &Costed, tol: f64, value: &mut [f64]) -> Result<(), Refusal>
-    ensures { valued (code result) value.new ≡ evaluated_in limit of.now.store of.now.cost.now of.now.gamma tol value.old }
+    ensures { valued (code result) value.new ≡ evaluated_in limit of.now.policy.store of.now.cost.now of.now.policy.gamma tol value.old }
 {
     let n = value.len();
-    if n > of.cost.len() || !held(&of.store, n) {
+    if n > of.cost.len() || !held(&of.policy.store, n) {
         return Err(Refusal::CouplingStore);
     }
     let cut = Costed {

@@ -14,8 +14,6 @@ use Rattle.chain_theory.specs.Lent.{of_chain}
 use Rattle.distance_theory.specs.declared.lent.StoreMut.{StoreMut}
 use Rattle.distance_theory.specs.declared.lent.Task.{Task as Given}
 use Rattle.distance_words.specs.declared.told.Improvement.{Improvement}
-use Rattle.std.specs.Prelude.{◌≡◌}
-use Rattle.distance_theory.specs.Lent.{SameStore}
 use Rattle.distance_theory.specs.Couplings.{expected, Best, point_mass}
 use Rattle.distance_theory.proofs.Index.{look_up}
 use Rattle.distance_theory.proofs.Held.{shares_in}
@@ -96,17 +94,13 @@ abbrev pub improve : ℕ → List ℕ → List ℕ → List ℕ → ChainColumns
 improve n lefts rights codes C D v cost γ s l p m =
     better_if (counted n (length lefts) (length rights) (length v) (length cost) (length s) (length l)) (better_from (best_of_pair lefts rights codes C D v) v γ cost s n 0 nought false l p m) l p m
 
--- ---- the same of a task's pairs, in the lists that are lent
-
--- the same lists, and where each coupling starts
-abbrev pub SameStarts : StoreMut → StoreMut → Type 0
-SameStarts a b = SameStore a b × (b.starts.now ≡ a.starts.now)
+-- ---- the same of a task's pairs, in the lists that are lent, where the couplings start at s
 
 abbrev pub adopted_as : Bool → StoreMut → Adopted
 adopted_as b S = adopted b S.lengths.now S.places.now S.masses.now
 
-abbrev pub adopt_in : Float → List ℕ → List Float → List Float → ℕ → StoreMut → Adopted
-adopt_in x js ms v k S = adopt x js ms v k S.starts.now S.lengths.now S.places.now S.masses.now
+abbrev pub adopt_in : Float → List ℕ → List Float → List Float → ℕ → List ℕ → StoreMut → Adopted
+adopt_in x js ms v k s S = adopt x js ms v k s S.lengths.now S.places.now S.masses.now
 
 abbrev pub bettered_as : Improvement → StoreMut → Bettered
 bettered_as r S = bettered r.residual r.improved S.lengths.now S.places.now S.masses.now
@@ -114,5 +108,5 @@ bettered_as r S = bettered r.residual r.improved S.lengths.now S.places.now S.ma
 abbrev pub best_in : Given → List Float → ℕ → Best
 best_in T v k = best_of_pair T.pairs.lefts.now T.pairs.rights.now T.pairs.codes.now (of_chain T.left) (of_chain T.right) v k
 
-abbrev pub improve_in : Given → List Float → StoreMut → Bettered
-improve_in T v S = improve (length v) T.pairs.lefts.now T.pairs.rights.now T.pairs.codes.now (of_chain T.left) (of_chain T.right) v T.cost.now T.gamma S.starts.now S.lengths.now S.places.now S.masses.now
+abbrev pub improve_in : Given → List Float → List ℕ → StoreMut → Bettered
+improve_in T v s S = improve (length v) T.pairs.lefts.now T.pairs.rights.now T.pairs.codes.now (of_chain T.left) (of_chain T.right) v T.cost.now T.gamma s S.lengths.now S.places.now S.masses.now

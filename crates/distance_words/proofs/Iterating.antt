@@ -61,7 +61,7 @@ iterate_from T (suc j) x n v l p m =
     let b = bettered_of T u l p m in
     elim (ended T.aim b) [ true ↦ iterated b.residual (suc n) u b.lengths b.places b.masses | false ↦ iterate_from T j b.residual (suc n) u b.lengths b.places b.masses ]
 
--- ---- the same of a task's pairs, in the lists that are lent
+-- ---- the same of a task's pairs, in the lists that are lent, where the couplings start at s
 
 abbrev pub task_of : Given → ℕ → List ℕ → Float → Float → Task
 task_of T n s aim fine = task n T.pairs.lefts.now T.pairs.rights.now T.pairs.codes.now (of_chain T.left) (of_chain T.right) T.cost.now T.gamma s aim fine
@@ -70,8 +70,8 @@ abbrev pub iterated_as : Rounds → List Float → StoreMut → Iterated
 iterated_as r v S = iterated r.residual r.rounds v S.lengths.now S.places.now S.masses.now
 
 -- the values of all pairs
-abbrev pub valued_in : Given → StoreMut → Float → List Float → Valued
-valued_in T S tol v = evaluated many S.starts.now S.lengths.now S.places.now S.masses.now T.cost.now T.gamma tol v (length v)
+abbrev pub valued_in : Given → List ℕ → StoreMut → Float → List Float → Valued
+valued_in T s S tol v = evaluated many s S.lengths.now S.places.now S.masses.now T.cost.now T.gamma tol v (length v)
 
-abbrev pub iterate_in : ℕ → Given → Float → Float → StoreMut → List Float → Iterated
-iterate_in k T aim fine S v = iterate_from (task_of T (length v) S.starts.now aim fine) k (inf false) 0 v S.lengths.now S.places.now S.masses.now
+abbrev pub iterate_in : ℕ → Given → Float → Float → List ℕ → StoreMut → List Float → Iterated
+iterate_in k T aim fine s S v = iterate_from (task_of T (length v) s aim fine) k (inf false) 0 v S.lengths.now S.places.now S.masses.now

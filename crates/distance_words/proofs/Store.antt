@@ -57,8 +57,8 @@ fill n lefts rights codes C D s l p m =
     fill_if (counted n (length lefts) (length rights) (length s) (length l)) (fill_from (laying_of lefts rights codes C D) n 0 0 s l p m) s l p m
 
 -- the same of a task's pairs, in the lists that are lent
-abbrev pub filled_as : Bool → StoreMut → Filled
-filled_as b S = filled b S.starts.now S.lengths.now S.places.now S.masses.now
+abbrev pub filled_as : Bool → List ℕ → StoreMut → Filled
+filled_as b s S = filled b s S.lengths.now S.places.now S.masses.now
 
-abbrev pub fill_in : Task → StoreMut → Filled
-fill_in T S = fill (length T.pairs.lefts.now) T.pairs.lefts.now T.pairs.rights.now T.pairs.codes.now (of_chain T.left) (of_chain T.right) S.starts.now S.lengths.now S.places.now S.masses.now
+abbrev pub fill_in : Task → List ℕ → StoreMut → Filled
+fill_in T s S = fill (length T.pairs.lefts.now) T.pairs.lefts.now T.pairs.rights.now T.pairs.codes.now (of_chain T.left) (of_chain T.right) s S.lengths.now S.places.now S.masses.now

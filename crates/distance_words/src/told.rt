@@ -44,6 +44,7 @@ pub struct Answer {
 }
 
 // No contribution, and records of zeros.
+// Stays: `derive(Default)` is taken by the check, but asks a default of `PairContribution` and of `StateId` too, and state 0 is a state like any other.
 impl Default for Listed {
     ghost is_default = { λ listed. listed ≡ nothing_listed };
 

@@ -33,6 +33,7 @@ fn join_classes(sides: &Sides, classes: &mut [u32])
 }
 
 // What is left once the checks of both models have passed: what checks 7 to 10 say, or the relation; `classes` is work space.
+// Stays: rows and classes are two, lent in this order: of a struct of both behind one `&mut` the borrow checker does not cover this function, since the classes are read while the rows are lent.
 fn finish(
     settings: &Settings,
     rows: &RowStore,
@@ -64,12 +65,12 @@ fn refused(joined: Result<(), Fault>) -> Result<(), Refusal>
     }
 }
 
-// The relation of two models, unless a check fails; the last two are work space.
+// The relation of two models, unless a check fails; `rows` and `classes` are work space.
 fn epsdelta_in(
     settings: &Settings,
-    relation: &mut [u8],
     rows: &mut RowStore,
     classes: &mut [u32],
+    relation: &mut [u8],
 ) -> Result<(), Refusal>
     requires { Roomy settings.now.sides.now.left.model.shape settings.now.sides.now.right.model.shape (length rows.old.exits.now) (length rows.old.starts.now) (length rows.old.targets.now) (length rows.old.probs.now) (length classes.old) }
     ensures { AnswersTo settings.now relation.old result relation.new }
@@ -99,7 +100,7 @@ fn epsdelta_with<const STATES: usize, const STARTS: usize, const EDGES: usize>(
         targets: &mut targets,
         probs: &mut probs,
     };
-    epsdelta_in(settings, relation, &mut rows, &mut classes)
+    epsdelta_in(settings, &mut rows, &mut classes, relation)
 }
 
 // Whether a model has over 32 states or 200 edges, which none of a card has.

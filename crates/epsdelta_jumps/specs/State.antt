@@ -3,12 +3,8 @@ use Rattle.std.specs.Prelude.{ℕ}
 use Rattle.bisim_core.specs.Data.{columns_of}
 use Rattle.bisim_core.specs.Model as models
 use Rattle.epsdelta_theory.specs.Jumps.{Row, row}
-use Rattle.parts.specs.Jumping.{HasRow, degree}
+use Rattle.parts.specs.Jumping.{degree}
 use Rattle.epsdelta_jumps.specs.declared.rates.State.{State}
-
--- its row can be made
-abbrev pub HasRowOf : State → Type 0
-HasRowOf S = HasRow S.model.now S.s S.off
 
 -- its row
 abbrev pub row_of : State → Row

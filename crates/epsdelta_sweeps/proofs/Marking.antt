@@ -50,24 +50,16 @@ module _ (Q : Task) (n s t : ℕ) {C : List ℕ} {E : List Float} {ρ : Float} (
     unfolding holds
     is = ap (λ (m : ℕ). get_or (marks Q) (s * m + t) false) (sym M.states) ∙ marks_at Q s t (subst (λ (m : ℕ). s < m) (sym M.states) hs) (subst (λ (m : ℕ). t < m) (sym M.states) ht)
 
-    pub lower_first : s < t → {r : Bool} → r ≡ marked_in C E ρ s t → r ≡ get_or (marks Q) (s * n + t) false
-    lower_first l e =
-        let a : min s t ≡ s = omega arith in
-        let b : max s t ≡ t = omega arith in
-        e ∙ M.mark s t hs ht ∙ sym (ap (λ (x : ℕ). marked Q x t) a) ∙ sym (ap (λ (x : ℕ). marked Q (min s t) x) b) ∙ sym is
-
-    pub higher_first : t ≤ s → {r : Bool} → r ≡ marked_in C E ρ t s → r ≡ get_or (marks Q) (s * n + t) false
-    higher_first l e =
-        let a : min s t ≡ t = omega arith in
-        let b : max s t ≡ s = omega arith in
-        e ∙ M.mark t s ht hs ∙ sym (ap (λ (x : ℕ). marked Q x s) a) ∙ sym (ap (λ (x : ℕ). marked Q (min s t) x) b) ∙ sym is
+    -- by the pair's lower state and its higher one
+    pub in_order : {r : Bool} → r ≡ marked_in C E ρ (min s t) (max s t) → r ≡ get_or (marks Q) (s * n + t) false
+    in_order e = e ∙ M.mark (min s t) (max s t) (omega arith) (omega arith) ∙ sym is
 
     pub not_marked : get_or C s 0 ≢ get_or C t 0 → false ≡ get_or (marks Q) (s * n + t) false
     not_marked d = by_order (lt_or_ge s t)
       where
         by_order : (s < t) ⊎ (t ≤ s) → false ≡ get_or (marks Q) (s * n + t) false
-        by_order (inl l) = lower_first l (classes_differ (get_or C s 0) (get_or C t 0) _ d)
-        by_order (inr l) = higher_first l (classes_differ (get_or C t 0) (get_or C s 0) _ (λ e. d (sym e)))
+        by_order (inl l) = let a : min s t ≡ s = omega arith in let b : max s t ≡ t = omega arith in in_order (rw (a, b) (classes_differ (get_or C s 0) (get_or C t 0) _ d))
+        by_order (inr l) = let a : min s t ≡ t = omega arith in let b : max s t ≡ s = omega arith in in_order (rw (a, b) (classes_differ (get_or C t 0) (get_or C s 0) _ (λ e. d (sym e))))
 
 -- there is a state if there is a byte
 pub some : (n k : ℕ) → k < relation_bytes n → 0 < n

@@ -1,5 +1,5 @@
 -- Sweeps resumed at a place: each test of a pair, the end of a row and the end of a sweep lead from place to place as the definition goes on.
-use mathlib.Core.Path.{◌≡◌, refl, sym, ap, subst⁻¹, ◌∙◌}
+use mathlib.Core.Path.{◌≡◌, refl, sym, ap, subst, subst⁻¹, ◌∙◌}
 use Prim.Native.Nat.{ℕ, zero, suc, ◌+◌, ◌-◌, ◌*◌, ◌≤◌, ◌<◌}
 use mathlib.Core.Bool.{Bool, true, false, ◌&&◌, not, false≢true}
 use mathlib.Core.List.{List}
@@ -449,6 +449,24 @@ module _ {n : ℕ} {E : List Float} {S T : List ℕ} {P : List Float} {need : Fl
     held = record { bytes = H.bytes; noted = noted_again F H.noted h C' z f; even = H.even; enough = H.enough; asked = unasked };
     falls = subst⁻¹ (λ (b : Bool). weight n store 0 1 false false < weight n store s t false b) e (again_falls n store s t);
   }
+
+-- the turns of pairs that don't stand
+module _ {n : ℕ} {E : List Float} {S T : List ℕ} {P : List Float} {need : Float} {plenty : Option Float} (F : RowsFit n S T P) {store C : List ℕ} {s : ℕ} (struck : Bool) (hs : s < n) where
+  turns_over : (d t : ℕ) → t + d ≤ n → ((v : ℕ) → t ≤ v → v < t + d → bit_at store (s * n + v) ≡ false) → Held n E S T P need plenty store C s t false false
+      → Moves n E S T P need plenty store s t false struck false (weight n store s t false struck + 1) store C s (t + d) false struck false
+  turns_over zero t k f H = let e : t ≡ t + 0 = omega arith in subst (λ (u : ℕ). Moves n E S T P need plenty store s t false struck false (weight n store s t false struck + 1) store C s u false struck false) e (moves_start H)
+  turns_over (suc d) t k f H =
+      let M = turn_absent F struck hs (omega arith) H (f t (omega arith) (omega arith)) in
+      let e : t + 1 + d ≡ t + suc d = omega arith in
+      subst (λ (u : ℕ). Moves n E S T P need plenty store s t false struck false (weight n store s t false struck + 1) store C s u false struck false) e
+      (moves_then M (omega arith) (turns_over d (t + 1) (omega arith) (λ v h i. f v (omega arith) (omega arith)) M.held))
+
+  pub turns_absent : {t : ℕ} (u : ℕ) → t ≤ u → u ≤ n → ((v : ℕ) → t ≤ v → v < u → bit_at store (s * n + v) ≡ false) → Held n E S T P need plenty store C s t false false
+      → Moves n E S T P need plenty store s t false struck false (weight n store s t false struck + 1) store C s u false struck false
+  turns_absent {t} u h k f H =
+      let e : t + (u - t) ≡ u = omega arith in
+      subst (λ (v : ℕ). Moves n E S T P need plenty store s t false struck false (weight n store s t false struck + 1) store C s v false struck false) e
+      (turns_over (u - t) t (omega arith) (λ v i j. f v i (omega arith)) H)
 
 -- a sweep from the first pair leaves no more pairs, with one for a strike
 pub sweep_falls : (n : ℕ) (store store' : List ℕ) (s t : ℕ) (struck : Bool) → weight n store' s t false struck < weight n store 0 1 false false + 1 → standing n store' + one_if struck ≤ standing n store

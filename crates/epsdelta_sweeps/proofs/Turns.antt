@@ -19,7 +19,7 @@ use Rattle.epsdelta_theory.proofs.Unchanged.{Quiet}
 use Rattle.flow_duality.specs.Spare.{row_most, is_share}
 use Rattle.flow_duality.proofs.Plenty.{Formed, Light, LightRow, Plenty, Between, Even, even_symmetric}
 use Rattle.flow_links.specs.Fits.{row_fits, fits}
-use Rattle.flow_links.proofs.RowsRead.{entries}
+use Rattle.flow_links.proofs.RowsRead.{entries, states_of}
 use Rattle.flow_links.proofs.Fitting.{all_fit, fit, few_links, Written, laid}
 use Rattle.epsdelta_theory.specs.Relation.{relation_of}
 use Rattle.flow_core.specs.Test.{flow_between}
@@ -28,10 +28,14 @@ use Rattle.flow_core.specs.Outcome.{settled}
 use Rattle.flow_theory.specs.Run.{all_pushes}
 use Rattle.flow_core.specs.declared.Flow.{Flow}
 use Rattle.flow_links.specs.declared.rows.Test.{Test}
+use Rattle.flow_links.specs.declared.rows.Rows.{Rows}
 use Rattle.flow_direct.specs.Reaches.{both_reach, reaches, test_both, test_reaches, Known, at_least}
 use Rattle.flow_direct.specs.declared.reach.Ways.{Ways}
 use Rattle.flow_direct.specs.declared.reach.Ways.TheVariants as ways
 use Rattle.epsdelta_sweeps.specs.Place.{Judged}
+use Rattle.epsdelta_sweeps.specs.Leading.{Paired, TestOf, Enough, Answers, passes_in}
+use Rattle.epsdelta_sweeps.specs.declared.place.Asked.{Asked}
+use Rattle.epsdelta_sweeps.specs.declared.changes.Memory.{Memory}
 use Rattle.flow_direct.proofs.Beginning.{answer_reaches}
 use Rattle.flow.specs.declared.network.FlowNetwork.{FlowNetwork}
 use Rattle.flow.specs.Filled.{flow_rows}
@@ -194,3 +198,52 @@ module _ {n : ℕ} {S T : List ℕ} {P : List Float} (F : RowsFit n S T P) where
       ∙ ap (λ (z : ℕ). at_least need (flow_rows N h' c' p v (length us + length ts + 2) (length us + length ts) z).answer) ez
       ∙ ap (at_least need) (rows_between store L N whole places p (omega arith) ∙ passed_in F store R e s t i j)
       )
+
+-- ---- a flow test as code makes it
+
+module _ (rows : Rows) (memory : Memory) (s t : ℕ) (X : Test) (T : TestOf rows memory s t X) where
+  -- what holds of its rows holds of those of the lists
+  of_lists : (P : List ℕ → List Float → List ℕ → List Float → ℕ → List ℕ → Type 0) → P X.left.targets.now X.left.rates.now X.right.targets.now X.right.rates.now X.states X.relation.now
+      → P (entries rows.starts.now rows.targets.now s) (entries rows.starts.now rows.probs.now s) (entries rows.starts.now rows.targets.now t) (entries rows.starts.now rows.probs.now t) (states_of rows) memory.relation.now
+  of_lists P p = rw (T.0, T.1, T.2, T.3, T.4, T.5) at p
+
+  -- the test back
+  pub test_back : {Y : Test} → (Y.left ≡ X.right) × (Y.right ≡ X.left) × (Y.states ≡ X.states) × (Y.relation ≡ X.relation) → TestOf rows memory t s Y
+  test_back (l, r, n, b) = (rw l T.2, rw l T.3, rw r T.0, rw r T.1, n ∙ T.4, rw b T.5)
+
+  module _ (p : Paired rows s t) where
+    -- whether its flow is enough is the definition's test
+    pub tested : (need : Float) (R : List Bool) → memory.relation.now ≡ packed R → test_reaches X need ≡ passes_in rows need R s t
+    tested need R e = of_lists (λ us vs ts ws n l. test_reaches X need ≡ reaches us vs ts ws n (relation_of l) need) refl ∙ reached_in p.0 need memory.relation.now R e s t p.1 p.2
+
+    -- what is known of it and of the one back
+    pub judged : (need : Float) (plenty here : Option Float) (w : Ways) → Enough rows need plenty → Even (states_of rows) memory.relation.now → Between (length X.left.targets.now) (length X.right.targets.now) plenty here → Known X need here w
+        → (R : List Bool) → memory.relation.now ≡ packed R → Judged (passes_in rows need R s t) (passes_in rows need R t s) w
+    judged need plenty here w K E b k R e =
+        known_judged X need here w k
+        (of_lists (λ us vs ts ws n l. test_both X need ≡ both_reach us vs ts ws n (relation_of l) need) refl ∙ reached_both p.0 need memory.relation.now R e s t p.1 p.2)
+        (tested need R e)
+        (λ h. plenty_in p.0 need plenty K here memory.relation.now R e E s t (of_lists (λ us vs ts ws n l. Between (length us) (length ts) plenty here) b) p.1 p.2
+        (of_lists (λ us vs ts ws n l. IsSomeAnd here (λ x. reaches us vs ts ws n (relation_of l) x ≡ true)) h))
+
+    -- its links, where they were written into rows with room for all
+    pub laid_of : (h : List ℕ) (c : List Float) → length h ≡ 2046 → length c ≡ 2046
+        → {o : Option ℕ} {h' : List ℕ} {c' : List Float} → Written X.left.targets.now X.left.rates.now X.right.targets.now X.right.rates.now X.states (relation_of X.relation.now) h c o h' c'
+        → (k x y z : ℕ) → k ≡ unwrap_or o 0 → x ≡ length X.left.targets.now + length X.right.targets.now + 2 → y ≡ length X.left.targets.now + length X.right.targets.now → z ≡ length X.left.targets.now + length X.right.targets.now + 1
+        → (N : FlowNetwork) → length N.links ≡ 2176 → length N.list ≡ 2176 → (costs : List Float) → length costs ≡ 2046
+        → (need : Float) (R : List Bool) → memory.relation.now ≡ packed R → passes_in rows need R s t ≡ at_least need (flow_rows N h' c' costs k x y z).answer
+    laid_of h c lh lc {o} {h'} {c'} w k x y z ek ex ey ez =
+        let l = ap length T.0 in
+        let r = ap length T.2 in
+        laid_test p.0 memory.relation.now s t p.1 p.2 h c lh lc (of_lists (λ us vs ts ws n b. Written us vs ts ws n (relation_of b) h c o h' c') w) k x y z ek (omega arith) (omega arith) (omega arith)
+
+-- the links of the test that is asked for, the one back or not
+pub laid_asked : (rows : Rows) (memory : Memory) (a : Asked) (X : Test) → (a.back ≡ false → TestOf rows memory a.s a.t X) → (a.back ≡ true → TestOf rows memory a.t a.s X) → Paired rows a.s a.t
+    → (h : List ℕ) (c : List Float) → length h ≡ 2046 → length c ≡ 2046
+    → {o : Option ℕ} {h' : List ℕ} {c' : List Float} → Written X.left.targets.now X.left.rates.now X.right.targets.now X.right.rates.now X.states (relation_of X.relation.now) h c o h' c'
+    → (k x y z : ℕ) → k ≡ unwrap_or o 0 → x ≡ length X.left.targets.now + length X.right.targets.now + 2 → y ≡ length X.left.targets.now + length X.right.targets.now → z ≡ length X.left.targets.now + length X.right.targets.now + 1
+    → (N : FlowNetwork) → length N.links ≡ 2176 → length N.list ≡ 2176 → (costs : List Float) → length costs ≡ 2046 → Answers rows memory a (flow_rows N h' c' costs k x y z).answer
+laid_asked rows memory a X forth back p h c lh lc w k x y z ek ex ey ez N i j costs l need R e = (
+  λ q. laid_of rows memory a.s a.t X (forth q) p h c lh lc w k x y z ek ex ey ez N i j costs l need R e,
+  λ q. laid_of rows memory a.t a.s X (back q) (p.0, p.2, p.1) h c lh lc w k x y z ek ex ey ez N i j costs l need R e,
+)

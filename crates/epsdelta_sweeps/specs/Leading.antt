@@ -13,6 +13,7 @@ use Rattle.flow_duality.proofs.Plenty.{Plenty, Even, LightRow}
 use Rattle.flow_duality.proofs.Places.{Held, Moves, weight}
 use Rattle.flow_links.proofs.RowsRead.{Fitting, entries, states_of}
 use Rattle.flow_links.specs.declared.rows.Rows.{Rows}
+use Rattle.flow_links.specs.declared.rows.Test.{Test}
 use Rattle.flow_core.specs.declared.Flow.{Flow}
 use Rattle.flow_direct.specs.Reaches.{at_least}
 use Rattle.epsdelta_sweeps.specs.Place.{Same, count, words_of}
@@ -48,6 +49,13 @@ Enough rows need plenty = IfSome plenty (Plenty (states_of rows) rows.starts.now
 -- strikes of so many states
 abbrev pub Worded : ℕ → Memory → Type 0
 Worded states memory = (states ≤ 2000) × (count memory ≡ states)
+
+-- the flow test from s to t, against the bytes of the relation
+abbrev pub TestOf : Rows → Memory → ℕ → ℕ → Test → Type 0
+TestOf rows memory s t test =
+    (test.left.targets.now ≡ entries rows.starts.now rows.targets.now s) × (test.left.rates.now ≡ entries rows.starts.now rows.probs.now s)
+    × (test.right.targets.now ≡ entries rows.starts.now rows.targets.now t) × (test.right.rates.now ≡ entries rows.starts.now rows.probs.now t)
+    × (test.states ≡ states_of rows) × (test.relation.now ≡ memory.relation.now)
 
 -- how the flow test from s to t ended, against whatever relation the bytes are
 abbrev pub Tested : Terms → Memory → ℕ → ℕ → Bool → Type 0

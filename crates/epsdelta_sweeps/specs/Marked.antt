@@ -4,11 +4,7 @@ use Rattle.numbers.specs.Bits.{bits}
 use Rattle.epsdelta_theory.specs.Sweeps as sweeps
 use Rattle.epsdelta_theory.specs.Sweeps.{Task}
 use Rattle.epsdelta_theory.proofs.TasksIn.{MarksIn}
-use Rattle.epsdelta_sweeps.specs.declared.marks.Classed.{Classed}
-
--- an exit rate for each class
-abbrev pub Rated : Classed → Type 0
-Rated of = length of.exits.now ≡ length of.classes.now
+use Rattle.epsdelta_sweeps.specs.declared.classed.Classed.{Classed}
 
 -- the states of Q have these classes and exit rates
 abbrev pub MarksOf : Task → Classed → Type 0
@@ -16,7 +12,7 @@ MarksOf Q of = MarksIn Q (length of.classes.now) of.classes.now of.exits.now of.
 
 -- there are states, and the marks have an entry there or not far before
 abbrev pub Reached : Classed → ℕ → Type 0
-Reached of first = (0 < length of.classes.now) × Rated of × (first ≤ 4000000)
+Reached of first = (0 < length of.classes.now) × (first ≤ 4000000)
 
 -- a byte is that of the eight marks from `first` on
 abbrev pub Byte : Classed → ℕ → ℕ → Type 0

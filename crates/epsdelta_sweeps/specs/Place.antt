@@ -1,5 +1,8 @@
 -- Where sweeps stand, and what they write.
-use Rattle.std.specs.Prelude.{ℕ, zero, suc, ◌<◌, get_or, Bool, true, cond, List, [], ◌∷◌, length, ◌&&◌, ◌≡◌, ⊤}
+use Rattle.std.specs.Prelude.{ℕ, zero, suc, ◌<◌, ◌≤◌, ◌+◌, ◌*◌, get_or, Bool, true, false, cond, List, [], ◌∷◌, length, ◌&&◌, ◌≡◌, ⊤, Option}
+use Rattle.std.specs.Option.{MatchOption}
+use Rattle.numbers.specs.Bits.{bit_at}
+use Rattle.epsdelta_theory.proofs.Unchanged.{Missed}
 use Rattle.flow_direct.specs.declared.reach.Ways.{Ways}
 use Rattle.flow_direct.specs.declared.reach.Ways.TheVariants as ways
 use Rattle.epsdelta_sweeps.specs.declared.changes.Memory.{Memory}
@@ -19,9 +22,25 @@ words (suc n) (x ∷ l) again = x.recent ∷ x.before ∷ words n l again
 abbrev pub words_of : ℕ → Memory → List ℕ
 words_of n memory = words n memory.strikes.now memory.again
 
+-- s and t are a pair that stands
+abbrev pub Stands : Memory → ℕ → ℕ → Type 0
+Stands memory s t = bit_at memory.relation.now (s * count memory + t) ≡ true
+
+-- s stands with no state from t up to u
+abbrev pub Alone : Memory → ℕ → ℕ → ℕ → Type 0
+Alone memory s t u = (v : ℕ) → t ≤ v → v < u → bit_at memory.relation.now (s * count memory + v) ≡ false
+
+-- the first state from t on that s stands with, if any does
+abbrev pub Next : Memory → ℕ → ℕ → Option ℕ → Type 0
+Next memory s t next = MatchOption next (Alone memory s t (count memory)) (λ u. (t ≤ u) × (u < count memory) × Stands memory s u × Alone memory s t u)
+
 -- no strikes
 abbrev pub none : Strikes
 none = record { recent = 0; before = 0 }
+
+-- none of these targets is among strikes, of s and states so many
+abbrev pub Untouched : List ℕ → ℕ → Strikes → ℕ → Type 0
+Untouched row states m s = (k : ℕ) → k < length row → Missed states s (get_or row k 0) m.recent m.before
 
 -- a sweep is over: its strikes are those of the sweep before
 abbrev pub Aged : List Strikes → List Strikes → Type 0

@@ -1,5 +1,5 @@
 -- What is read of rows that are lent: flow_links' words of their lists.
-use Rattle.std.specs.Prelude.{ℕ, ◌≤◌, ◌<◌, Bool, List}
+use Rattle.std.specs.Prelude.{ℕ, Bool, List}
 use Rattle.epsdelta_theory.specs.declared.tolerances.Tolerances.{Tolerances}
 use Rattle.flow_links.proofs.RowsRead as read
 use Rattle.flow_links.specs.declared.rows.Rows.{Rows}

@@ -1,9 +1,9 @@
 // Strikes that are noted, so that flow tests that would pass again need no run.
 // Bit v % 64 of `recent` of state u is set after a strike of u and v in this sweep, that of `before` after one in the sweep before. States v that are 64 apart share a bit.
 ghost use Rattle.std.specs.Prelude.{◌≡◌, ℕ, ◌≤◌, ◌<◌, ◌+◌, ◌*◌, ◌%◌, true, false, length, get_or, IfSome};
-ghost use Rattle.numbers.specs.Bits.{bit_at, cleared};
-ghost use Rattle.epsdelta_theory.proofs.Unchanged.{Off, Told, Missed, QuietAt, Quiet, noted};
-ghost use Rattle.epsdelta_sweeps.specs.Place.{Same, Aged, count, words_of};
+ghost use Rattle.numbers.specs.Bits.{cleared};
+ghost use Rattle.epsdelta_theory.proofs.Unchanged.{Off, Told, QuietAt, Quiet, noted};
+ghost use Rattle.epsdelta_sweeps.specs.Place.{Same, Aged, Untouched, Next, count, words_of};
 ghost use Rattle.flow_links.proofs.RowsRead.{states_of};
 ghost use Rattle.epsdelta_sweeps.specs.Leading.{Paired};
 
@@ -34,12 +34,14 @@ pub(crate) struct Memory<'a> {
 }
 
 impl Memory<'_> {
-    // Whether the pair (s, t) stands.
-    pub(crate) fn holds(&self, s: usize, t: usize) -> bool
-        requires { (count self.now ≤ 2000) × (s < count self.now) × (t < count self.now) }
-        ensures { result ≡ bit_at self.now.relation.now (s * count self.now + t) }
+    // The first state from t on that s stands with, if any does.
+    pub(crate) fn next(&self, s: usize, t: usize) -> Option<usize>
+        requires { (count self.now ≤ 2000) × (s < count self.now) }
+        ensures { Next self.now s t result }
     {
-        bit(self.relation, s * self.strikes.len() + t)
+        let states = self.strikes.len();
+        let row = s * states;
+        (t..states).find(|t| bit(self.relation, row + *t))
     }
 
     // Strikes (s, t): both orders are cleared, and the strike is noted.
@@ -89,14 +91,13 @@ fn since(m: Strikes, v: usize, s: usize) -> bool
 
 // True only if these targets are states, and none of them is among these strikes.
 fn untouched(row: &[u32], states: usize, m: Strikes, s: usize) -> bool
-    ensures { result ≡ true → (k : ℕ) → k < length row.now → Missed states s (get_or row.now k 0) m.recent m.before }
+    ensures { result ≡ true → Untouched row.now states m s }
 {
     row.iter()
         .all(|v| (*v as usize) < states && !since(m, *v as usize, s))
 }
 
 // True only if s and t have targets, and no entry that their flow tests read was struck since their turn in the sweep before.
-// Stays: of a closure in `is_some_and` that calls `untouched` the check learns nothing, since what that promises is an implication.
 pub(crate) fn unchanged(rows: &Rows, memory: &Memory, s: usize, t: usize) -> bool
     requires { Paired rows.now s t × (count memory.now ≡ states_of rows.now) }
     ensures { result ≡ true → Quiet rows.now.starts.now rows.now.targets.now (QuietAt (states_of rows.now) (words_of (states_of rows.now) memory.now) s) s t }
@@ -106,10 +107,12 @@ pub(crate) fn unchanged(rows: &Rows, memory: &Memory, s: usize, t: usize) -> boo
     if !memory.again || us.is_empty() || vs.is_empty() {
         return false;
     }
-    match strikes_of(us, memory, s) {
-        Some(m) => untouched(vs, rows.exits.len(), m, s),
-        None => false,
-    }
+    let states = rows.exits.len();
+    strikes_of(us, memory, s).is_some_and(
+        |m|
+            ensures { result ≡ true → Untouched vs.entry.now states m s }
+        { untouched(vs, states, m, s) },
+    )
 }
 
 // The strikes of a sweep that is over, as those of the sweep before.

@@ -2,6 +2,7 @@
 #![tactic(auto)]
 
 mod changes; // changes.rt: strikes that are noted, and tests that need no run
+mod classed; // classed.rt: what marks are made of
 mod marks; // marks.rt: the marks of a relation
 mod network; // network.rt: flow tests on a network that is lent
 mod place; // place.rt: where sweeps stand, and what they are asked for

@@ -5,21 +5,14 @@ ghost use Rattle.epsdelta_theory.specs.Relation.{relation_bytes};
 ghost use Rattle.epsdelta_theory.specs.Sweeps.{Task};
 ghost use Rattle.epsdelta_theory.specs.Sweeps;
 ghost use Rattle.epsdelta_theory.proofs.TasksIn.{marked_in};
-ghost use Rattle.epsdelta_sweeps.specs.Marked.{Rated, MarksOf, Reached, Byte};
+ghost use Rattle.epsdelta_sweeps.specs.Marked.{MarksOf, Reached, Byte};
 
+use crate::classed::Classed;
 use epsdelta_theory::rates_close;
-
-// What the marks are made of: the class and the exit rate of each state, and by what factor rates may differ.
-#[derive(Clone, Copy)]
-pub(crate) struct Classed<'a> {
-    pub(crate) classes: &'a [u32],
-    pub(crate) exits: &'a [f64],
-    pub(crate) rho: f64,
-}
 
 // Whether s and t have equal classes, and exit rates that pass the rate test.
 fn marked(of: &Classed, s: usize, t: usize) -> bool
-    requires { Rated of.now × (s < length of.now.classes.now) × (t < length of.now.classes.now) }
+    requires { (s < length of.now.classes.now) × (t < length of.now.classes.now) }
     ensures { result ≡ marked_in of.now.classes.now of.now.exits.now of.now.rho s t }
 {
     of.classes[s] == of.classes[t] && rates_close(of.exits[s], of.exits[t], of.rho)
@@ -27,17 +20,10 @@ fn marked(of: &Classed, s: usize, t: usize) -> bool
 
 // The entry of (s, t), by the pair's lower state and its higher one; false past the last state.
 fn entry(of: &Classed, s: usize, t: usize) -> bool
-    requires { Rated of.now × (t < length of.now.classes.now) }
+    requires { t < length of.now.classes.now }
     ensures { (Q : Task) → MarksOf Q of.now → result ≡ get_or (Sweeps.marks Q) (s * length of.now.classes.now + t) false }
 {
-    let states = of.classes.len();
-    if states <= s {
-        return false;
-    }
-    if s < t {
-        return marked(of, s, t);
-    }
-    marked(of, t, s)
+    s < of.classes.len() && marked(of, s.min(t), s.max(t))
 }
 
 // True only if row s has eight entries from column t on, and the states of all of them have another class than s.
@@ -80,7 +66,7 @@ fn byte_at(of: &Classed, first: usize) -> u8
 
 // Writes the marks of all pairs, both orders; spare bits are zero.
 pub(crate) fn marks(of: &Classed, relation: &mut [u8])
-    requires { (length of.now.classes.now ≤ 2000) × Rated of.now × (length relation.old ≡ relation_bytes (length of.now.classes.now)) }
+    requires { (length of.now.classes.now ≤ 2000) × (length relation.old ≡ relation_bytes (length of.now.classes.now)) }
     ensures { (Q : Task) → MarksOf Q of.now → relation.new ≡ packed (Sweeps.marks Q) }
 {
     for (k, byte) in relation.iter_mut().enumerate() {

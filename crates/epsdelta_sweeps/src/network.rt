@@ -1,13 +1,11 @@
 // The flow tests that sweeps ask for, on one network.
-ghost use Rattle.std.specs.Prelude.{◌≡◌, ◌<◌, ◌+◌, ◌-◌, Bool, true, false, List, Float, length};
-ghost use Rattle.numbers.specs.Bits.{packed};
+ghost use Rattle.std.specs.Prelude.{◌≡◌, ◌<◌, ◌+◌, ◌-◌, List, Float, length};
 ghost use Rattle.numbers.specs.Refuse.{numbered};
 ghost use Rattle.flow.specs.declared.network.FlowNetwork.{FlowNetwork};
 ghost use Rattle.flow.specs.Filled.{flow_rows};
-ghost use Rattle.flow_direct.specs.Reaches.{at_least};
 ghost use Rattle.flow_links.proofs.RowsRead.{states_of};
 ghost use Rattle.epsdelta_sweeps.specs.Place.{Same};
-ghost use Rattle.epsdelta_sweeps.specs.Leading.{place_of, Paired, passes_in, Answers, Asking, FromTest, RunsOut, ToEnd};
+ghost use Rattle.epsdelta_sweeps.specs.Leading.{place_of, Paired, Answers, Asking, FromTest, RunsOut, ToEnd};
 
 use crate::changes::Memory;
 use crate::place::{Asked, Terms};
@@ -39,14 +37,15 @@ struct Bench {
 }
 
 impl Bench {
-    // Writes the links of the flow test from s to t.
-    // Stays: these rows fit, so that `write_links` gives a number; `?` for `unwrap_or(0)` would make Options of the answers of three functions, none of them ever None.
-    fn lay_links(&mut self, rows: &Rows, memory: &Memory, s: usize, t: usize) -> Laid
-        requires { Paired rows.now s t }
-        ensures { (N : FlowNetwork) → length N.links ≡ 2176 → length N.list ≡ 2176 → (costs : List Float) → length costs ≡ 2046 → (need : Float) (R : List Bool) → memory.now.relation.now ≡ packed R
-            → passes_in rows.now need R s t ≡ at_least need (flow_rows N self.new.heads self.new.caps costs result.places result.nodes result.ends.source result.ends.sink).answer }
+    // Writes the links of the flow test that is asked for.
+    // Stays: these rows fit, so that `write_links` gives a number; `?` for `unwrap_or(0)` would make Options of the answers of two functions, none of them ever None.
+    fn lay(&mut self, rows: &Rows, memory: &Memory, asked: Asked) -> Laid
+        requires { Paired rows.now asked.s asked.t }
+        ensures { (N : FlowNetwork) → length N.links ≡ 2176 → length N.list ≡ 2176 → (costs : List Float) → length costs ≡ 2046
+            → Answers rows.now memory.now asked (flow_rows N self.new.heads self.new.caps costs result.places result.nodes result.ends.source result.ends.sink).answer }
     {
-        let test = test(rows, memory, s, t);
+        let forth = test(rows, memory, asked.s, asked.t);
+        let test = if asked.back { forth.back() } else { forth };
         let source = test.left.targets.len() + test.right.targets.len();
         Laid {
             places: write_links(&test, &mut self.heads, &mut self.caps).unwrap_or(0),
@@ -56,19 +55,6 @@ impl Bench {
                 sink: source + 1,
             },
         }
-    }
-
-    // Writes the links of the flow test that is asked for.
-    fn lay(&mut self, rows: &Rows, memory: &Memory, asked: Asked) -> Laid
-        requires { Paired rows.now asked.s asked.t }
-        ensures { (N : FlowNetwork) → length N.links ≡ 2176 → length N.list ≡ 2176 → (costs : List Float) → length costs ≡ 2046 → (need : Float) (R : List Bool) → memory.now.relation.now ≡ packed R
-            → (asked.back ≡ false → passes_in rows.now need R asked.s asked.t ≡ at_least need (flow_rows N self.new.heads self.new.caps costs result.places result.nodes result.ends.source result.ends.sink).answer)
-            × (asked.back ≡ true → passes_in rows.now need R asked.t asked.s ≡ at_least need (flow_rows N self.new.heads self.new.caps costs result.places result.nodes result.ends.source result.ends.sink).answer) }
-    {
-        if asked.back {
-            return self.lay_links(rows, memory, asked.t, asked.s);
-        }
-        self.lay_links(rows, memory, asked.s, asked.t)
     }
 
     // The flow test that is asked for.

@@ -14,6 +14,7 @@ pub(crate) struct Terms<'a> {
 }
 
 // Where sweeps stand: the pair (s, t) whose turn it is, and whether the sweep has struck.
+// Stays: with the pair as a struct of its own, a field here and in `Asked`, some seventy places in src/ and specs/ would read `.pair.s` or `.pair.t`, for a parameter less in eight functions.
 #[derive(Clone, Copy)]
 pub(crate) struct Place {
     pub(crate) s: usize,

@@ -47,10 +47,7 @@ pub(crate) fn plenty_of(rows: &Rows, need: f64) -> Option<f64>
     requires { Fitting rows.now × Formed need }
     ensures { Enough rows.now need result }
 {
-    if !all_light(rows) {
-        return None;
-    }
-    Some(need + SPARE)
+    all_light(rows).then_some(need + SPARE)
 }
 
 // Plenty, where both rows of a test have at most ROW_MOST jumps; else no flow is.

@@ -7,7 +7,8 @@ ghost use Rattle.epsdelta_theory.specs.FlowTest;
 ghost use Rattle.flow_links.proofs.RowsRead.{states_of, Fitting, written};
 ghost use Rattle.epsdelta_sweeps.specs.Read.{readable, relation_in};
 
-use crate::marks::{Classed, marks};
+use crate::classed::Classed;
+use crate::marks::marks;
 use crate::place::Terms;
 use crate::plenty::plenty_of;
 use crate::rows::{all_stand, long_enough};

@@ -3,7 +3,7 @@ ghost use Rattle.std.specs.Prelude.{◌≡◌, ◌&&◌, ◌≤◌, ◌<◌, ◌
 ghost use Rattle.numbers.specs.Lists.{every};
 ghost use Rattle.epsdelta_theory.specs.Relation.{relation_bytes};
 ghost use Rattle.flow_links.proofs.RowsRead.{states_of, entries};
-ghost use Rattle.epsdelta_sweeps.specs.Leading.{Paired};
+ghost use Rattle.epsdelta_sweeps.specs.Leading.{Paired, TestOf};
 ghost use Rattle.epsdelta_sweeps.specs.Read.{stands_in};
 
 use crate::changes::Memory;
@@ -30,9 +30,10 @@ pub(crate) fn row<'a>(rows: &Rows<'a>, s: usize) -> Row<'a>
 }
 
 // The flow test from s to t.
+// Stays: rows and memory are two, here and in unchanged, lay and answer: a struct of both would be made at each of their five calls, of terms and memory, for a parameter less in each of the four.
 pub(crate) fn test<'a>(rows: &Rows<'a>, memory: &'a Memory, s: usize, t: usize) -> Test<'a>
     requires { Paired rows.now s t }
-    ensures { (result.left.targets.now ≡ entries rows.now.starts.now rows.now.targets.now s) × (result.left.rates.now ≡ entries rows.now.starts.now rows.now.probs.now s) × (result.right.targets.now ≡ entries rows.now.starts.now rows.now.targets.now t) × (result.right.rates.now ≡ entries rows.now.starts.now rows.now.probs.now t) × (result.states ≡ states_of rows.now) × (result.relation.now ≡ memory.now.relation.now) }
+    ensures { TestOf rows.now memory.now s t result }
 {
     Test {
         left: row(rows, s),
@@ -43,6 +44,7 @@ pub(crate) fn test<'a>(rows: &Rows<'a>, memory: &'a Memory, s: usize, t: usize) 
 }
 
 // Whether the jumps of state s are there, and a flow test takes its row.
+// Stays: by get(a..b) it takes a second function beside `row`, which cuts without a test for each pair: one that answers an Option by four `?`, with a clause for None that says these three tests.
 fn stands(rows: &Rows, s: usize) -> bool
     requires { s + 1 < length rows.now.starts.now }
     ensures { result ≡ stands_in rows.now s }

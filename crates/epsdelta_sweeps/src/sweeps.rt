@@ -4,7 +4,7 @@ ghost use Rattle.numbers.specs.Bits.{packed};
 ghost use Rattle.numbers.specs.Refuse.{numbered};
 ghost use Rattle.flow_duality.proofs.Plenty.{Even};
 ghost use Rattle.flow_links.proofs.RowsRead.{Fitting, states_of};
-ghost use Rattle.epsdelta_sweeps.specs.Place.{Same, Judged};
+ghost use Rattle.epsdelta_sweeps.specs.Place.{Same, Judged, Stands};
 ghost use Rattle.epsdelta_sweeps.specs.Leading.{place_of, Paired, Worded, Enough, passes_in, Tested, Answers, Ample, Holding, AtTurn, AtTest, Sweepable, Asking, FromTurn, FromTest, ToTurn, ToSweepEnd, ToEnd};
 
 use crate::changes::{Memory, fade, unchanged};
@@ -48,13 +48,13 @@ fn passed_forth(terms: &Terms, memory: &mut Memory, at: Place) -> Result<bool, A
     }
 }
 
-// Whether the sweep has struck after the turn of (s, t): a pair that stands is tested if s has an exit, unless nothing that its tests read was struck since they passed.
+// Whether the sweep has struck after the turn of (s, t), which stands: it is tested if s has an exit, unless nothing that its tests read was struck since they passed.
 fn turn(terms: &Terms, memory: &mut Memory, at: Place) -> Result<bool, Asked>
-    requires { Fitting terms.now.rows × (at.s < at.t) × (at.t < states_of terms.now.rows) × AtTurn terms.now memory.old at }
+    requires { Fitting terms.now.rows × (at.s < at.t) × (at.t < states_of terms.now.rows) × AtTurn terms.now memory.old at × Stands memory.old at.s at.t }
     ensures { ToTurn (FromTurn terms.now memory.old at memory.new) at.s (at.t + 1) result × Same memory.old memory.new }
 {
     let Place { s, t, struck } = at;
-    if !memory.holds(s, t) || terms.rows.exits[s] == 0.0 || unchanged(&terms.rows, memory, s, t) {
+    if terms.rows.exits[s] == 0.0 || unchanged(&terms.rows, memory, s, t) {
         return Ok(struck);
     }
     match judge_both(terms, memory, s, t) {
@@ -68,14 +68,17 @@ fn turn(terms: &Terms, memory: &mut Memory, at: Place) -> Result<bool, Asked>
     }
 }
 
-// The turns of s with t and every higher state.
+// The turns of s with t and every higher state: of pairs that don't stand, nothing is to be done.
 fn sweep_row(terms: &Terms, memory: &mut Memory, at: Place) -> Result<bool, Asked>
     requires { Fitting terms.now.rows × (at.s < at.t) × (at.t ≤ states_of terms.now.rows) × AtTurn terms.now memory.old at }
     ensures { ToTurn (FromTurn terms.now memory.old at memory.new) (at.s + 1) (at.s + 1 + 1) result × Same memory.old memory.new }
 {
     let mut struck = at.struck;
-    for t in at.t..terms.rows.exits.len() {
+    let mut from = at.t;
+    // Stays: a turn strikes pairs, so that no iterator over those that stand can be lent meanwhile; with a `for` over all t, and the bit asked in `turn`, `relation_1000_3_many_classes` takes twice as long (24.9, 26.8, 29.3 ms instead of 10.5, 13.1, 16.8).
+    while let Some(t) = memory.next(at.s, from) {
         struck = turn(terms, memory, Place { t, struck, ..at })?;
+        from = t + 1;
     }
     Ok(struck)
 }

@@ -1,19 +1,10 @@
 -- The distance of chains, states and options that are given by their numbers.
 use Rattle.std.specs.Prelude.{ℕ, Float}
-use Rattle.bisim_core.specs.declared.ids.StateId.{StateId}
 use Rattle.chain_theory.specs.Columns.{ChainColumns}
-use Rattle.chain_theory.specs.declared.ChainShape.{ChainShape}
 use Rattle.distance_theory.specs.Outcome.{Lent, Outcome, distance}
 use Rattle.distance_theory.specs.declared.MetricOptions.{MetricOptions}
 use Rattle.distance_replies.specs.Distances.{Replied, of_measured}
-
--- a state by its number
-abbrev pub state : ℕ → StateId
-state n = record { 0 = n }
-
--- states, entries and initial state
-abbrev pub shape : ℕ → ℕ → ℕ → ChainShape
-shape states entries initial = record { states = states; entries = entries; initial = state initial }
+use Rattle.replies.specs.Chains.{shape}
 
 abbrev pub options : Float → ℕ → ℕ → MetricOptions
 options tolerance rounds top = record { tolerance = tolerance; max_rounds = rounds; top = top }

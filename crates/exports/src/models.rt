@@ -1,5 +1,5 @@
 // Numbers, labels and models for C and Rust: a built model by its counts, initial state and columns.
-ghost use Rattle.std.specs.Prelude.{◌≡◌, [], ◌∷◌, take};
+ghost use Rattle.std.specs.Prelude.{◌≡◌, [], ◌∷◌};
 ghost use Rattle.numbers.specs.Real.{is_zero, is_valid, sum};
 ghost use Rattle.bisim_core.specs.Data.{columns, transitions};
 ghost use Rattle.bisim_core.specs.Ids;

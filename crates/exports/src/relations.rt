@@ -21,7 +21,6 @@ use replies::answers;
 use replies::shapes::shape_of;
 
 // The relation of two models in the bytes; a refusal leaves them as they were.
-// Stays: over 40 lines, since C hands over each number and each column by itself; a function that makes a model of them would take the same ten, one a line.
 #[unsafe(no_mangle)]
 pub extern "C" fn tanqesha_epsdelta(
     left_states: usize,
@@ -113,7 +112,6 @@ pub extern "C" fn tanqesha_related(
 }
 
 // Whether the initial states of two models are related; the bytes are work space, zero at the end.
-// Stays: over 40 lines, since C hands over each number and each column by itself; a function that makes a model of them would take the same ten, one a line.
 #[unsafe(no_mangle)]
 pub extern "C" fn tanqesha_epsdelta_bisimilar(
     left_states: usize,
@@ -191,7 +189,6 @@ pub extern "C" fn tanqesha_epsdelta_bisimilar(
 }
 
 // The least ε at which the initial states of two models are related, if there is one; the bytes are work space, zero at the end.
-// Stays: over 40 lines, since C hands over each number and each column by itself; a function that makes a model of them would take the same ten, one a line.
 #[unsafe(no_mangle)]
 pub extern "C" fn tanqesha_min_epsilon(
     left_states: usize,

@@ -5,6 +5,7 @@ use Rattle.numbers.specs.Real.{nought}
 use Rattle.numbers.specs.Lists.{over}
 use Rattle.flow_theory.specs.Rows.{starts_of, list_of}
 use Rattle.flow_check.specs.Refusal.{edge_fits, network_fits}
+use Rattle.flow_check.specs.declared.Network.{Network}
 use Rattle.flow_core.specs.Outcome.{flow_on, Claimed}
 use Rattle.flow.specs.declared.network.Link.{Link}
 use Rattle.flow.specs.declared.network.FlowNetwork.{FlowNetwork}
@@ -67,6 +68,21 @@ abbrev pub flow_in : FlowNetwork → List ℕ → List Float → List Float → 
 flow_in N H c p source sink =
     let o = flow_through N source sink in
     flown o.answer o.network (over (heads_of N.count N.links) H) (over (caps_of N.count o.network.links) c) (over (costs_of N.count N.links) p)
+
+-- what the check and the run see of a network: heads, costs, starts and list of its links, and its nodes
+pub record Seen : Type 0 where
+  pub heads : List ℕ
+  pub costs : List Float
+  pub starts : List ℕ
+  pub list : List ℕ
+  pub nodes : ℕ
+
+abbrev pub seen : Network → Seen
+seen M = record { heads = M.heads.now; costs = M.costs.now; starts = M.starts.now; list = M.list.now; nodes = M.nodes }
+
+-- of one whose heads and costs are the first of two rows
+abbrev pub seen_in : FlowNetwork → List ℕ → List Float → Seen
+seen_in N H p = record { heads = take N.count H; costs = take N.count p; starts = N.starts; list = N.list; nodes = N.nodes }
 
 -- a network of n nodes without links
 abbrev pub bare : ℕ → FlowNetwork

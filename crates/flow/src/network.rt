@@ -1,6 +1,6 @@
 // Networks of links, and the flow run on one that is lent.
 ghost use Rattle.flow.specs.Network as nets;
-ghost use Rattle.flow.specs.Network.{heads_of, caps_of, costs_of, flow_through, flown, flow_in, ClaimedOn, bare, made, fits_on, grown, leaves, added};
+ghost use Rattle.flow.specs.Network.{heads_of, caps_of, costs_of, flow_through, flown, flow_in, ClaimedOn, seen, seen_in, bare, made, fits_on, grown, leaves, added};
 ghost use Rattle.flow_theory.proofs.ListRows.{Indexable};
 ghost use Rattle.numbers.specs.Lists.{over};
 ghost use Rattle.numbers.specs.Refuse.{numbered, code};
@@ -55,8 +55,22 @@ fn unpack_heads(links: &[Link], heads: &mut [u32])
     }
 }
 
+// The network as the check and the run see it: heads and costs of its links are the first of these rows.
+fn in_rows<'a>(net: &'a FlowNetwork, heads: &'a [u32], costs: &'a [f64]) -> Network<'a>
+    requires { (net.now.count ≤ length heads.now) × (net.now.count ≤ length costs.now) }
+    ensures { seen result ≡ seen_in net.now heads.now costs.now }
+{
+    let n = net.count;
+    Network {
+        heads: &heads[..n],
+        costs: &costs[..n],
+        starts: &net.starts,
+        list: &net.list,
+        nodes: net.nodes,
+    }
+}
+
 // Whether a network passes the check but for source and sink.
-// Stays: the Network is made here and in max_flow_in. A function that makes it of FlowNetwork, heads and costs has five equations in its contract, one for each field, and is longer than either literal.
 fn net_fits(net: &FlowNetwork) -> bool
     requires { net.now.count ≤ 2176 }
     ensures { result ≡ fits_on net.now }
@@ -66,14 +80,7 @@ fn net_fits(net: &FlowNetwork) -> bool
     let mut caps = [0.0; 2176];
     let mut costs = [0.0; 2176];
     unpack(&net.links[..n], &mut heads, &mut caps, &mut costs);
-    let rows = Network {
-        heads: &heads[..n],
-        costs: &costs[..n],
-        starts: &net.starts,
-        list: &net.list,
-        nodes: net.nodes,
-    };
-    rows.fits(&caps[..n])
+    in_rows(net, &heads, &costs).fits(&caps[..n])
 }
 
 // Takes the two links after those in use, and makes the node lists with them; it is never refused, as there is room.
@@ -104,13 +111,7 @@ pub(crate) fn max_flow_in(
 {
     let n = net.count;
     unpack(&net.links[..n], heads, caps, costs);
-    let lent = Network {
-        heads: &heads[..n],
-        costs: &costs[..n],
-        starts: &net.starts,
-        list: &net.list,
-        nodes: net.nodes,
-    };
+    let lent = in_rows(net, heads, costs);
     let answer = rows::max_flow_rows(&Course { net: lent, ends }, &mut caps[..n]);
     for (j, cap) in caps[..n].iter().enumerate() {
         net.links[j].cap = *cap;
@@ -118,7 +119,7 @@ pub(crate) fn max_flow_in(
     answer
 }
 
-// The run through rows of N entries.
+// The run through rows of N entries, all of which are cleared first.
 fn max_flow_with<const N: usize>(net: &mut FlowNetwork, ends: Ends) -> Result<Flow, Refusal>
     requires { (net.old.count ≤ N) × (N ≤ 2176) }
     ensures { nets.ends (numbered result) net.new ≡ flow_through net.old ends.source ends.sink }
@@ -191,6 +192,9 @@ impl FlowNetwork {
         }
         if count <= 128 {
             return max_flow_with::<128>(self, ends);
+        }
+        if count <= 512 {
+            return max_flow_with::<512>(self, ends);
         }
         max_flow_with::<2176>(self, ends)
     }

@@ -12,7 +12,7 @@ use flow_core::Flow;
 use numbers::refusal::Refusal;
 
 // Puts these heads and capacities over the network's first links; the links added cost 0, their reverses its negation.
-// Stays: by `heads.iter().zip(caps).enumerate()` the invariant has no place i, only the list of what was yielded, and the laws of `laid` are of places.
+// Stays: by `heads.iter().zip(caps).enumerate()` it would write `*cap` for `caps[i]`, but the loop has no place i then, only what was yielded: that link i, head i and cap i come together is an induction over the steps of `enumerate`, of which std has no law (`zip_turn` is of a zip alone).
 fn store_links(net: &mut FlowNetwork, heads: &[u32], caps: &[f64], nodes: usize)
     requires { (length heads.now ≤ 2176) × (length caps.now ≡ length heads.now) }
     ensures { net.new ≡ stored net.old heads.now caps.now (length heads.now) nodes }

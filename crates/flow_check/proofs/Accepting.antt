@@ -17,7 +17,7 @@ use Rattle.flow_theory.proofs.Theorem.{accepted_good, accepted_caps}
 use Rattle.flow_theory.specs.Rows.{network, starts_of, list_of}
 use Rattle.flow_theory.proofs.RunRows.{Runnable}
 use Rattle.flow_theory.proofs.ListRows.{Indexable}
-use Rattle.flow_check.specs.Refusal.{cap_fits, edge_fits, pair_fits, sizes_fit, links_fit, lists_fit, same_rows, network_fits, leaves_finite, ends_fit, accepts}
+use Rattle.flow_check.specs.Refusal.{cap_fits, edge_fits, pair_fits, few, sizes_fit, links_fit, lists_fit, same_rows, network_fits, leaves_finite, ends_fit, accepts}
 use Rattle.flow_theory.proofs.Outs.{network_nodes}
 use Rattle.numbers.proofs.Alls.{every_at}
 use Rattle.flow_check.proofs.Laying.{laid}
@@ -35,14 +35,19 @@ pub record Sized (n h c p l : ℕ) : Type 0 where
   pub costs : p ≡ h
   pub list : h ≤ l
 
+pub counts : (n h : ℕ) → few n h ≡ true → (n ≤ 66) × ((h ≤ 2176) × (h % 2 ≡ 0))
+counts n h t =
+    let (a, r) = and_t (leb n 66) _ t in
+    let (b, d) = and_t (leb h 2176) _ r in
+    (leb_t a, (leb_t b, (eqb-true _ _) d))
+
 pub sized : (n h c p l : ℕ) → sizes_fit n h c p l ≡ true → Sized n h c p l
 sized n h c p l t =
-    let (a, r₁) = and_t (leb n 66) _ t in
-    let (b, r₂) = and_t (leb h 2176) _ r₁ in
-    let (d, r₃) = and_t (eqb (h % 2) 0) _ r₂ in
-    let (e, r₄) = and_t (eqb c h) _ r₃ in
-    let (f, g) = and_t (eqb p h) _ r₄ in
-    record { few = leb_t a; small = leb_t b; even = (eqb-true _ _) d; caps = (eqb-true _ _) e; costs = (eqb-true _ _) f; list = leb_t g }
+    let (a, r) = and_t (few n h) _ t in
+    let (e, q) = and_t (eqb c h) _ r in
+    let (f, g) = and_t (eqb p h) _ q in
+    let k = counts n h a in
+    record { few = k.0; small = k.1.0; even = k.1.1; caps = (eqb-true _ _) e; costs = (eqb-true _ _) f; list = leb_t g }
 
 -- ---- links
 

@@ -36,9 +36,13 @@ links_fit H c p nodes = every (pair_fits H c p nodes) (length H / 2)
 
 -- ---- sizes and node lists
 
--- at most 66 nodes and 1,088 added links, which are two links each; each link has a capacity and a cost, and a place in the node lists
+-- at most 66 nodes and 1,088 added links, which are two links each
+abbrev pub few : ℕ → ℕ → Bool
+few nodes links = leb nodes 66 && (leb links 2176 && eqb (links % 2) 0)
+
+-- so many; and each link has a capacity and a cost, and a place in the node lists
 abbrev pub sizes_fit : ℕ → ℕ → ℕ → ℕ → ℕ → Bool
-sizes_fit nodes links caps costs list = leb nodes 66 && (leb links 2176 && (eqb (links % 2) 0 && (eqb caps links && (eqb costs links && leb links list))))
+sizes_fit nodes links caps costs list = few nodes links && (eqb caps links && (eqb costs links && leb links list))
 
 -- two lists agree in their first n places
 abbrev pub same_rows : ℕ → List ℕ → List ℕ → Bool
@@ -79,4 +83,4 @@ refused_unless false = 15
 
 -- may the lists of these links between n nodes be made over the lists s and l: there are not too many nodes or links, each head is a node, and there is room
 abbrev pub listable : List ℕ → ℕ → List ℕ → List ℕ → Bool
-listable H n s l = sizes_fit n (length H) (length H) (length H) (length l) && (ltb n (length s) && all (λ v. ltb v n) H)
+listable H n s l = few n (length H) && (leb (length H) (length l) && (ltb n (length s) && all (λ v. ltb v n) H))

@@ -1,46 +1,43 @@
--- The links that leave a node, which `Network::leaving` gives, are a row of their own.
+-- The links that leave a node, which `Network::leaving` gives, are those of the node in the network that a run sees.
 use mathlib.Core.Path.{◌≡◌, sym, subst, subst⁻¹, ◌∙◌}
 use Prim.Native.Nat.{ℕ, ◌+◌, ◌≤◌, ◌<◌}
 use native.Mathlib.Omega.{arith}
 use native.Mathlib.Numerals.{add-one}
 use mathlib.Core.List.{List}
-use lib.ListN.{length, get_or, replicate}
+use lib.ListN.{length, get_or, set}
 use lib.Seq.{slice}
 use lib.Ieee.{Float}
 use Rattle.flow_check.specs.declared.Network.{Network}
 use Rattle.flow_check.specs.Lent.{leaving}
 use Rattle.flow_check.proofs.Leaving.{leaving_is}
-use Rattle.flow_check.specs.declared.Ends.{Ends}
-use Rattle.flow_check.specs.Lent.{net_of}
 use Rattle.flow_theory.specs.Network.{Net, nodes, out}
-use Rattle.flow_theory.proofs.Links.{level_in}
-use Rattle.flow_theory.proofs.LevelRows.{Scannable, Scanned}
+use Rattle.flow_theory.proofs.LevelRows.{InRows, Scannable, Scanned, Searchable}
+use Rattle.flow_theory.proofs.Searching.{Outer, node_in, scannable, outer_again}
 use Rattle.flow_theory.proofs.PathRows.{Walkable}
-use Rattle.flow_theory.proofs.Scanning.{part_scannable, part_scanned, part_is}
-use Rattle.flow_theory.proofs.Walking.{Walking}
+use Rattle.flow_theory.proofs.Scanning.{part_is}
 
-module _ (N : Network) {H : List ℕ} {c : List Float} {u : ℕ} {L q : List ℕ} {t : ℕ} (few : u < 66) (S : Scannable H N.list.now c (get_or N.starts.now u 0) (get_or N.starts.now (u + 1) 0) u L q t)
-    {row : List ℕ} (is : row ≡ leaving N u) where
-  pub node_scannable : Scannable H row c 0 (length row) u L q t
-  node_scannable = subst⁻¹ (λ (r : List ℕ). Scannable H r c 0 (length r) u L q t) (is ∙ leaving_is N u few S.ordered S.within) (part_scannable S)
+pub leaving_out : (M : Network) {N : Net} {H : List ℕ} {s u : ℕ} → InRows N H M.list.now M.starts.now s → u < nodes N → leaving M u ≡ out N u
+leaving_out M {N} {H} {s} {u} D h =
+    let p = D.places in
+    let o : (get_or M.starts.now u 0 ≤ get_or M.starts.now (u + 1) 0) × (get_or M.starts.now (u + 1) 0 ≤ length M.list.now) = rw (add-one u) (D.ordered u h) in
+    let r : out N u ≡ slice (get_or M.starts.now u 0) (get_or M.starts.now (u + 1) 0) M.list.now = rw (add-one u) (D.rows u h) in
+    leaving_is M u (omega arith) o.0 o.1 ∙ part_is M.list.now o.0 o.1 ∙ sym r
 
-  pub node_scanned : {L' q' : List ℕ} {t' : ℕ} → Scanned H row c 0 (length row) u L q L' q' t t' → Scanned H N.list.now c (get_or N.starts.now u 0) (get_or N.starts.now (u + 1) 0) u L q L' q' t t'
-  node_scanned {L'} {q'} {t'} R = part_scanned S (subst (λ (r : List ℕ). Scanned H r c 0 (length r) u L q L' q' t t') (is ∙ leaving_is N u few S.ordered S.within) R)
+-- the search of the levels, one node of the queue on
+module _ (M : Network) {H : List ℕ} {c : List Float} {s : ℕ} {L q : List ℕ} (R : Searchable H M.list.now M.starts.now c s L q) {L₁ q₁ : List ℕ} {first end : ℕ}
+    (O : Outer H M.list.now M.starts.now c s (set L s 0) (set q 0 s) L₁ q₁ first end) (more : first < end) where
+  abbrev u : ℕ
+  u = get_or q₁ first 0
+
+  node_out : leaving M u ≡ out R.net u
+  node_out = leaving_out M R.laid (node_in R O more)
+
+  pub node_scannable : Scannable H (leaving M u) c u L₁ q₁ end
+  node_scannable = subst⁻¹ (λ (r : List ℕ). Scannable H r c u L₁ q₁ end) node_out (scannable R O more)
+
+  pub node_scanned : {L₂ q₂ : List ℕ} {end' : ℕ} → Scanned H (leaving M u) c u L₁ q₁ L₂ q₂ end end' → Outer H M.list.now M.starts.now c s (set L s 0) (set q 0 s) L₂ q₂ (first + 1) end'
+  node_scanned {L₂} {q₂} {end'} S = outer_again R O more (subst (λ (r : List ℕ). Scanned H r c u L₁ q₁ L₂ q₂ end end') node_out S)
 
 -- a path has room for as many links as there are marks
-pub next_few : {N : Net} {starts list : List ℕ} {c : List Float} {L nx : List ℕ} → Walkable N starts list c L nx → length nx ≤ length {A = ℕ} (replicate 66 0)
+pub next_few : {N : Net} {starts list : List ℕ} {c : List Float} {L nx : List ℕ} → Walkable N starts list c L nx → length nx ≤ 66
 next_few W = let p = W.laid.places in let s = W.size in omega arith
-
--- they are those of the node in the network that a run sees
-module _ (M : Network) (E : Ends) {c : List Float} {L nx₀ : List ℕ} (W : Walkable (net_of M E) M.starts.now M.list.now c L nx₀) {u len : ℕ} {p₀ p nx : List ℕ} (I : Walking (net_of M E) c L nx₀ p₀ u len p nx)
-    {row : List ℕ} (is : row ≡ leaving M u) where
-  inside : u < nodes (net_of M E)
-  inside = rw (← W.levels.len) (level_in L u I.going.walks.low)
-
-  pub links_out : row ≡ out (net_of M E) u
-  links_out =
-      let p = W.laid.places in
-      let h = inside in
-      let o : (get_or M.starts.now u 0 ≤ get_or M.starts.now (u + 1) 0) × (get_or M.starts.now (u + 1) 0 ≤ length M.list.now) = rw (add-one u) (W.laid.ordered u h) in
-      let r : out (net_of M E) u ≡ slice (get_or M.starts.now u 0) (get_or M.starts.now (u + 1) 0) M.list.now = rw (add-one u) (W.laid.rows u h) in
-      is ∙ leaving_is M u (omega arith) o.0 o.1 ∙ part_is M.list.now o.0 o.1 ∙ sym r

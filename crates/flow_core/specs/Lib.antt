@@ -1,4 +1,3 @@
 pub mod Outcome
 pub mod Test
-pub mod Path
 pub mod Steps

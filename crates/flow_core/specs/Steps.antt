@@ -1,11 +1,22 @@
--- What a phase, and a path in it, ask of the parts of the run. Words of private contracts.
+-- What the levels, a phase, and a path in it, ask of the parts of the run. Words of private contracts.
 use Rattle.std.specs.Prelude.{ℕ, List, [], Float}
 use Rattle.flow_theory.specs.Augment.{Walked, walk, walk_fuel}
+use Rattle.flow_theory.proofs.LevelRows.{Scannable, Scanned}
 use Rattle.flow_theory.proofs.PathRows.{Walkable}
 use Rattle.flow_theory.proofs.RunRows.{Runnable, PhaseReady}
-use Rattle.flow_check.specs.Lent.{net_on}
+use Rattle.flow_check.specs.Lent.{net_on, leaving}
+use Rattle.flow_check.specs.declared.Network.{Network}
 use Rattle.flow_check.specs.declared.Course.{Course}
 use Rattle.flow_core.specs.declared.augment.Phase.{Phase}
+use Rattle.flow_core.specs.declared.levels.Queue.{Queue}
+
+-- the links that leave node u may be looked along, with these levels and this queue
+abbrev pub NodeScannable : Network → List Float → ℕ → List ℕ → Queue → Type 0
+NodeScannable N c u L Q = Scannable N.heads.now (leaving N u) c u L Q.nodes Q.end
+
+-- they were: levels and queue are those of the definition
+abbrev pub NodeScanned : Network → List Float → ℕ → List ℕ → Queue → List ℕ → Queue → Type 0
+NodeScanned N c u L Q L' Q' = Scanned N.heads.now (leaving N u) c u L Q.nodes L' Q'.nodes Q.end Q'.end
 
 -- a run may go on from these capacities
 abbrev pub CourseRunnable : Course → List Float → Type 0

@@ -18,8 +18,9 @@ fn blocking_flow(phase: &Phase, caps: &mut [f64], next: &mut [usize], before: f6
 {
     let mut flow = before;
     let mut count: usize = 0;
+    let mut path = [0usize; 66];
     loop {
-        let x = augment::augment(phase, caps, next);
+        let x = augment::augment(phase, caps, next, &mut path);
         if x <= EPS {
             return AfterPhase { flow, count };
         }

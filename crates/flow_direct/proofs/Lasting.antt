@@ -7,14 +7,15 @@ use native.Mathlib.Omega.{arith}
 use lib.ListN.{length, get_or}
 use lib.Ieee.{Float, nan}
 use Rattle.std.specs.Prelude.{Option}
+use Rattle.std.specs.declared.ops.ControlFlow.TheVariants.{Continue}
 use Rattle.flow_links.specs.declared.rows.Test.{Test}
 use Rattle.flow_links.proofs.Fitting.{TestFit}
-use Rattle.flow_routes.specs.declared.Attempt.TheVariants as tries
+use Rattle.flow_routes.specs.declared.Reached.{Reached}
 use Rattle.flow_routes.proofs.Coding as coding
 use Rattle.flow_routes.proofs.Pathing as pathing
 use Rattle.flow_routes.proofs.Reaching as reaching
 use Rattle.flow_direct.specs.declared.search.Search.{Search}
-use Rattle.flow_direct.specs.Lent.{Tried, Settling, Settled}
+use Rattle.flow_direct.specs.Lent.{Tried, Settling}
 
 -- what is left at first is as long as the rates that it is a copy of, and has their entries
 pub room_first : (T : Test) {A B F : List Float} → TestFit T → length T.left.targets.now * length T.right.targets.now ≤ length F → A ≡ T.left.rates.now → B ≡ T.right.rates.now → coding.Room T.left.targets.now T.right.targets.now T.states A B F
@@ -38,12 +39,12 @@ given_joins {A₁ = A₁} {B₁ = B₁} {F₁ = F₁} {A = A} {B = B} {F = F} {t
   coding.giving_joins I (subst (λ (T : Test). coding.Giving T.left.targets.now T.right.targets.now T.states T.relation.now A₁ B₁ F₁ t₁ i₁ A B F t i 0) e J),
 )
 
-module _ (need : Float) (S₀ : Search) (t₀ : Float) (S : Search) (s : ℕ) (t : Float) where
+module _ (need : Float) (S₀ : Search) (t₀ : Float) (S : Search) (c : Reached) where
   -- a try leads on
-  pub tried_on : Settling need S₀ t₀ S s t → (S' : Search) (s' : ℕ) (t' : Float) → Tried need S s t S' (tries.On s' t') → Settling need S₀ t₀ S' s' t'
-  tried_on (e, I) S' s' t' (d, Q) = (
+  pub tried_on : Settling need S₀ t₀ S c → (S' : Search) (c' : Reached) → Tried need S c S' (Continue c') → Settling need S₀ t₀ S' c'
+  tried_on (e, I) S' c' (d, Q) = (
     d ∙ e,
-    subst (λ (T : Test). reaching.Tried T.left.targets.now T.right.targets.now T.states T.relation.now need S.rest.lefts.now S.rest.rights.now S.rest.flows.now S.labels.lefts.now S.labels.rights.now s t S'.rest.lefts.now S'.rest.rights.now S'.rest.flows.now S'.labels.lefts.now S'.labels.rights.now (tries.On s' t')) e Q _ _ _ _ _ _ I,
+    subst (λ (T : Test). reaching.Tried T.left.targets.now T.right.targets.now T.states T.relation.now need S.rest.lefts.now S.rest.rights.now S.rest.flows.now S.labels.lefts.now S.labels.rights.now c.label c.flow S'.rest.lefts.now S'.rest.rights.now S'.rest.flows.now S'.labels.lefts.now S'.labels.rights.now (Continue c')) e Q _ _ _ _ _ _ I,
   )
 
 -- what is known at the end of the tries is known of the search from the first labels

@@ -5,10 +5,11 @@ use mathlib.Core.Bool.{Bool}
 use lib.ListN.{length}
 use lib.Ieee.{Float}
 use Rattle.std.specs.Prelude.{Option}
+use Rattle.std.specs.declared.ops.ControlFlow.{ControlFlow}
 use Rattle.flow_links.specs.declared.rows.Test.{Test}
 use Rattle.flow_routes.specs.declared.Stop.{Stop}
 use Rattle.flow_routes.specs.declared.Step.{Step}
-use Rattle.flow_routes.specs.declared.Attempt.{Attempt}
+use Rattle.flow_routes.specs.declared.Reached.{Reached}
 use Rattle.flow_routes.proofs.Coding as coding
 use Rattle.flow_routes.proofs.Pathing as pathing
 use Rattle.flow_routes.proofs.Reaching as reaching
@@ -74,17 +75,17 @@ Stepped S₀ s start S step =
     (S.rest.test ≡ S₀.rest.test)
     × pathing.Stepped S₀.rest.test.left.targets.now S₀.rest.test.right.targets.now S₀.rest.test.states S₀.rest.test.relation.now S₀.rest.lefts.now S₀.rest.rights.now S₀.rest.flows.now S₀.labels.lefts.now S₀.labels.rights.now s start S.rest.lefts.now S.rest.rights.now S.rest.flows.now S.labels.lefts.now S.labels.rights.now step
 
--- what one try comes to, from the label s and the flow t
-abbrev pub Tried : Float → Search → ℕ → Float → Search → Attempt → Type 0
-Tried need S₀ s t S attempt =
+-- what one try comes to, from so far
+abbrev pub Tried : Float → Search → Reached → Search → ControlFlow (Option Bool) Reached → Type 0
+Tried need S₀ c S next =
     (S.rest.test ≡ S₀.rest.test)
-    × reaching.Tried S₀.rest.test.left.targets.now S₀.rest.test.right.targets.now S₀.rest.test.states S₀.rest.test.relation.now need S₀.rest.lefts.now S₀.rest.rights.now S₀.rest.flows.now S₀.labels.lefts.now S₀.labels.rights.now s t S.rest.lefts.now S.rest.rights.now S.rest.flows.now S.labels.lefts.now S.labels.rights.now attempt
+    × reaching.Tried S₀.rest.test.left.targets.now S₀.rest.test.right.targets.now S₀.rest.test.states S₀.rest.test.relation.now need S₀.rest.lefts.now S₀.rest.rights.now S₀.rest.flows.now S₀.labels.lefts.now S₀.labels.rights.now c.label c.flow S.rest.lefts.now S.rest.rights.now S.rest.flows.now S.labels.lefts.now S.labels.rights.now next
 
--- so far the tries lead on, from the flow t₀ to the label s and the flow t
-abbrev pub Settling : Float → Search → Float → Search → ℕ → Float → Type 0
-Settling need S₀ t₀ S s t =
+-- so far the tries lead on, from the flow t₀
+abbrev pub Settling : Float → Search → Float → Search → Reached → Type 0
+Settling need S₀ t₀ S c =
     (S.rest.test ≡ S₀.rest.test)
-    × pathing.Settling S₀.rest.test.left.targets.now S₀.rest.test.right.targets.now S₀.rest.test.states S₀.rest.test.relation.now need S₀.rest.lefts.now S₀.rest.rights.now S₀.rest.flows.now S₀.labels.lefts.now S₀.labels.rights.now t₀ S.rest.lefts.now S.rest.rights.now S.rest.flows.now S.labels.lefts.now S.labels.rights.now s t
+    × pathing.Settling S₀.rest.test.left.targets.now S₀.rest.test.right.targets.now S₀.rest.test.states S₀.rest.test.relation.now need S₀.rest.lefts.now S₀.rest.rights.now S₀.rest.flows.now S₀.labels.lefts.now S₀.labels.rights.now t₀ S.rest.lefts.now S.rest.rights.now S.rest.flows.now S.labels.lefts.now S.labels.rights.now c.label c.flow
 
 -- what is known at their end, if anything is
 abbrev pub Settled : Float → Search → Float → Option Bool → Type 0

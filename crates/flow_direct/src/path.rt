@@ -1,5 +1,5 @@
 // A path by labels, from the source down to label 1 and the sink, and the push of the least that is left on it.
-ghost use Rattle.std.specs.Prelude.{◌≡◌, ◌≤◌, ◌<◌, ◌+◌, ◌*◌, length, get_or};
+ghost use Rattle.std.specs.Prelude.{◌≡◌, ◌≤◌, ◌<◌, ◌+◌, ◌*◌, get_or};
 ghost use Rattle.flow_direct.specs.Lent.{Along, Started, LeastIs, Sends, Stopped};
 
 use crate::give::Rest;

@@ -19,6 +19,7 @@ pub(crate) struct Labels<'a> {
 }
 
 // A search for a flow that is enough: what is left, and the labels.
+// Stays: with `Ready` as a ghost field, not in each requires, the check says of `one_step` that the borrow checker does not cover it: a `&mut` of a struct in this one is lent there.
 #[derive(Drop)]
 pub(crate) struct Search<'a> {
     pub(crate) rest: Rest<'a>,
@@ -35,7 +36,7 @@ fn first<F: Fn(usize) -> bool>(n: usize, test: F) -> Option<usize>
     for j in (0..n).rev() {
         r = if test(j) { j } else { r };
     }
-    if r < n { Some(r) } else { None }
+    (r < n).then_some(r)
 }
 
 impl Search<'_> {

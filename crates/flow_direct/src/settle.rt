@@ -6,29 +6,24 @@ ghost use Rattle.flow_direct.specs.Lent.{Ready, Sourced, Tried, Settled};
 
 use crate::give::Rest;
 use crate::search::{Labels, Search};
-use flow_routes::{Attempt, Step, remains};
+use flow_routes::{Reached, Step, remains};
+use std::ops::ControlFlow;
 
 const HIGHEST: usize = 8; // the highest label of the source that is tried
 
-// What a step leads to: no flow more after a cut; after a push the flow may be enough; else the search goes on.
-fn after_step(step: Step, s: usize, total: f64, need: f64) -> Attempt
-    ensures { Judged need s total step result }
+// What a step leads to: no flow more after a cut; after a push the flow may be enough; else the search goes on. Where it ends, whether the flow is enough is known or not.
+fn after_step(step: Step, so_far: Reached, need: f64) -> ControlFlow<Option<bool>, Reached>
+    ensures { Judged need so_far step result }
 {
     match step {
-        Step::Cut => Attempt::Ended(Some(false)),
-        Step::Risen => Attempt::On {
-            label: s,
-            flow: total,
-        },
+        Step::Cut => ControlFlow::Break(Some(false)),
+        Step::Risen => ControlFlow::Continue(so_far),
         Step::Pushed(x) => {
-            let after = total + x;
-            if need <= after {
-                Attempt::Ended(Some(true))
+            let flow = so_far.flow + x;
+            if need <= flow {
+                ControlFlow::Break(Some(true))
             } else {
-                Attempt::On {
-                    label: s,
-                    flow: after,
-                }
+                ControlFlow::Continue(Reached { flow, ..so_far })
             }
         }
     }
@@ -73,20 +68,20 @@ impl Labels<'_> {
 
 impl Search<'_> {
     // The rise of the source's label, or one step.
-    fn try_once(&mut self, s: usize, total: f64, need: f64) -> Attempt
-        requires { Sourced self.old s }
-        ensures { Tried need self.old s total self.new result }
+    fn try_once(&mut self, so_far: Reached, need: f64) -> ControlFlow<Option<bool>, Reached>
+        requires { Sourced self.old so_far.label }
+        ensures { Tried need self.old so_far self.new result }
     {
-        match self.first_left(s) {
+        match self.first_left(so_far.label) {
             Some(start) => {
-                let step = self.one_step(s, start);
-                after_step(step, s, total, need)
+                let step = self.one_step(so_far.label, start);
+                after_step(step, so_far, need)
             }
-            None if s < HIGHEST => Attempt::On {
-                label: s + 1,
-                flow: total,
-            },
-            None => Attempt::Ended(None),
+            None if so_far.label < HIGHEST => ControlFlow::Continue(Reached {
+                label: so_far.label + 1,
+                ..so_far
+            }),
+            None => ControlFlow::Break(None),
         }
     }
 
@@ -95,17 +90,16 @@ impl Search<'_> {
         requires { Ready self.old }
         ensures { Settled need self.old before result }
     {
-        let mut s: usize = 2;
-        let mut total = before;
+        let mut so_far = Reached {
+            label: 2,
+            flow: before,
+        };
         let test = self.rest.test;
         let most = tries_of(test.left.targets.len(), test.right.targets.len());
         for _ in 0..most {
-            match self.try_once(s, total, need) {
-                Attempt::On { label, flow } => {
-                    s = label;
-                    total = flow;
-                }
-                Attempt::Ended(known) => return known,
+            match self.try_once(so_far, need) {
+                ControlFlow::Continue(next) => so_far = next,
+                ControlFlow::Break(known) => return known,
             }
         }
         None

@@ -101,6 +101,7 @@ fn put_links(test: &Test, rows: &mut LinkRows)
 }
 
 // Whether so many places are room for the links of a test whose rows fit, if all targets are related.
+// Stays: the number is that of `Masses::places` (transport_theory), on which this crate does not stand. As a function of two counts in flow_theory, below both, it would be public, and so an Option that is None over 32 on a side: a definition, a law, a wrong program and a way out for these two lines, a way that rows of at most 31 targets never take.
 fn has_room(test: &Test, places: usize) -> bool
     requires { (length test.now.left.targets.now ≤ 31) × (length test.now.right.targets.now ≤ 31) }
     ensures { result ≡ test_room test.now places }
@@ -111,20 +112,20 @@ fn has_room(test: &Test, places: usize) -> bool
 }
 
 // Writes the links of a flow test over lent rows, heads and capacities; gives how many places they take. Where the test's rows do not fit, or there is no room for all links between their targets, nothing is written.
-// Stays: heads and caps are two arrays of the one caller's bench: by a struct it would write `&mut LinkRows { heads: &mut self.heads, caps: &mut self.caps }` for `&mut self.heads, &mut self.caps`, and the contract would promise besides that both are the ones lent.
+// Stays: heads and caps are two arrays of the one caller's bench: by a `LinkRows` it would write `&mut LinkRows { heads: &mut self.heads, caps: &mut self.caps, next: 0 }` for `&mut self.heads, &mut self.caps`, and the contract would promise besides that both are the ones lent.
 pub fn write_links(test: &Test, heads: &mut [u32], caps: &mut [f64]) -> Option<usize>
     ensures places { result ≡ places_if (test_fits test.now && (test_room test.now (length heads.old) && test_room test.now (length caps.old))) (FlowTest.heads (test_links test.now)) }
     ensures heads_after { heads.new ≡ cond (is_some result) (over (FlowTest.heads (test_links test.now)) heads.old) heads.old }
     ensures caps_after { caps.new ≡ cond (is_some result) (over (FlowTest.caps (test_links test.now)) caps.old) caps.old }
 {
-    if test.fits() && has_room(test, heads.len()) && has_room(test, caps.len()) {
-        let mut rows = LinkRows {
-            heads,
-            caps,
-            next: 0,
-        };
-        put_links(test, &mut rows);
-        return Some(rows.next);
+    if !test.fits() || !has_room(test, heads.len()) || !has_room(test, caps.len()) {
+        return None;
     }
-    None
+    let mut rows = LinkRows {
+        heads,
+        caps,
+        next: 0,
+    };
+    put_links(test, &mut rows);
+    Some(rows.next)
 }

@@ -7,6 +7,8 @@ use native.Mathlib.Omega.{arith}
 use lib.ListN.{length, get_or}
 use lib.Ieee.{Float, nan, binary64, lt, le, add}
 use Rattle.std.specs.Prelude.{Option, Some, IfSome}
+use Rattle.std.specs.declared.ops.ControlFlow.{ControlFlow}
+use Rattle.std.specs.declared.ops.ControlFlow.TheVariants.{Continue, Break}
 use Rattle.std.proofs.lemmas.Option.{IfSome_then}
 use Rattle.numbers.specs.Real.{nought, eps}
 use Rattle.flow_theory.proofs.Accepted.{Accepted}
@@ -14,8 +16,7 @@ use Rattle.flow_theory.proofs.Theorem.{accepted_good, accepted_caps}
 use Rattle.epsdelta_theory.specs.FlowTest.{links_of, caps}
 use Rattle.flow_routes.specs.declared.Step.{Step}
 use Rattle.flow_routes.specs.declared.Step.TheVariants as steps
-use Rattle.flow_routes.specs.declared.Attempt.{Attempt}
-use Rattle.flow_routes.specs.declared.Attempt.TheVariants as tries
+use Rattle.flow_routes.specs.declared.Reached.{Reached}
 use Rattle.flow_routes.proofs.Rising.{out_rising}
 use Rattle.flow_routes.proofs.Underway.{run_underway}
 use Rattle.flow_routes.proofs.Growth.{flow_starts}
@@ -29,33 +30,33 @@ use Rattle.flow_routes.proofs.Pathing.{Stepped, Settling, Settled, settling_stay
 -- ---- one try
 
 -- a try leads on, or to an end of which something is known or not
-abbrev pub Tried : List ℕ → List ℕ → ℕ → List ℕ → Float → List Float → List Float → List Float → List ℕ → List ℕ → ℕ → Float → List Float → List Float → List Float → List ℕ → List ℕ → Attempt → Type 0
-Tried us ts n store need A B F l r s t A' B' F' l' r' (tries.On s' t') =
-    (A₀ B₀ F₀ : List Float) (l₀ r₀ : List ℕ) (t₀ : Float) → Settling us ts n store need A₀ B₀ F₀ l₀ r₀ t₀ A B F l r s t → Settling us ts n store need A₀ B₀ F₀ l₀ r₀ t₀ A' B' F' l' r' s' t'
-Tried us ts n store need A B F l r s t A' B' F' l' r' (tries.Ended known) =
+abbrev pub Tried : List ℕ → List ℕ → ℕ → List ℕ → Float → List Float → List Float → List Float → List ℕ → List ℕ → ℕ → Float → List Float → List Float → List Float → List ℕ → List ℕ → ControlFlow (Option Bool) Reached → Type 0
+Tried us ts n store need A B F l r s t A' B' F' l' r' (Continue c) =
+    (A₀ B₀ F₀ : List Float) (l₀ r₀ : List ℕ) (t₀ : Float) → Settling us ts n store need A₀ B₀ F₀ l₀ r₀ t₀ A B F l r s t → Settling us ts n store need A₀ B₀ F₀ l₀ r₀ t₀ A' B' F' l' r' c.label c.flow
+Tried us ts n store need A B F l r s t A' B' F' l' r' (Break known) =
     (A₀ B₀ F₀ : List Float) (l₀ r₀ : List ℕ) (t₀ : Float) → Settling us ts n store need A₀ B₀ F₀ l₀ r₀ t₀ A B F l r s t → Settled us ts n store need A₀ B₀ F₀ l₀ r₀ t₀ known
 
 -- what a step leads to, whatever the lists are
-abbrev pub Judged : Float → ℕ → Float → Step → Attempt → Type 0
-Judged need s t step attempt =
-    (us ts : List ℕ) (n : ℕ) (store : List ℕ) (A B F : List Float) (l r : List ℕ) (start : ℕ) (A' B' F' : List Float) (l' r' : List ℕ) → StartsAt A l s (length us) start → Stepped us ts n store A B F l r s start A' B' F' l' r' step
-    → Tried us ts n store need A B F l r s t A' B' F' l' r' attempt
+abbrev pub Judged : Float → Reached → Step → ControlFlow (Option Bool) Reached → Type 0
+Judged need c step next =
+    (us ts : List ℕ) (n : ℕ) (store : List ℕ) (A B F : List Float) (l r : List ℕ) (start : ℕ) (A' B' F' : List Float) (l' r' : List ℕ) → StartsAt A l c.label (length us) start → Stepped us ts n store A B F l r c.label start A' B' F' l' r' step
+    → Tried us ts n store need A B F l r c.label c.flow A' B' F' l' r' next
 
-module _ {need : Float} {s : ℕ} {t : Float} where
+module _ {need : Float} {c : Reached} where
   -- no flow more after a cut
-  pub judged_cut : Judged need s t steps.Cut (tries.Ended (Some false))
+  pub judged_cut : Judged need c steps.Cut (Break (Some false))
   judged_cut us ts n store A B F l r start A' B' F' l' r' P Q A₀ B₀ F₀ l₀ r₀ t₀ I = settled_no I P Q
 
   -- the rise of a label
-  pub judged_rise : Judged need s t steps.Risen (tries.On s t)
+  pub judged_rise : Judged need c steps.Risen (Continue c)
   judged_rise us ts n store A B F l r start A' B' F' l' r' P Q A₀ B₀ F₀ l₀ r₀ t₀ I = settling_stays I P Q
 
   -- a push that is enough
-  pub judged_enough : {x : Float} → le need (add binary64 t x) ≡ true → Judged need s t (steps.Pushed x) (tries.Ended (Some true))
+  pub judged_enough : {x : Float} → le need (add binary64 c.flow x) ≡ true → Judged need c (steps.Pushed x) (Break (Some true))
   judged_enough d us ts n store A B F l r start A' B' F' l' r' P Q A₀ B₀ F₀ l₀ r₀ t₀ I = settled_yes I P Q d
 
   -- one that is not yet
-  pub judged_pushed : {x : Float} → le need (add binary64 t x) ≡ false → Judged need s t (steps.Pushed x) (tries.On s (add binary64 t x))
+  pub judged_pushed : {x : Float} → le need (add binary64 c.flow x) ≡ false → Judged need c (steps.Pushed x) (Continue (record { label = c.label; flow = add binary64 c.flow x }))
   judged_pushed d us ts n store A B F l r start A' B' F' l' r' P Q A₀ B₀ F₀ l₀ r₀ t₀ I = settling_pushes I P Q d
 
 -- ---- the first labels: 2 for a target of s with rate left and for a target of t with none, else 1

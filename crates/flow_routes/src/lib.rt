@@ -30,9 +30,9 @@ pub enum Step {
     Cut,
 }
 
-// What one try comes to: the search goes on with this label of the source and this flow, or it ends, and says whether the flow is enough if that is known.
+// How far a search has come: the label of the source that is tried, and the flow.
 #[derive(Clone, Copy, Debug, PartialEq)]
-pub enum Attempt {
-    On { label: usize, flow: f64 },
-    Ended(Option<bool>),
+pub struct Reached {
+    pub label: usize,
+    pub flow: f64,
 }

@@ -10,23 +10,21 @@ use Rattle.flow_theory.specs.Levels.{Search, scan, unset, level_of}
 use Rattle.flow_theory.proofs.Levels.{count}
 use Rattle.flow_theory.proofs.Links.{WellFormed}
 
--- the links list[a..b] leave u; each is there, and its head has a level or is still to get one
-pub record Scannable (H list : List ℕ) (c : List Float) (a b u : ℕ) (L q : List ℕ) (t : ℕ) : Type 0 where
-  pub ordered : a ≤ b
-  pub within : b ≤ length list
-  pub links_in : (j : ℕ) → a ≤ j → j < b → (get_or list j 0 < length H) × (get_or list j 0 < length c)
+-- the links of the row leave u; each is there, and its head has a level or is still to get one
+pub record Scannable (H row : List ℕ) (c : List Float) (u : ℕ) (L q : List ℕ) (t : ℕ) : Type 0 where
+  pub links_in : (j : ℕ) → j < length row → (get_or row j 0 < length H) × (get_or row j 0 < length c)
   pub heads_in : (e : ℕ) → e < length H → get_or H e 0 < length L
   pub here : u < length L
   pub low : suc (level_of L u) < unset
   pub room : t + count L ≤ length q
 
-pub record Scanned (H list : List ℕ) (c : List Float) (a b u : ℕ) (L q L' q' : List ℕ) (t t' : ℕ) : Type 0 where
+pub record Scanned (H row : List ℕ) (c : List Float) (u : ℕ) (L q L' q' : List ℕ) (t t' : ℕ) : Type 0 where
   pub level_length : length L' ≡ length L
   pub queue_length : length q' ≡ length q
   pub longer : t ≤ t'
   pub room : t' + count L' ≤ length q'
   pub same : (N : Net) (h : ℕ) → N.heads ≡ H → h ≤ t
-      → ◌≡◌ {A = Search} (record { level = L'; queue = slice h t' q' }) (scan N c u (slice a b list) (record { level = L; queue = slice h t q }))
+      → ◌≡◌ {A = Search} (record { level = L'; queue = slice h t' q' }) (scan N c u row (record { level = L; queue = slice h t q }))
 
 -- the node lists as one list with the place where each begins
 pub record InRows (N : Net) (H list starts : List ℕ) (source : ℕ) : Type 0 where

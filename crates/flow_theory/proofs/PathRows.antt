@@ -31,23 +31,20 @@ Leads H c L want e = (residual c e ≡ true) × (get_or L (get_or H e 0) 0 ≡ w
 abbrev pub Idle : List ℕ → List Float → List ℕ → ℕ → ℕ → Type 0
 Idle H c L want e = (residual c e ≡ false) ⊎ (get_or L (get_or H e 0) 0 ≢ want)
 
--- the links of the part from `at` to `to` are there, with their heads' levels
-pub record Seekable (H list : List ℕ) (c : List Float) (L : List ℕ) (at to : ℕ) : Type 0 where
-  pub ordered : at ≤ to
-  pub within : to ≤ length list
-  pub links_in : (j : ℕ) → at ≤ j → j < to → (get_or list j 0 < length H) × (get_or list j 0 < length c) × (get_or H (get_or list j 0) 0 < length L)
+-- the links of the row are there, with their heads' levels
+abbrev pub Seekable : List ℕ → List ℕ → List Float → List ℕ → Type 0
+Seekable H row c L = (j : ℕ) → j < length row → (get_or row j 0 < length H) × (get_or row j 0 < length c) × (get_or H (get_or row j 0) 0 < length L)
 
--- r is the place of the first link of the part that leads to the level, or its end
-pub record Sought (H list : List ℕ) (c : List Float) (L : List ℕ) (want at to r : ℕ) : Type 0 where
-  pub begun : at ≤ r
-  pub ends : r ≤ to
-  pub passed : (j : ℕ) → at ≤ j → j < r → Idle H c L want (get_or list j 0)
-  pub found : r < to → Leads H c L want (get_or list r 0)
+-- r is the place of the first link of the row that leads to the level, or its end
+pub record Sought (H row : List ℕ) (c : List Float) (L : List ℕ) (want r : ℕ) : Type 0 where
+  pub ends : r ≤ length row
+  pub passed : (j : ℕ) → j < r → Idle H c L want (get_or row j 0)
+  pub found : r < length row → Leads H c L want (get_or row r 0)
 
 -- what a search of a whole row finds: the place of its first link that leads to the level, if there is one
 abbrev pub Found : List ℕ → List ℕ → List Float → List ℕ → ℕ → Option ℕ → Type 0
-Found H row c L want (Some k) = (k < length row) × Sought H row c L want 0 (length row) k
-Found H row c L want None = Sought H row c L want 0 (length row) (length row)
+Found H row c L want (Some k) = (k < length row) × Sought H row c L want k
+Found H row c L want None = Sought H row c L want (length row)
 
 -- how the code's walk ended: so many links on the path, if there is one; the definition's path has the last link first
 abbrev pub Routed : Option ℕ → List ℕ → List ℕ → Walked → Type 0

@@ -8,11 +8,11 @@ use native.Mathlib.Numerals.{add-one}
 use lib.ListN.{length, get_or, set, replicate, length-set, length-replicate}
 use lib.Seq.{slice, slice_empty, slice-cons, get_or-set_same}
 use lib.Ieee.{Float}
+use Rattle.numbers.proofs.Members.{in_at}
 use Rattle.flow_theory.specs.Network.{Net, nodes, links, head, out}
 use Rattle.flow_theory.specs.Levels.{Search, scan, bfs, levels, unset, level_of}
 use Rattle.flow_theory.proofs.Links.{WellFormed, HasLevel, level_in}
 use Rattle.flow_theory.proofs.Levels.{count, count_set, count_replicate, level_replicate, Rest, turned, begun}
-use Rattle.flow_theory.proofs.Outs.{link_in}
 use Rattle.flow_theory.proofs.LevelRows.{Scannable, Scanned, InRows, Searchable}
 
 -- from here the definition comes to the levels
@@ -129,18 +129,18 @@ module _ {H list starts : List ℕ} {c : List Float} {source : ℕ} {L q : List 
       pub node_low : get_or q₁ head 0 < 66
       node_low = let n = node_in in let p = R.laid.places in omega arith
 
-      linked : (j : ℕ) → get_or starts (get_or q₁ head 0) 0 ≤ j → j < get_or starts (suc (get_or q₁ head 0)) 0 → get_or list j 0 < links R.net
-      linked j b l = (R.good.listed (get_or q₁ head 0) (get_or list j 0) (link_in R.laid (get_or q₁ head 0) j node_in b l)).0
+      abbrev row : List ℕ
+      row = out R.net (get_or q₁ head 0)
 
-      pub scannable : Scannable H list c (get_or starts (get_or q₁ head 0) 0) (get_or starts (get_or q₁ head 0 + 1) 0) (get_or q₁ head 0) L₁ q₁ tail
+      linked : (j : ℕ) → j < length row → get_or row j 0 < links R.net
+      linked j h = (R.good.listed (get_or q₁ head 0) (get_or row j 0) (in_at row j 0 h)).0
+
+      pub scannable : Scannable H row c (get_or q₁ head 0) L₁ q₁ tail
       scannable =
-          let o = R.laid.ordered (get_or q₁ head 0) node_in in
           let low = u_low R.net R.good c R.size L₁ q₁ head tail (O.search_on R.net fits_net) more tail_in in
           let few = R.good.few in
           record {
-            ordered = rw add-one o.0;
-            within = rw add-one o.1;
-            links_in = λ j b l. let i = linked j b (rw add-one at l) in (rw (← links_of_lem R.net H list starts source R.laid) i, rw R.size i);
+            links_in = λ j h. let i = linked j h in (rw (← links_of_lem R.net H list starts source R.laid) i, rw R.size i);
             heads_in = λ e l. rw (level_is, ← R.laid.heads) (unfold head in (R.good.heads_in e (rw (ap length R.laid.heads) l)));
             here = rw level_is node_in;
             low = omega arith;
@@ -148,7 +148,7 @@ module _ {H list starts : List ℕ} {c : List Float} {source : ℕ} {L q : List 
           }
 
       pub outer_again : {L₂ q₂ : List ℕ} {t' : ℕ}
-          → Scanned H list c (get_or starts (get_or q₁ head 0) 0) (get_or starts (get_or q₁ head 0 + 1) 0) (get_or q₁ head 0) L₁ q₁ L₂ q₂ tail t'
+          → Scanned H row c (get_or q₁ head 0) L₁ q₁ L₂ q₂ tail t'
           → Outer H list starts c source (set L source 0) (set q 0 source) L₂ q₂ (head + 1) t'
       outer_again {L₂} {q₂} {t'} S = record {
         ordered = let l = S.longer in omega arith;
@@ -163,7 +163,7 @@ module _ {H list starts : List ℕ} {c : List Float} {source : ℕ} {L q : List 
               let inn = u_in N F.0 c F.3 L₁ q₁ head tail (O.search_on N F) more tail_in in
               rw (add-one head) (searched N F.0 c F.3 L₁ q₁ head tail (O.search_on N F) more tail_in L₂ q₂ t'
               (S.same N (suc head) F.1.heads more ∙ ap (λ (es : List ℕ). scan N c (get_or q₁ head 0) es (record { level = L₁; queue = slice (suc head) tail q₁ }))
-              (ap (λ (x : ℕ). slice (get_or starts (get_or q₁ head 0) 0) (get_or starts x 0) list) (add-one (get_or q₁ head 0)) ∙ sym (F.1.rows (get_or q₁ head 0) inn))))
+              (R.laid.rows (get_or q₁ head 0) node_in ∙ sym (F.1.rows (get_or q₁ head 0) inn))))
 
     bfs_nil : (N : Net) (k : ℕ) → bfs N c k L₁ [] ≡ L₁
     unfolding bfs

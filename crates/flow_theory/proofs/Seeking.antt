@@ -18,30 +18,28 @@ use Rattle.flow_theory.proofs.Scanning.{part_length, part_at}
 use Rattle.flow_theory.proofs.Walking.{Walking, standing, u_next, took, took_less, skipped, skipped_less}
 
 -- the links before j are passed
-pub record Seeking (H list : List ℕ) (c : List Float) (L : List ℕ) (want at to j : ℕ) : Type 0 where
-  pub begun : at ≤ j
-  pub ends : j ≤ to
-  pub passed : (i : ℕ) → at ≤ i → i < j → Idle H c L want (get_or list i 0)
+pub record Seeking (H row : List ℕ) (c : List Float) (L : List ℕ) (want j : ℕ) : Type 0 where
+  pub ends : j ≤ length row
+  pub passed : (i : ℕ) → i < j → Idle H c L want (get_or row i 0)
 
-module _ {H list : List ℕ} {c : List Float} {L : List ℕ} {want at to : ℕ} where
-  module _ {j : ℕ} (I : Seeking H list c L want at to j) where
-    pub seek_on : j < to → Idle H c L want (get_or list j 0) → Seeking H list c L want at to (j + 1)
-    seek_on h idle = record { begun = let b = I.begun in omega arith; ends = omega arith; passed = λ i a b. pick i a b (eq_or_ne i j) }
-      where
-        pick : (i : ℕ) → at ≤ i → i < j + 1 → (i ≡ j) ⊎ (i ≢ j) → Idle H c L want (get_or list i 0)
-        pick i a b (inl q) = subst⁻¹ (λ (x : ℕ). Idle H c L want (get_or list x 0)) q idle
-        pick i a b (inr d) = I.passed i a (omega arith)
+module _ {H row : List ℕ} {c : List Float} {L : List ℕ} {want j : ℕ} (I : Seeking H row c L want j) where
+  pub seek_on : j < length row → Idle H c L want (get_or row j 0) → Seeking H row c L want (j + 1)
+  seek_on h idle = record { ends = omega arith; passed = λ i b. pick i b (eq_or_ne i j) }
+    where
+      pick : (i : ℕ) → i < j + 1 → (i ≡ j) ⊎ (i ≢ j) → Idle H c L want (get_or row i 0)
+      pick i b (inl q) = subst⁻¹ (λ (x : ℕ). Idle H c L want (get_or row x 0)) q idle
+      pick i b (inr d) = I.passed i (omega arith)
 
-    pub seek_found : Leads H c L want (get_or list j 0) → Sought H list c L want at to j
-    seek_found leads = record { begun = I.begun; ends = I.ends; passed = I.passed; found = λ h. leads }
+  pub seek_found : Leads H c L want (get_or row j 0) → Sought H row c L want j
+  seek_found leads = record { ends = I.ends; passed = I.passed; found = λ h. leads }
 
 -- es are the links of u
-module _ {N : Net} {starts list : List ℕ} {c : List Float} {L nx₀ p₀ : List ℕ} (W : Walkable N starts list c L nx₀) (room : length nx₀ ≤ length p₀) {u len : ℕ} {p nx : List ℕ} (I : Walking N c L nx₀ p₀ u len p nx) (off : u ≢ N.sink) {es : List ℕ} (is : es ≡ out N u) where
+module _ {N : Net} {starts list : List ℕ} {c : List Float} {L nx₀ p₀ : List ℕ} (W : Walkable N starts list c L nx₀) {u len : ℕ} {p nx : List ℕ} (I : Walking N c L nx₀ p₀ u len p nx) (off : u ≢ N.sink) {es : List ℕ} (is : es ≡ out N u) where
   abbrev moved : ℕ → List ℕ
   moved m = set nx u m
 
   mark_is : (m : ℕ) → get_or (moved m) u 0 ≡ m
-  mark_is m = get_or-set_same nx u m 0 (u_next W room I)
+  mark_is m = get_or-set_same nx u m 0 (u_next W I)
 
   -- the first k links from the mark on are passed
   skips : (k : ℕ) → get_or nx u 0 + k ≤ length es → ((i : ℕ) → i < k → Idle N.heads c L (len + 1) (get_or es (get_or nx u 0 + i) 0))
@@ -59,8 +57,8 @@ module _ {N : Net} {starts list : List ℕ} {c : List Float} {L nx₀ p₀ : Lis
           let idle = subst⁻¹ (λ (x : ℕ). Idle N.heads c L (len + 1) (get_or es x 0)) e (f k (omega arith)) in
           let q : set (moved (get_or nx u 0 + k)) u (get_or (moved (get_or nx u 0 + k)) u 0 + 1) ≡ moved (get_or nx u 0 + suc k)
           = set-set nx u (get_or nx u 0 + k) (get_or (moved (get_or nx u 0 + k)) u 0 + 1) ∙ ap (set nx u) (let z : get_or (moved (get_or nx u 0 + k)) u 0 + 1 ≡ get_or nx u 0 + suc k = omega arith in z) in
-          let less = subst (λ (l : List ℕ). gauge N L (standing u len p l) < gauge N L (standing u len p (moved (get_or nx u 0 + k)))) q (skipped_less W room J off is more idle) in
-          (subst (Walking N c L nx₀ p₀ u len p) q (skipped W room J off is more idle), omega arith)
+          let less = subst (λ (l : List ℕ). gauge N L (standing u len p l) < gauge N L (standing u len p (moved (get_or nx u 0 + k)))) q (skipped_less W J off is more idle) in
+          (subst (Walking N c L nx₀ p₀ u len p) q (skipped W J off is more idle), omega arith)
 
   -- the rest of them, from the mark on
   module _ (more : get_or nx u 0 < length es) where
@@ -73,25 +71,22 @@ module _ {N : Net} {starts list : List ℕ} {c : List Float} {L nx₀ p₀ : Lis
     row_at : (i : ℕ) → i < length row → get_or row i 0 ≡ get_or es (get_or nx u 0 + i) 0
     row_at = part_at es (omega arith) (le_refl (length es))
 
-    pub row_seekable : Seekable N.heads row c L 0 (length row)
+    pub row_seekable : Seekable N.heads row c L
     unfolding head
-    row_seekable = record { ordered = omega arith; within = omega arith; links_in = λ j a b. known j b }
-      where
-        known : (j : ℕ) → j < length row → (get_or row j 0 < length N.heads) × (get_or row j 0 < length c) × (get_or N.heads (get_or row j 0) 0 < length L)
-        known j b =
-            let l = row_length in
-            let k = (W.good.listed u (get_or row j 0) (subst (In (get_or row j 0)) is (rw (row_at j b) (in_at es (get_or nx u 0 + j) 0 (omega arith))))).0 in
-            (k, rw W.caps.size k, rw W.levels.len (W.good.heads_in (get_or row j 0) k))
+    row_seekable j b =
+        let l = row_length in
+        let k = (W.good.listed u (get_or row j 0) (subst (In (get_or row j 0)) is (rw (row_at j b) (in_at es (get_or nx u 0 + j) 0 (omega arith))))).0 in
+        (k, rw W.caps.size k, rw W.levels.len (W.good.heads_in (get_or row j 0) k))
 
-    passes : {k : ℕ} → Sought N.heads row c L (len + 1) 0 (length row) k
+    passes : {k : ℕ} → Sought N.heads row c L (len + 1) k
         → Walking N c L nx₀ p₀ u len p (moved (get_or nx u 0 + k)) × (gauge N L (standing u len p (moved (get_or nx u 0 + k))) + k ≤ gauge N L (standing u len p nx))
     passes {k} S =
         let l = row_length in
         let e = S.ends in
-        skips k (omega arith) (λ i h. subst (Idle N.heads c L (len + 1)) (row_at i (omega arith)) (S.passed i (omega arith) h))
+        skips k (omega arith) (λ i h. subst (Idle N.heads c L (len + 1)) (row_at i (omega arith)) (S.passed i h))
 
     -- no link leads on
-    module _ (S : Sought N.heads row c L (len + 1) 0 (length row) (length row)) where
+    module _ (S : Sought N.heads row c L (len + 1) (length row)) where
       all_passed : get_or nx u 0 + length row ≡ length es
       all_passed = let l = row_length in omega arith
 
@@ -102,7 +97,7 @@ module _ {N : Net} {starts list : List ℕ} {c : List Float} {L nx₀ p₀ : Lis
       none_less = subst (λ (x : ℕ). gauge N L (standing u len p (set nx u x)) < gauge N L (standing u len p nx)) all_passed (let g = (passes S).1 in let l = row_length in omega arith)
 
     -- link k leads on
-    module _ {k : ℕ} (S : (k < length row) × Sought N.heads row c L (len + 1) 0 (length row) k) where
+    module _ {k : ℕ} (S : (k < length row) × Sought N.heads row c L (len + 1) k) where
       still : get_or (moved (get_or nx u 0 + k)) u 0 < length es
       still = let e = mark_is (get_or nx u 0 + k) in let l = row_length in let h = S.0 in omega arith
 
@@ -113,10 +108,10 @@ module _ {N : Net} {starts list : List ℕ} {c : List Float} {L nx₀ p₀ : Lis
       leads = subst⁻¹ (Leads N.heads c L (len + 1)) at_k (S.1.found S.0)
 
       pub found_on : Walking N c L nx₀ p₀ (get_or N.heads (get_or row k 0) 0) (len + 1) (set p len (get_or row k 0)) (set nx u (get_or nx u 0 + k))
-      found_on = subst (λ (e : ℕ). Walking N c L nx₀ p₀ (get_or N.heads e 0) (len + 1) (set p len e) (set nx u (get_or nx u 0 + k))) at_k (took W room (passes S.1).0 off is still leads)
+      found_on = subst (λ (e : ℕ). Walking N c L nx₀ p₀ (get_or N.heads e 0) (len + 1) (set p len e) (set nx u (get_or nx u 0 + k))) at_k (took W (passes S.1).0 off is still leads)
 
       pub found_less : gauge N L (standing (get_or N.heads (get_or row k 0) 0) (len + 1) (set p len (get_or row k 0)) (set nx u (get_or nx u 0 + k))) < gauge N L (standing u len p nx)
       found_less =
           let g = (passes S.1).1 in
-          let t = subst (λ (e : ℕ). gauge N L (standing (get_or N.heads e 0) (len + 1) (set p len e) (set nx u (get_or nx u 0 + k))) < gauge N L (standing u len p (set nx u (get_or nx u 0 + k)))) at_k (took_less W room (passes S.1).0 off is still leads) in
+          let t = subst (λ (e : ℕ). gauge N L (standing (get_or N.heads e 0) (len + 1) (set p len e) (set nx u (get_or nx u 0 + k))) < gauge N L (standing u len p (set nx u (get_or nx u 0 + k)))) at_k (took_less W (passes S.1).0 off is still leads) in
           omega arith

@@ -88,6 +88,7 @@ ending N c L nx = walk N c L (walk_fuel N) (record { at = N.source; path = []; n
 
 pub record Walking (N : Net) (c : List Float) (L nx₀ p₀ : List ℕ) (u len : ℕ) (p nx : List ℕ) : Type 0 where
   pub going : Going N c L (standing u len p nx) (ending N c L nx₀)
+  pub room : length nx₀ ≤ length p₀
   pub depth : level_of L u ≡ len
   pub path_length : length p ≡ length p₀
   pub next_length : length nx ≡ length nx₀
@@ -110,10 +111,11 @@ walk_starts {N = N} {nx = nx} W =
     let r = rests_le N.lists nx in
     record { size = W.size; path = refl; low = omega arith; dead = W.dead; fuel = omega arith }
 
-module _ {N : Net} {starts list : List ℕ} {c : List Float} {L nx₀ p₀ : List ℕ} (W : Walkable N starts list c L nx₀) (room : length nx₀ ≤ length p₀) where
-  pub walk_begins : Walking N c L nx₀ p₀ N.source 0 p₀ nx₀
-  walk_begins = record {
+module _ {N : Net} {starts list : List ℕ} {c : List Float} {L nx₀ p₀ : List ℕ} (W : Walkable N starts list c L nx₀) where
+  pub walk_begins : length nx₀ ≤ length p₀ → Walking N c L nx₀ p₀ N.source 0 p₀ nx₀
+  walk_begins room = record {
     going = record { fuel = walk_fuel N; walks = walk_starts W; same = refl };
+    room = room;
     depth = W.levels.src;
     path_length = refl;
     next_length = refl;
@@ -136,7 +138,7 @@ module _ {N : Net} {starts list : List ℕ} {c : List Float} {L nx₀ p₀ : Lis
     depth_low = let b = W.levels.bnd u low in let d = I.depth in omega arith
 
     pub path_room : len < length p
-    path_room = let d = depth_low in let l = I.path_length in let s = W.size in omega arith
+    path_room = let d = depth_low in let l = I.path_length in let r = I.room in let s = W.size in omega arith
 
     module _ (off : u ≢ N.sink) where
       -- es are the links of u, and the mark stands at one of them
@@ -179,6 +181,7 @@ module _ {N : Net} {starts list : List ℕ} {c : List Float} {L nx₀ p₀ : Lis
           unfolding next
           took = record {
             going = rw (add-one len, longer p len at path_room) (goes W I.going next onto);
+            room = I.room;
             depth = up ∙ ap suc I.depth ∙ sym (add-one len);
             path_length = length-set p len at ∙ I.path_length;
             next_length = I.next_length;
@@ -203,6 +206,7 @@ module _ {N : Net} {starts list : List ℕ} {c : List Float} {L nx₀ p₀ : Lis
           pub skipped : Walking N c L nx₀ p₀ u len p (set nx u (get_or nx u 0 + 1))
           skipped = record {
             going = goes W I.going (standing u len p (set nx u (get_or nx u 0 + 1))) aside;
+            room = I.room;
             depth = I.depth;
             path_length = I.path_length;
             next_length = length-set nx u (get_or nx u 0 + 1) ∙ I.next_length;
@@ -272,6 +276,7 @@ module _ {N : Net} {starts list : List ℕ} {c : List Float} {L nx₀ p₀ : Lis
           pub back : Walking N c L nx₀ p₀ from (len - 1) p (set nx from (get_or nx from 0 + 1))
           back = record {
             going = goes W I.going (standing from (len - 1) p (set nx from (get_or nx from 0 + 1))) homeward;
+            room = I.room;
             depth = let h = leg.0.higher in let d = I.depth in let q = ap (level_of L) from_at in omega arith;
             path_length = I.path_length;
             next_length = length-set nx from (get_or nx from 0 + 1) ∙ I.next_length;

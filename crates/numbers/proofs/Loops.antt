@@ -1,5 +1,5 @@
 -- What an iterator's `all` and `position` answer, in the words of our definitions.
-use Rattle.std.proofs.Common.{◌≡◌, refl, sym, ap, ◌∙◌, ℕ, ◌+◌, ◌<◌, get_or, Bool, true, false, ◌&&◌, not, cond, List, [], ◌∷◌, length, eqb, ltb, Some, None, unwrap_or}
+use Rattle.std.proofs.Common.{◌≡◌, refl, sym, ap, ◌∙◌, ℕ, ◌+◌, ◌<◌, Bool, true, false, ◌&&◌, not, cond, List, [], ◌∷◌, length, eqb, ltb, Some, None, unwrap_or}
 use native.Mathlib.Omega.{arith}
 use mathlib.Core.Bool.{true≢false}
 use Rattle.std.specs.List.{list_all, position_or_len, range_with_len}

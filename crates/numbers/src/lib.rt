@@ -4,10 +4,11 @@
 pub mod bounds; // bounds.rt: the numbers from a least one to a greatest one
 pub mod refusal; // refusal.rt: why a call is turned back
 
-ghost use Rattle.std.specs.Prelude.{◌≡◌, min, false, [], ◌∷◌};
+ghost use Rattle.std.specs.Prelude.{◌≡◌, min, ltb, false, [], ◌∷◌};
 ghost use Rattle.std.specs.Float.{inf};
 ghost use Rattle.numbers.specs.Real.{is_zero, is_valid, sum, one, half, tenth, least_weight, greatest_weight, greatest_joined, least_observation, greatest_factor, greatest_rate, eps, slack, margin, fineness};
 ghost use Rattle.numbers.specs.Choice;
+ghost use Rattle.numbers.specs.Lists.{all};
 ghost use Rattle.numbers.specs.Search;
 ghost use Rattle.numbers.specs.Bits.{bit_at, cleared};
 
@@ -142,6 +143,14 @@ pub fn seek(list: &[u32], x: u32) -> Option<usize>
     ensures { result ≡ Search.place x list.now }
 {
     list.iter().position(|y| *y == x)
+}
+
+// Whether each number of a list is below n.
+// Stays: n is a bound on each of them, not how many of them are meant.
+pub fn all_below(list: &[u32], n: usize) -> bool
+    ensures { result ≡ all (λ x. ltb x n) list.now }
+{
+    list.iter().all(|x| (*x as usize) < n)
 }
 
 // Bit i of a store of bytes, lowest bit of a byte first; false past its end.

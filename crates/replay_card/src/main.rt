@@ -12,6 +12,7 @@ fn run_kind(r: &mut Reader, kind: &[u8], card: &mut [u8], out: &mut [u8]) {
     cases::run_only(r, kind, b"card", |r| cards::run(r, card, out));
 }
 
+// Stays: one function for the four programs of one kind would take the kind, the title and what runs a case, and print. It would be public, and to say what it answers it would need a definition of its own of the step that `run_only` makes of what runs a case, for five lines less in each program.
 fn main(rt: HostRuntime) -> io::Result<()> {
     let mut card = [0u8; 10500];
     let mut out = [0u8; 26662];

@@ -1,5 +1,6 @@
 // A chain in the text, with its observations.
 ghost use Rattle.std.specs.Prelude.{◌≡◌, min, replicate};
+ghost use Rattle.numbers.specs.Real.{nought};
 ghost use Rattle.replay_text.specs.Reading.{Lasts};
 ghost use Rattle.replay_measures.specs.Marks.{mark};
 
@@ -20,7 +21,11 @@ pub struct Store {
 }
 
 impl Store {
-    pub fn new() -> Store {
+    // All lists of zeros.
+    pub fn new() -> Store
+        ensures numbers { (result.offsets ≡ replicate 200 0) × (result.targets ≡ replicate 200 0) }
+        ensures reals { (result.probs ≡ replicate 200 nought) × (result.seen ≡ replicate 200 nought) }
+    {
         Store {
             offsets: [0; 200],
             targets: [0; 200],

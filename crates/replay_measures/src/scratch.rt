@@ -1,5 +1,6 @@
 // The scratch that is lent: filled with marks before a call, and looked at after it.
 ghost use Rattle.std.specs.Prelude.{◌≡◌, min, length, replicate};
+ghost use Rattle.numbers.specs.Real.{nought};
 ghost use Rattle.replay_text.specs.Reading.{Lasts};
 ghost use Rattle.replay_measures.specs.Marks.{mark};
 
@@ -109,7 +110,12 @@ pub struct Lists {
 }
 
 impl Lists {
-    pub fn new() -> Lists {
+    // All lists of zeros.
+    pub fn new() -> Lists
+        ensures numbers { (result.lefts ≡ replicate 4200 0) × (result.rights ≡ replicate 4200 0) × (result.places ≡ replicate 4200 0) }
+        ensures codes { result.codes ≡ replicate 4200 0 }
+        ensures reals { result.masses ≡ replicate 4200 nought }
+    {
         Lists {
             lefts: [0; 4200],
             rights: [0; 4200],

@@ -1,1 +1,3 @@
 pub mod Running
+pub mod Cuts
+pub mod Words

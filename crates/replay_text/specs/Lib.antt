@@ -1,3 +1,4 @@
 pub mod Reading
 pub mod Tally
 pub mod Cases
+pub mod Words

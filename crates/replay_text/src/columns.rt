@@ -1,6 +1,7 @@
 // A built model in the text: counts, initial state and columns.
-ghost use Rattle.std.specs.Prelude.{◌≡◌, take};
+ghost use Rattle.std.specs.Prelude.{◌≡◌, length, take, is_some, IfSome};
 ghost use Rattle.replay_text.specs.Reading.{Lasts};
+ghost use Rattle.replay_text.specs.Words.{whole_or_none, whole, short, field_word, past_field, field_size, listed, past_list};
 
 use crate::lists::front;
 use crate::text::Reader;
@@ -26,9 +27,13 @@ impl<T: Entry, const N: usize> Column<T, N> {
     }
 
     pub fn fill(&mut self, r: &mut Reader)
-        ensures { Lasts r.old r.new }
+        ensures read { (self.new.count ≡ field_size (length self.old.entries) r.old.rest.now) × (r.new.rest.now ≡ past_list (length self.old.entries) r.old.rest.now) }
+        ensures entries { take self.new.count self.new.entries ≡ listed T.said (length self.old.entries) r.old.rest.now }
+        ensures lasts { Lasts r.old r.new }
     {
-        self.count = r.list_field(&mut self.entries).len();
+        let n = r.size_field(self.entries.len());
+        r.read_each(&mut self.entries[..n]);
+        self.count = n;
     }
 
     pub fn read(&self) -> &[T]
@@ -51,8 +56,10 @@ pub struct Model {
 
 impl Reader<'_> {
     // A state, or `-` for none.
+    #[tactic(auto, unfolding(crate::specs::Words::short, crate::specs::Words::whole))]
     pub fn initial_field(&mut self) -> Option<StateId>
-        ensures { Lasts self.old self.new }
+        ensures read { (is_some result ≡ is_some (whole_or_none (field_word self.old.rest.now))) × IfSome result (λ s. s.0 ≡ short (field_word self.old.rest.now)) × (self.new.rest.now ≡ past_field self.old.rest.now) }
+        ensures lasts { Lasts self.old self.new }
     {
         self.name();
         let x = self.number_or_none()?;
@@ -60,7 +67,9 @@ impl Reader<'_> {
     }
 
     pub fn shape(&mut self) -> Shape
-        ensures { Lasts self.old self.new }
+        ensures read { (result.states ≡ whole (field_word self.old.rest.now)) × (result.edges ≡ whole (field_word (past_field self.old.rest.now))) × (result.labels ≡ whole (field_word (past_field (past_field self.old.rest.now))))
+            × (self.new.rest.now ≡ past_field (past_field (past_field (past_field self.old.rest.now)))) }
+        ensures lasts { Lasts self.old self.new }
     {
         Shape {
             states: self.number_field() as usize,
@@ -92,7 +101,8 @@ impl Model {
     }
 
     pub fn read(&mut self, r: &mut Reader)
-        ensures { Lasts r.old r.new }
+        ensures read { (self.new.shape.states ≡ whole (field_word r.old.rest.now)) × (self.new.shape.edges ≡ whole (field_word (past_field r.old.rest.now))) × (self.new.shape.labels ≡ whole (field_word (past_field (past_field r.old.rest.now)))) }
+        ensures lasts { Lasts r.old r.new }
     {
         self.shape = r.shape();
         self.label_values.fill(r);

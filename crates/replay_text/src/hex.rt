@@ -1,15 +1,19 @@
 // Bytes in the text, written with two hexadecimal digits for each: a name, a count of bytes, and one word of digits; no word where there are none.
-ghost use Rattle.std.specs.Prelude.{◌≤◌, ◌<◌, length};
+ghost use Rattle.std.specs.Prelude.{◌≡◌, ◌≤◌, ◌<◌, length};
 ghost use Rattle.replay_text.specs.Reading.{Lasts};
+ghost use Rattle.replay_text.specs.Words.{hex, past_hex, pair, past_pair, closed, bytes, past_bytes};
 
 use crate::lists;
 use crate::text::{Reader, digit};
 
 impl Reader<'_> {
     // One digit; 0 and a fault where there is none.
-    // Stays: `found`, of any type, promises nothing of what it hands on, and `pair` needs the bound; and a digit is passed only where there is one.
+    // Stays: a digit is passed only where there is one, so that by `found` there would be a test before it, whose two ways come together again.
+    #[tactic(auto, unfolding(crate::specs::Words::hex, crate::specs::Words::past_hex, crate::specs::Words::digit_of))]
     fn hex_digit(&mut self) -> u64
-        ensures { (result < 16) × Lasts self.old self.new }
+        ensures read { (result ≡ hex self.old.rest.now) × (self.new.rest.now ≡ past_hex self.old.rest.now) }
+        ensures below { result < 16 }
+        ensures lasts { Lasts self.old self.new }
     {
         let Some(x) = self.rest.first().and_then(|b| digit(*b, 16)) else {
             self.fault();
@@ -21,7 +25,8 @@ impl Reader<'_> {
 
     // A byte of two digits.
     fn pair(&mut self) -> u8
-        ensures { Lasts self.old self.new }
+        ensures read { (result ≡ pair self.old.rest.now) × (self.new.rest.now ≡ past_pair self.old.rest.now) }
+        ensures lasts { Lasts self.old self.new }
     {
         let high = self.hex_digit();
         let low = self.hex_digit();
@@ -29,8 +34,10 @@ impl Reader<'_> {
     }
 
     // The word of n bytes has ended: what follows it is passed.
+    #[tactic(auto, unfolding(crate::specs::Words::closed))]
     fn closed(&mut self, n: usize)
-        ensures { Lasts self.old self.new }
+        ensures read { self.new.rest.now ≡ closed n self.old.rest.now }
+        ensures lasts { Lasts self.old self.new }
     {
         if n > 0 {
             self.ended(1);
@@ -39,7 +46,9 @@ impl Reader<'_> {
 
     // Bytes, which go to the front of `out`: that front.
     pub fn hex_field<'b>(&mut self, out: &'b mut [u8]) -> &'b mut [u8]
-        ensures { (length result.now ≤ length out.old) × Lasts self.old self.new }
+        ensures read { (result.now ≡ bytes (length out.old) self.old.rest.now) × (self.new.rest.now ≡ past_bytes (length out.old) self.old.rest.now) }
+        ensures room { length result.now ≤ length out.old }
+        ensures lasts { Lasts self.old self.new }
     {
         let n = self.size_field(out.len());
         let list = lists::front_mut(out, n);

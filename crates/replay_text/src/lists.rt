@@ -2,12 +2,13 @@
 ghost use Rattle.std.specs.Prelude.{◌≡◌, ◌≤◌, length, take, drop};
 ghost use Rattle.std.specs.List.{list_all};
 ghost use Rattle.replay_text.specs.Reading.{Lasts};
+ghost use Rattle.replay_text.specs.Words.{first_word, past_word, values, behind as beyond, field_size, listed, past_list};
 
 use crate::text::Reader;
 use crate::values::{Entry, Value};
 
 // The first n entries; all where there are fewer.
-// Stays: it is what cuts a list to n, once for all its callers.
+// Stays: cut by each caller it would be this line at each, since `&xs[..n]` stops where n is past the end.
 pub fn front<'a, T>(xs: &'a [T], n: usize) -> &'a [T]
     ensures { result.now ≡ take n xs.now }
 {
@@ -40,27 +41,35 @@ pub fn all_are<T: Copy + PartialEq>(xs: &[T], x: T) -> bool
 
 impl Reader<'_> {
     // How many entries there are; more than there is room for is a fault, and 0.
-    // Stays: `found`, of any type, promises nothing of what it hands on, and the callers need the bound.
+    #[tactic(auto, unfolding(crate::specs::Words::field_size))]
     pub fn size_field(&mut self, room: usize) -> usize
-        ensures { (result ≤ room) × Lasts self.old self.new }
+        ensures read { (result ≡ field_size room self.old.rest.now) × (self.new.rest.now ≡ past_word (past_word self.old.rest.now)) }
+        ensures room { result ≤ room }
+        ensures lasts { Lasts self.old self.new }
     {
-        let n = self.number_field();
-        if n <= room as u64 {
-            return n as usize;
+        let n = self.number_field() as usize;
+        self.found(Some(n).filter(|n| *n <= room))
+    }
+
+    // The entries of a list, one behind the other.
+    pub(crate) fn read_each<T: Entry>(&mut self, list: &mut [T])
+        ensures read { (list.new ≡ values (λ t. T.said (first_word t)) past_word (length list.old) self.old.rest.now) × (self.new.rest.now ≡ beyond past_word (length list.old) self.old.rest.now) }
+        ensures lasts { Lasts self.old self.new }
+    {
+        for entry in list.iter_mut() {
+            *entry = T::read(self);
         }
-        self.fault();
-        0
     }
 
     // A list of entries, which goes to the front of `out`: that front.
     pub fn list_field<'b, T: Entry>(&mut self, out: &'b mut [T]) -> &'b mut [T]
-        ensures { (length result.now ≤ length out.old) × Lasts self.old self.new }
+        ensures read { (result.now ≡ listed T.said (length out.old) self.old.rest.now) × (self.new.rest.now ≡ past_list (length out.old) self.old.rest.now) }
+        ensures room { length result.now ≤ length out.old }
+        ensures lasts { Lasts self.old self.new }
     {
         let n = self.size_field(out.len());
         let list = front_mut(out, n);
-        for entry in list.iter_mut() {
-            *entry = T::read(self);
-        }
+        self.read_each(list);
         list
     }
 

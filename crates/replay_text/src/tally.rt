@@ -2,8 +2,6 @@
 ghost use Rattle.std.specs.Prelude.{◌≡◌};
 ghost use Rattle.replay_text.specs.Tally.{more, none, tallied, other_tallied, tally_of};
 
-use std::io;
-
 // How many answers agree with the stored ones, and how many differ.
 #[derive(Clone, Copy, Debug, Default)]
 pub struct Tally {
@@ -25,7 +23,7 @@ impl Tally {
 }
 
 // The answers of each entry by its number, those of cases of no known kind or with more text than their kind has, and all.
-#[derive(Clone, Copy, Debug)]
+#[derive(Clone, Copy, Debug, Default)]
 pub struct Counts {
     pub entries: [Tally; 22],
     pub other: Tally,
@@ -36,11 +34,7 @@ impl Counts {
     pub fn new() -> Counts
         ensures { result ≡ none }
     {
-        Counts {
-            entries: [Tally::default(); 22],
-            other: Tally::default(),
-            all: Tally::default(),
-        }
+        Counts::default()
     }
 
     // Stays: the bool is what is counted; by `get_mut` in place of test and index `grind` stopped at its limit of instances where there is such an entry (tried by two, some ten minutes).

@@ -1,8 +1,10 @@
 // The text of cases: words and numbers between single blanks and line feeds.
-ghost use Rattle.std.specs.Prelude.{◌≡◌, true, false, ◌<◌, ◌&&◌, not, cond, eqb, length, IfSome};
+ghost use Rattle.std.specs.Prelude.{◌≡◌, true, false, ◌<◌, ◌&&◌, not, cond, eqb, length, drop, IfSome, IfNone, Some};
+ghost use Rattle.replay_text.specs.Words.{in_word, digit_of, grown, digits, float_of, past, first_word, past_word, whole, whole_or_none, short, real};
 ghost use Rattle.replay_text.specs.Reading.{Placed, Kept, Lasts, same};
 ghost use Rattle.replay_text.specs.Tally.{Ready, agrees as agreed, tallied, other_tallied};
 
+use crate::lists::front;
 use crate::tally::Counts;
 use crate::values::Value;
 
@@ -15,29 +17,42 @@ pub struct Reader<'a> {
     pub counts: Counts,
 }
 
-fn within_word(b: u8) -> bool {
+fn within_word(b: u8) -> bool
+    ensures { result ≡ in_word b }
+{
     b != b'\n' && b != b' '
 }
 
 // The digit that a byte is, to that base.
 // Stays: `char::to_digit` takes capitals too, with which no number of a case is written, and wants of each caller a base from 2 to 36.
+#[tactic(auto, unfolding(crate::specs::Words::digit_of))]
 pub(crate) fn digit(b: u8, base: u64) -> Option<u64>
-    ensures { IfSome result (λ x. x < base) }
+    ensures below { IfSome result (λ x. x < base) }
+    ensures read { result ≡ digit_of base b }
 {
     let x = match b {
         b'0'..=b'9' => u64::from(b - b'0'),
         b'a'..=b'f' => u64::from(b - b'a') + 10,
         _ => return None,
     };
-    if x < base { Some(x) } else { None }
+    (x < base).then_some(x)
+}
+
+// A number with a digit more; none where it is no digit, or the number has over 64 bits.
+fn with_digit(x: u64, b: u8, base: u64) -> Option<u64>
+    ensures { result ≡ grown base (Some x) (digit_of base b) }
+{
+    x.checked_mul(base)?.checked_add(digit(b, base)?)
 }
 
 // The number that digits make; none where one is no digit, or the number has over 64 bits.
 // Stays: `u64::from_str_radix` takes a sign and capitals too, with which no number of a case is written, and a text in place of bytes.
-fn parsed(digits: &[u8], base: u64) -> Option<u64> {
+fn parsed(bytes: &[u8], base: u64) -> Option<u64>
+    ensures { result ≡ digits base bytes.now }
+{
     let mut x = 0u64;
-    for b in digits {
-        x = x.checked_mul(base)?.checked_add(digit(*b, base)?)?;
+    for b in bytes {
+        x = with_digit(x, *b, base)?;
     }
     Some(x)
 }
@@ -48,7 +63,10 @@ const SIGN: u64 = 0x8000_0000_0000_0000;
 const INFINITY: u64 = 0x7ff0_0000_0000_0000;
 
 // The number that has these bits.
-fn of_bits(bits: u64) -> f64 {
+#[tactic(auto, unfolding(crate::specs::Words::float_of))]
+fn of_bits(bits: u64) -> f64
+    ensures { result ≡ float_of bits }
+{
     if bits % SIGN > INFINITY {
         return f64::NAN;
     }
@@ -64,7 +82,7 @@ pub fn alike(x: f64, y: f64) -> bool
 
 impl<'a> Reader<'a> {
     pub fn new(case: &'a [u8], counts: Counts) -> Reader<'a>
-        ensures { (result.faulty ≡ false) × (result.differs ≡ false) × (result.counts ≡ counts) }
+        ensures { (result.rest.now ≡ case.now) × (result.faulty ≡ false) × (result.differs ≡ false) × (result.counts ≡ counts) }
     {
         Reader {
             rest: case,
@@ -76,7 +94,7 @@ impl<'a> Reader<'a> {
 
     // The text is not as laid out.
     pub fn fault(&mut self)
-        ensures { (self.new.faulty ≡ true) × Lasts self.old self.new }
+        ensures { (self.new.rest ≡ self.old.rest) × (self.new.faulty ≡ true) × Lasts self.old self.new }
     {
         self.faulty = true;
     }
@@ -84,7 +102,7 @@ impl<'a> Reader<'a> {
     // An answer is the stored one, or differs.
     // Stays: the bool is what a comparison has found, and picks no body.
     pub fn compared(&mut self, agrees: bool)
-        ensures { (agrees ≡ false → self.new.differs ≡ true) × Lasts self.old self.new }
+        ensures { (self.new.rest ≡ self.old.rest) × (agrees ≡ false → self.new.differs ≡ true) × Lasts self.old self.new }
     {
         self.differs |= !agrees;
     }
@@ -104,7 +122,7 @@ impl<'a> Reader<'a> {
 
     // The next byte, which is passed.
     pub(crate) fn advance(&mut self) -> Option<u8>
-        ensures { Kept self.old self.new }
+        ensures { (self.new.rest.now ≡ drop 1 self.old.rest.now) × Kept self.old self.new }
     {
         let (first, rest) = self.rest.split_first()?;
         self.rest = rest;
@@ -112,8 +130,10 @@ impl<'a> Reader<'a> {
     }
 
     // A word of `size` bytes has ended: what follows it is passed.
+    #[tactic(auto, unfolding(crate::specs::Words::past))]
     pub(crate) fn ended(&mut self, size: usize)
-        ensures { Lasts self.old self.new }
+        ensures read { self.new.rest.now ≡ past size self.old.rest.now }
+        ensures lasts { Lasts self.old self.new }
     {
         if size == 0 || self.rest.first().is_some_and(|b| within_word(*b)) {
             self.fault();
@@ -124,14 +144,15 @@ impl<'a> Reader<'a> {
 
     // A word of at most 32 bytes.
     pub fn word(&mut self) -> &'a [u8]
-        ensures { Lasts self.old self.new }
+        ensures read { (result.now ≡ first_word self.old.rest.now) × (self.new.rest.now ≡ past_word self.old.rest.now) }
+        ensures lasts { Lasts self.old self.new }
     {
         let text = self.rest;
-        let room = text.len().min(32);
-        let size = text[..room]
+        let room = front(text, 32);
+        let size = room
             .iter()
             .position(|b| !within_word(*b))
-            .unwrap_or(room);
+            .unwrap_or(room.len());
         let (word, rest) = text.split_at(size);
         self.rest = rest;
         self.ended(size);
@@ -140,14 +161,16 @@ impl<'a> Reader<'a> {
 
     // A word that need not be looked at.
     pub fn name(&mut self)
-        ensures { Lasts self.old self.new }
+        ensures read { self.new.rest.now ≡ past_word self.old.rest.now }
+        ensures lasts { Lasts self.old self.new }
     {
         self.word();
     }
 
     // What is read; 0 and a fault where there is nothing.
     pub(crate) fn found<T: Default>(&mut self, x: Option<T>) -> T
-        ensures { Lasts self.old self.new }
+        ensures read { (self.new.rest ≡ self.old.rest) × IfSome x (λ y. result ≡ y) × IfNone x (T.is_default result) }
+        ensures lasts { Lasts self.old self.new }
     {
         match x {
             Some(x) => x,
@@ -159,8 +182,10 @@ impl<'a> Reader<'a> {
     }
 
     // A whole number, or `-` for none.
+    #[tactic(auto, unfolding(crate::specs::Words::whole_or_none))]
     pub(crate) fn number_or_none(&mut self) -> Option<u64>
-        ensures { Lasts self.old self.new }
+        ensures read { (result ≡ whole_or_none (first_word self.old.rest.now)) × (self.new.rest.now ≡ past_word self.old.rest.now) }
+        ensures lasts { Lasts self.old self.new }
     {
         match self.word() {
             b"-" => None,
@@ -169,16 +194,20 @@ impl<'a> Reader<'a> {
     }
 
     // A whole number.
+    #[tactic(auto, unfolding(crate::specs::Words::whole))]
     pub(crate) fn number(&mut self) -> u64
-        ensures { Lasts self.old self.new }
+        ensures read { (result ≡ whole (first_word self.old.rest.now)) × (self.new.rest.now ≡ past_word self.old.rest.now) }
+        ensures lasts { Lasts self.old self.new }
     {
         let x = self.number_or_none();
         self.found(x)
     }
 
     // The 16 hexadecimal digits of a bit pattern.
+    #[tactic(auto, unfolding(crate::specs::Words::real))]
     pub(crate) fn real(&mut self) -> f64
-        ensures { Lasts self.old self.new }
+        ensures read { (result ≡ real (first_word self.old.rest.now)) × (self.new.rest.now ≡ past_word self.old.rest.now) }
+        ensures lasts { Lasts self.old self.new }
     {
         let word = self.word();
         let bits = if word.len() == 16 {
@@ -190,8 +219,10 @@ impl<'a> Reader<'a> {
     }
 
     // A number of 32 bits: anything else is a fault.
+    #[tactic(auto, unfolding(crate::specs::Words::short))]
     pub(crate) fn short(&mut self) -> u32
-        ensures { Lasts self.old self.new }
+        ensures read { (result ≡ short (first_word self.old.rest.now)) × (self.new.rest.now ≡ past_word self.old.rest.now) }
+        ensures lasts { Lasts self.old self.new }
     {
         let x = self.number();
         self.found(u32::try_from(x).ok())
@@ -199,21 +230,24 @@ impl<'a> Reader<'a> {
 
     // A field is a name, which need not be looked at, and what follows it.
     pub fn number_field(&mut self) -> u64
-        ensures { Lasts self.old self.new }
+        ensures read { (result ≡ whole (first_word (past_word self.old.rest.now))) × (self.new.rest.now ≡ past_word (past_word self.old.rest.now)) }
+        ensures lasts { Lasts self.old self.new }
     {
         self.name();
         self.number()
     }
 
     pub fn short_field(&mut self) -> u32
-        ensures { Lasts self.old self.new }
+        ensures read { (result ≡ short (first_word (past_word self.old.rest.now))) × (self.new.rest.now ≡ past_word (past_word self.old.rest.now)) }
+        ensures lasts { Lasts self.old self.new }
     {
         self.name();
         self.short()
     }
 
     pub fn real_field(&mut self) -> f64
-        ensures { Lasts self.old self.new }
+        ensures read { (result ≡ real (first_word (past_word self.old.rest.now))) × (self.new.rest.now ≡ past_word (past_word self.old.rest.now)) }
+        ensures lasts { Lasts self.old self.new }
     {
         self.name();
         self.real()

@@ -1,5 +1,7 @@
 // Values in the text.
+ghost use Rattle.std.specs.Prelude.{◌≡◌, ℕ, List};
 ghost use Rattle.replay_text.specs.Reading.{Lasts};
+ghost use Rattle.replay_text.specs.Words.{first_word, past_word, short, byte, real};
 
 use crate::text;
 use crate::text::Reader;
@@ -19,9 +21,13 @@ pub trait Value: Sized {
 
 // A value that lists are made of.
 pub trait Entry: Value + Copy {
+    // The one that a word says.
+    ghost said: { List ℕ → Self };
+
     // One from the text.
     fn read(r: &mut Reader) -> Self
-        ensures { Lasts r.old r.new };
+        ensures read { (result ≡ said (first_word r.old.rest.now)) × (r.new.rest.now ≡ past_word r.old.rest.now) }
+        ensures lasts { Lasts r.old r.new };
 }
 
 impl Value for () {
@@ -158,12 +164,17 @@ impl<A: Value, B: Value, C: Value> Value for (A, B, C) {
 }
 
 impl Entry for u32 {
+    ghost said = { short };
+
     fn read(r: &mut Reader) -> u32 {
         r.short()
     }
 }
 
 impl Entry for u8 {
+    ghost said = { byte };
+
+    #[tactic(auto, unfolding(crate::specs::Words::byte))]
     fn read(r: &mut Reader) -> u8 {
         let x = r.short();
         r.found(u8::try_from(x).ok())
@@ -171,6 +182,8 @@ impl Entry for u8 {
 }
 
 impl Entry for f64 {
+    ghost said = { real };
+
     fn read(r: &mut Reader) -> f64 {
         r.real()
     }

@@ -7,7 +7,7 @@ mod plans; // plans.rt: a stored case, its answer and its columns
 use replay_text::cases;
 use std::io;
 
-// Stays: one function for the three programs of one kind was tried and proved; it would be public, and could promise the counts that `run` promises, but not that it prints them, of which no contract speaks.
+// Stays: one function for the four programs of one kind would take the kind, the title and what runs a case, and print. It would be public, and to say what it answers it would need a definition of its own of the step that `run_only` makes of what runs a case, for five lines less in each program.
 fn main(rt: HostRuntime) -> io::Result<()> {
     let counts = cases::run(
         &rt,

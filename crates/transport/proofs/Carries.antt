@@ -6,7 +6,7 @@ use mathlib.Core.List.{List}
 use native.Mathlib.Omega.{arith}
 use native.Mathlib.Numerals.{add-one}
 use lib.ListN.{length, take, drop, replicate, length-replicate, length-append}
-use lib.Seq.{take_at}
+use lib.Seq.{take_at, length-take-le}
 use lib.Ieee.{Float}
 use borrow.Author.Tests.{le-leb, eq-eqb}
 use Rattle.numbers.specs.Lists.{over}
@@ -120,14 +120,17 @@ module _ {a b costs : List Float} {h : List ℕ} {c p : List Float} {list rows c
     pub laid_places : r ≡ Some places
     laid_places = ap (λ (w : Written). w.places) laid ∙ ap (λ (k : ℕ). Some k) (heads_length (links a b costs) ∙ total)
 
-    pub laid_room : {k : ℕ} → k ≡ unwrap_or r 0 → (k ≤ length c') × (k ≤ length p')
-    laid_room e =
+    -- so many capacities and prices are there, and the lists that are cut to them have them
+    pub laid_room : {k : ℕ} → k ≡ unwrap_or r 0 → ((k ≤ length c') × (k ≡ length (take k c'))) × ((k ≤ length p') × (k ≡ length (take k p')))
+    laid_room {k} e =
         let q = e ∙ ap (λ (o : Option ℕ). unwrap_or o 0) laid_places in
         let x = ap (λ (w : Written). length w.caps) laid ∙ length-append (caps (links a b costs)) (drop (length (caps (links a b costs))) c) in
         let y = ap (λ (w : Written). length w.prices) laid ∙ length-append (prices (links a b costs)) (drop (length (prices (links a b costs))) p) in
         let u = caps_length (links a b costs) ∙ total in
         let v = prices_length (links a b costs) ∙ total in
-        (omega arith, omega arith)
+        let s : k ≤ length c' = omega arith in
+        let t : k ≤ length p' = omega arith in
+        ((s, sym (length-take-le k c' s)), (t, sym (length-take-le k p' t)))
 
     pub carried : Carried a b costs (take places h') (take places c') (take places p') list rows columns masses
     carried = record {

@@ -1,15 +1,14 @@
 -- What the checks of `transport` decide, and what the answer is then.
 use mathlib.Core.Path.{◌≡◌, refl, sym, ap, ◌∙◌}
 use mathlib.Core.Logic.{◌≢◌}
-use Prim.Native.Nat.{ℕ, ◌*◌, ◌≤◌, ◌<◌}
+use Prim.Native.Nat.{ℕ, ◌*◌, ◌≤◌}
 use mathlib.Core.Bool.{Bool, true, false, not, ◌&&◌, true≢false}
 use mathlib.Core.List.{List}
 use native.Mathlib.Omega.{arith}
 use lib.Dec.{ltb, leb}
 use lib.ListN.{length, take}
-use lib.Seq.{take_all}
 use lib.Ieee.{Float}
-use borrow.Author.Tests.{ltb-true, ltb-false, leb-true, not-false}
+use borrow.Author.Tests.{ltb-false, leb-true, not-false}
 use Rattle.numbers.specs.Lists.{all}
 use Rattle.numbers.specs.Real.{sum}
 use Rattle.numbers.specs.declared.refusal.Refusal.{Refusal}

@@ -9,7 +9,7 @@ use transport_links::links::{LinkRows, write_links};
 use transport_theory::Masses;
 
 // The rounds on the links of these masses, and the plan. How much remains is not asked for: what did not move is in no cell.
-// Stays: `ship_rows` answers None for links that don't fit together, which these do by the contract; handed on, it would make Options of the answers of four functions above, and a refusal in `planned` that never comes.
+// Stays: `ship_rows` answers None for links that don't fit together, which these do by the contract; handed on, it would make Options of this answer and of those of `transport_in`, `transport_with` and `planned`, none of them ever None.
 fn plan_links(
     of: &Masses,
     links: &Links,

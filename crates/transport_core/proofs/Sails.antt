@@ -4,10 +4,10 @@ use Prim.Native.Nat.{ℕ, ◌+◌, ◌*◌, ◌≤◌, ◌<◌}
 use mathlib.Core.Bool.{Bool, true}
 use mathlib.Core.List.{List}
 use native.Mathlib.Omega.{arith}
-use lib.Dec.{eqb, ltb, lit<}
+use lib.Dec.{eqb, ltb, leb, lit<}
 use lib.ListN.{length}
 use lib.Ieee.{Float, binary64, mul}
-use borrow.Author.Tests.{eqb-true}
+use borrow.Author.Tests.{eqb-true, leb-true}
 use Rattle.numbers.specs.Real.{one, eps, sum}
 use Rattle.numbers.specs.Choice.{smaller, larger}
 use Rattle.numbers.proofs.Bools.{and_t}
@@ -18,7 +18,6 @@ use Rattle.flow_theory.proofs.Links.{WellFormed}
 use Rattle.flow_theory.proofs.Outs.{network_nodes}
 use Rattle.flow_theory.proofs.Theorem.{made}
 use Rattle.flow_check.specs.Refusal
-use Rattle.flow_check.proofs.Accepting.{sized}
 use Rattle.flow_check.proofs.Relists.{Relisted, listable_indexable, enlisted}
 use Rattle.transport_theory.specs.Lent as masses
 use Rattle.transport_theory.specs.Transport.{Shipment, rounds, crumbs, round_cap}
@@ -78,15 +77,16 @@ module _ (a b : List Float) (H : List ℕ) (c p : List Float) (l : List ℕ) whe
         linked : Linked a b H c p l
         linked =
             let (u, v) = and_t (eqb (length c) (length H)) _ (and_t (masses.few (length a) (length b)) _ z).1 in
-            let (f, g) = and_t (Refusal.sizes_fit n (length H) (length H) (length H) (length l)) _ can in
-            let (i, j) = and_t (ltb n 67) _ g in
+            let (f, g) = and_t (Refusal.few n (length H)) _ can in
+            let (k, q) = and_t (leb (length H) (length l)) _ g in
+            let (i, j) = and_t (ltb n 67) _ q in
             record {
               few_a = few.0;
               few_b = few.1;
-              index = listable_indexable H n st l f j;
+              index = listable_indexable H n f j;
               caps_size = eqb-true (length c) (length H) u;
               prices_size = eqb-true (length p) (length H) v;
-              room = (sized n (length H) (length H) (length H) (length l) f).list;
+              room = leb-true _ _ k;
             }
 
         pub sails : Sailable (row_roads H p n (length a + length b) (length a + length b + 1)) st' l' c

@@ -2,7 +2,7 @@
 use Prim.Native.Nat.{ℕ, ◌+◌}
 use mathlib.Core.Bool.{Bool, true, false, ◌&&◌}
 use mathlib.Core.List.{List}
-use lib.Dec.{eqb, ltb}
+use lib.Dec.{eqb, ltb, leb}
 use lib.ListN.{length}
 use lib.Ieee.{Float}
 use Rattle.std.specs.Prelude.{Option, Some, None}
@@ -20,7 +20,7 @@ sizes_fit m n heads caps prices = few m n && (eqb caps heads && eqb prices heads
 
 -- the links can be listed by node: few enough, each between two of n nodes, and room for the lists and their starts
 abbrev pub listable : List ℕ → ℕ → ℕ → ℕ → Bool
-listable H n starts room = Refusal.sizes_fit n (length H) (length H) (length H) room && (ltb n starts && all (λ v. ltb v n) H)
+listable H n starts room = Refusal.few n (length H) && (leb (length H) room && (ltb n starts && all (λ v. ltb v n) H))
 
 -- the sizes fit, and the links can be listed
 abbrev pub sendable : List Float → List Float → List ℕ → List Float → List Float → ℕ → Bool

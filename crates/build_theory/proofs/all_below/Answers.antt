@@ -1,11 +1,15 @@
-use Rattle.std.proofs.Common.{rules, ltb, ◌∙◌}
-use Rattle.std.proofs.lemmas.Iterator.{YieldsList-from_slice, YieldsList-from_take}
-use Rattle.std.proofs.lemmas.Iterator.Search.{all_from_yields_List}
-use borrow.Author.Tests.{tests}
-use Rattle.numbers.proofs.Loops.{list_all_is}
+-- The entries that count are cut off the column, as many as there are.
+use mathlib.Core.Path.{ap, ◌∙◌}
+use mathlib.Core.List.{List}
+use Prim.Native.Nat.{ℕ}
+use lib.Dec.{ltb}
+use lib.ListN.{take}
+use Rattle.std.proofs.lemmas.List.{take_min}
+use Rattle.numbers.specs.Lists.{all}
 use Rattle.build_theory.proofs.all_below.Goals as goal
 
 pub returns : goal.returns
 returns c =
-    all_from_yields_List (λ x. ltb x c.args.draft.now.states) _ _ _ c.all.ensures.ran (YieldsList-from_take c.args.draft.now.given (YieldsList-from_slice c.args.column.now cc) cc) (λ x b q k. search (rules, tests))
-    ∙ list_all_is _ _
+    let column = c.args.column.now in
+    let low : List ℕ → _ = all (λ x. ltb x c.args.draft.now.states) in
+    c.all_below.ensures ∙ ap (λ (k : ℕ). low (take k column)) c.min.ensures ∙ ap low (take_min c.args.draft.now.given column)

@@ -8,19 +8,28 @@ use Rattle.build_theory.proofs.Plan.{err_is}
 use Rattle.bisim_edges.specs.Lent.{numbers}
 use Rattle.bisim_edges.proofs.Numbers.{numbers_length}
 use Rattle.bisim_build.specs.Build.{ends}
-use Rattle.bisim_build.proofs.Builds.{call_of, plan_refused, within, fillable, plan_passed}
+use Rattle.bisim_build.proofs.Builds.{call_of, Planned, plan_refused, plan_passed}
+use Rattle.bisim_build.proofs.builder.build_in.Goals.{In_ok-edges}
 use Rattle.bisim_build.proofs.builder.build_in.Goals as goal
 
 -- work space for as many numbers as triples
 roomy : {given : ℕ} (T : List Triple) → (given ≤ 4096 → given ≤ length T) → given ≤ 4096 → given ≤ length (numbers T)
 roomy T f h = let r = f h in let l = numbers_length T in omega arith
 
--- the first m of them
-cut : (m : ℕ) (T : List Triple) → numbers (take m T) ≡ take m (numbers T)
-cut m T = sym (take-map (λ (t : Triple). t.0) m T)
+-- the triples that the plan left, the first of which are the edges
+left : (c : In_ok-edges) → c.triples-1.given.0 ≡ c.plan.new.lists.triples.now
+left c = let s = c.plan.ensures.same_lists in search rules
 
-cut_length : (m : ℕ) (T : List Triple) → length (take m T) ≡ length (take m (numbers T))
-cut_length m T = sym (numbers_length (take m T)) ∙ ap length (cut m T)
+cut : (m : ℕ) {T U : List Triple} → T ≡ U → numbers (take m T) ≡ take m (numbers U)
+cut m {T} {U} e = ap (λ (t : List Triple). numbers (take m t)) e ∙ sym (take-map (λ (t : Triple). t.0) m U)
+
+-- what is written from them
+planned : (c : In_ok-edges)
+    → Planned (call_of c.args.draft.now c.args.store.now (numbers c.args.triples.now)) c.plan.new.lists.label_values.now (numbers c.plan.new.lists.triples.now) c.plan.new.lists.edge_weights.now c.in_ok-edges.edges c.in_ok-edges.labels
+planned c = plan_passed (call_of c.args.draft.now c.args.store.now (numbers c.args.triples.now)) (roomy c.args.triples.now c.requires) c.short-short.ensures _ _ c.in_ok-edges.ensures.plan
+
+within : (c : In_ok-edges) → c.in_ok-edges.edges ≤ length c.triples-1.given.0
+within c = let p = (planned c).within in let k = ap length (left c) in omega (arith, numbers_length c.plan.new.lists.triples.now)
 
 pub returns-in_err-edges-clause-outcome : goal.returns-in_err-edges-clause-outcome
 returns-in_err-edges-clause-outcome c =
@@ -33,33 +42,17 @@ returns-in_err-edges-clause-outcome c =
     search rules
 
 pub slice_bounds-fill-end : goal.slice_bounds-fill-end
-slice_bounds-fill-end c =
-    let w = within (call_of c.args.draft.now c.args.store.now (numbers c.args.triples.now)) (roomy c.args.triples.now c.requires) c.short-short.ensures _ _ c.in_ok-edges.ensures.plan in
-    let l = numbers_length c.plan.new.lists.triples.now in
-    let same : c.triples-1.given.0 ≡ c.plan.new.lists.triples.now = (let s = c.plan.ensures.same_lists in search rules) in
-    let k = ap length same in
-    omega arith
+slice_bounds-fill-end c = within (goal.at.slice_bounds-fill-end c).In_ok-edges
 
 pub slice_bounds-fill-end-2 : goal.slice_bounds-fill-end-2
-slice_bounds-fill-end-2 c =
-    let w = within (call_of c.args.draft.now c.args.store.now (numbers c.args.triples.now)) (roomy c.args.triples.now c.requires) c.short-short.ensures _ _ c.in_ok-edges.ensures.plan in
-    let l = numbers_length c.plan.new.lists.triples.now in
-    let same : c.triples-1.given.0 ≡ c.plan.new.lists.triples.now = (let s = c.plan.ensures.same_lists in search rules) in
-    let k = ap length same in
-    sym (length-take-le c.in_ok-edges.edges c.triples-1.given.0 (omega arith))
+slice_bounds-fill-end-2 c = sym (length-take-le c.in_ok-edges.edges c.triples-1.given.0 (within (goal.at.slice_bounds-fill-end-2 c).In_ok-edges))
 
 pub fill-requires : goal.fill-requires
-fill-requires c =
-    let m = c.in_ok-edges.edges in
-    let T = c.plan.new.lists.triples.now in
-    let same : c.triples-1.given.0 ≡ T = (let s = c.plan.ensures.same_lists in search rules) in
-    fillable (call_of c.args.draft.now c.args.store.now (numbers c.args.triples.now)) (roomy c.args.triples.now c.requires) c.short-short.ensures _ _ c.in_ok-edges.ensures.plan (ap (λ (t : List Triple). numbers (take m t)) same ∙ cut m T) (ap (λ (t : List Triple). length (take m t)) same ∙ cut_length m T) refl refl refl
+fill-requires c = let at = (goal.at.fill-requires c).In_ok-edges in (planned at).fillable (cut c.in_ok-edges.edges (left at)) (sym (numbers_length (take c.in_ok-edges.edges c.triples-1.given.0)))
 
 pub returns-clause-outcome : goal.returns-clause-outcome
 returns-clause-outcome c =
-    let m = c.in_ok-edges.edges in
-    let T = c.plan.new.lists.triples.now in
-    let same : c.triples-1.given.0 ≡ T = (let s = c.plan.ensures.same_lists in search rules) in
+    let at = (goal.at.returns-clause-outcome c).In_ok-edges in
     let labels : c.store-2-1.given.0 ≡ c.plan.new.lists.label_values.now = (let s = c.plan.ensures.same_lists in search rules) in
     let weights : c.store-1.given.0 ≡ c.plan.new.lists.edge_weights.now = (let s = c.plan.ensures.same_lists in search rules) in
-    plan_passed (call_of c.args.draft.now c.args.store.now (numbers c.args.triples.now)) (roomy c.args.triples.now c.requires) c.short-short.ensures _ _ c.in_ok-edges.ensures.plan (ap (λ (t : List Triple). numbers (take m t)) same ∙ cut m T) (ap (λ (t : List Triple). length (take m t)) same ∙ cut_length m T) refl refl refl c.fill.ensures.edges c.fill.ensures.offsets (c.fill.ensures.labels ∙ labels) (c.fill.ensures.weights ∙ weights)
+    (planned at).built (cut c.in_ok-edges.edges (left at)) c.fill.ensures.edges c.fill.ensures.offsets (c.fill.ensures.labels ∙ labels) (c.fill.ensures.weights ∙ weights)

@@ -1,10 +1,10 @@
-use Rattle.std.proofs.Common.{◌≡◌, refl, sym, ap, ◌∙◌, ℕ, ◌≤◌, ◌/◌, ◌%◌, List, length, arith}
+use Rattle.std.proofs.Common.{◌≡◌, refl, sym, ap, ◌∙◌, ℕ, ◌/◌, ◌%◌, List, length}
 use Rattle.bisim_edges.proofs.Crowds.{source_at, target_at, crowding, Ready, ready_same, ready_new, leads_read, crowd_self, crowd_more, crowd_found, crowd_none}
 use Rattle.bisim_edges.proofs.crowd.crowded.Goals.{then-s-state, else-s-state, else-leads-via-then-leads+else-not-add, else-leads-via-else-leads}
 use Rattle.bisim_edges.proofs.crowd.crowded.Goals as goal
 
 pub loop-number-init : goal.loop-number-init
-loop-number-init c = crowding _ _ _ _ refl
+loop-number-init c = crowding _ _ _ refl
 
 pub returns-then-not-add : goal.returns-then-not-add
 returns-then-not-add c =
@@ -22,8 +22,7 @@ returns-then-not-add c =
       | then-s-state w ↦ ready_new I R h (λ y. w.if-s-state.true (s-is ∙ y)) _ (ap (λ x. x.count) w.seen-is)
       | else-s-state w ↦ ready_same I R h (sym s-is ∙ w.if-s-state.false) _ (ap (λ x. x.count) w.seen-is)
     ] in
-    crowd_found I R h _ ready (leads_read I R h _ _ _ c.at.ensures (c.from.ensures ∙ t-is) s-is c.leads.ensures c.if-leads.true) _ _ same t-is _ _ (c.add.ensures.full c.if-not-add.true)
-    (let b = ap (λ (l : List ℕ). length l) same in let d = I.size in omega arith)
+    crowd_found I R h _ ready (leads_read I R h _ _ _ c.at.ensures (c.from.ensures ∙ t-is) s-is c.leads.ensures c.if-leads.true) _ _ same t-is (c.add.ensures.full c.if-not-add.true)
 
 pub loop-number-preserved : goal.loop-number-preserved
 loop-number-preserved c =
@@ -43,9 +42,8 @@ loop-number-preserved c =
     ] in
     elim c.else-leads.branch [
       | else-leads-via-then-leads+else-not-add w ↦
-          let few : w.add.new.self.count ≤ 31 = (let a = w.add.ensures.room.1 in let b = ap (λ (l : List ℕ). length l) same in let d = I.size in omega arith) in
           crowd_more I R h _ ready (leads_read I R h _ _ _ c.at.ensures (c.from.ensures ∙ t-is) s-is c.leads.ensures w.if-leads.true) _ _ same t-is _ _ (w.add.ensures.added w.if-not-add.false)
-          (w.add.ensures.room.0 ∙ ap (λ (l : List ℕ). length l) same) few _ _ _ (ap (λ x. x.targets) w.seen-is) (ap (λ x. x.count) w.seen-is) s-is
+          (w.add.ensures.room ∙ ap (λ (l : List ℕ). length l) same) _ _ _ (ap (λ x. x.targets) w.seen-is) (ap (λ x. x.count) w.seen-is) s-is
       | else-leads-via-else-leads w ↦ crowd_self I R h _ ready (leads_read I R h _ _ _ c.at.ensures (c.from.ensures ∙ t-is) s-is c.leads.ensures w.if-leads.false) _ _ _ (ap (λ x. x.targets) w.seen-is ∙ same) (ap (λ x. x.count) w.seen-is) s-is
     ]
 

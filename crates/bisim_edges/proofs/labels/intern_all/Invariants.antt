@@ -6,4 +6,4 @@ use Rattle.bisim_edges.proofs.Interns.{Interning}
 use Rattle.bisim_edges.proofs.labels.intern_all.Given as goal
 
 abbrev pub invariant-loop-i : goal.invariant-loop-i
-invariant-loop-i l = Interning l.values (length l.values) l.initial.store l.initial.ids l.store l.ids l.i l.count × (length l.guesses ≡ 1024)
+invariant-loop-i l = Interning l.values l.initial.store l.initial.ids l.store l.ids l.i l.count × (length l.guesses ≡ 1024)

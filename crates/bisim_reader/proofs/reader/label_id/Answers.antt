@@ -1,5 +1,5 @@
 -- A model that passes has as many label values as it counts; a value is listed if it has a place among them.
-use Rattle.std.proofs.Common.{rules, sym, ap, ◌∙◌, Ok, take, arith}
+use Rattle.std.proofs.Common.{rules, sym, ap, ◌∙◌, Ok, take}
 use borrow.Author.Tests.{tests}
 use lib.Seq.{length-take-le}
 use Rattle.numbers.proofs.Refuses.{answered_ok}

@@ -5,6 +5,7 @@ use Rattle.numbers.specs.declared.refusal.Refusal.{Refusal}
 use Rattle.numbers.specs.Refuse.{numbered}
 use Rattle.bisim_core.specs.declared.wlts.Shape.{Shape}
 use Rattle.build_theory.specs.Lent.{columns_in}
+use Rattle.card_report.specs.Report.{refusal_line}
 use Rattle.card_models.proofs.Handing.{FewBoth}
 use Rattle.card_relation.proofs.Relates.{retold, at_parts, with_room, relation_free}
 use Rattle.card_models.proofs.Builds.{lists_refused, lists_related}
@@ -16,7 +17,7 @@ returns-in-Err c =
     let p = c.requires in
     let a = c.args in
     retold (lists_refused (columns_in a.left.now) (columns_in a.right.now) a.heads a.classes.now (numbered a.models) _ (ap numbered c.in-Err.is))
-    (with_room _ a.out.now _ _ p.2 c.refusal_text.ensures)
+    (with_room _ a.out.now _ _ p.2 (retold (ap refusal_line c.number.ensures) c.refusal_text.ensures))
 
 pub returns-in-Ok : goal.returns-in-Ok
 returns-in-Ok c =

@@ -1,4 +1,6 @@
 -- `print::report` meets its contract: by what the reader answered (Prints).
+use mathlib.Core.Path.{ap, ◌∙◌}
+use Rattle.card_report.specs.Report.{refusal_line}
 use Rattle.card_report.proofs.Texts.{line_short}
 use Rattle.card_relation.proofs.Relates.{retold, of_room}
 use Rattle.card.proofs.Prints.{was_refused, was_room, was_printed}
@@ -11,7 +13,7 @@ pub print_card-requires : goal.print_card-requires
 print_card-requires c = (was_room _ c.read_card.ensures.answered c.in-Ok.is, c.if-out-lt-MOST_REPORT.false)
 
 pub returns-in-Err : goal.returns-in-Err
-returns-in-Err c = retold (was_refused _ c.read_card.ensures.answered c.in-Err.is) c.refusal_text.ensures
+returns-in-Err c = retold (ap refusal_line c.number.ensures ∙ was_refused _ c.read_card.ensures.answered c.in-Err.is) c.refusal_text.ensures
 
 pub returns-in-Ok : goal.returns-in-Ok
 returns-in-Ok c =

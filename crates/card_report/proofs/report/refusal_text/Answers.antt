@@ -1,6 +1,5 @@
 -- `report::refusal_text` meets its contract.
 use native.Mathlib.Omega.{arith}
-use mathlib.Core.Path.{sym}
 use Rattle.card_report.proofs.Texts.{line_short, line_written}
 use Rattle.card_report.proofs.report.refusal_text.Goals as goal
 
@@ -10,4 +9,4 @@ returns-then-out-lt-MOST_REPORT c = line_short _ c.args.out.now c.if-out-lt-MOST
 pub returns : goal.returns
 returns c =
     let b = c.args in
-    rw (sym c.number.ensures) (line_written c.number.result b.out.now _ (omega arith) c.put_line.ensures)
+    line_written b.number b.out.now _ (omega arith) c.put_line.ensures

@@ -18,6 +18,6 @@ returns-else-not-steady c =
       | else-thin w ↦ elim c.if-initial-states.branch [
         | then-initial-states v ↦ both _ (v.value-is ∙ le-leb _ _ v.if-initial-states.true) w.if-thin.false
         | else-initial-states v ↦ skip _ _ _ (ap not (lt-ltb _ _ v.if-initial-states.false)) (skip _ _ _ (sym v.thin.ensures ∙ sym v.value-is ∙ w.if-thin.false)
-            (skip _ _ _ (ap not (sym w.steady.ensures) ∙ sym w.value-is ∙ c.if-not-steady.false) (ap not c.all_low.ensures)))
+            (skip _ _ _ (ap not (sym w.steady.ensures) ∙ sym w.value-is ∙ c.if-not-steady.false) (ap not c.all_below.ensures)))
       ]
     ]

@@ -7,4 +7,4 @@ use Rattle.distance_theory.proofs.RowsLent.{values_rows}
 use Rattle.distance_couplings.proofs.best.lay_values.Given as goal
 
 abbrev pub invariant-loop-k : goal.invariant-loop-k
-invariant-loop-k l = (l.k ≤ length l.initial.costs) × (length l.costs ≡ length l.initial.costs) × (l.costs ≡ over (values_rows l.rows l.values) l.k l.initial.costs)
+invariant-loop-k l = (l.k ≤ length l.initial.costs) × (length l.costs ≡ length l.initial.costs) × (l.costs ≡ over (values_rows l.of.rows l.of.values.now) l.k l.initial.costs)

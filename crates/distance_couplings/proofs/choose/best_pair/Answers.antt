@@ -1,14 +1,18 @@
--- By the reading of both rows.
-use Rattle.std.proofs.Common.{rules}
-use Rattle.distance_theory.proofs.PairRows.{rows_bested, rows_unbested}
+-- What is answered, or no share of value 0.
+use Rattle.std.proofs.Common.{ℕ, List, ◌≡◌, ◌∙◌, ap, ap₂, Option, Some, None}
+use Rattle.std.specs.Prelude.{Float}
+use Rattle.std.specs.Option.{UnwrapsOrElse}
+use Rattle.numbers.specs.Real.{nought}
+use Rattle.distance_theory.specs.declared.lent.Best.{Best}
+use Rattle.distance_theory.proofs.Bests.{bested, bested_as}
 use Rattle.distance_couplings.proofs.choose.best_pair.Goals as goal
 
-pub returns-clause-bested : goal.returns-clause-bested
-returns-clause-bested c = λ h.
-    let e = rows_bested c.args.task.now c.args.k c.in_ok-rows.rows c.in_ok-rows.ensures c.args.values.now c.args.places.now c.args.masses.now _ c.best_coupling.ensures.bested in
-    search (rules, e)
+or_none : (r : Option Best) {b : Best} {p : List ℕ} {m : List Float} → UnwrapsOrElse r (λ (a : Best). (a.value ≡ nought) × (a.cells ≡ 0)) b → bested b.value b.cells p m ≡ bested_as r p m
+or_none (Some c) {b} {p} {m} e = ap (λ (a : Best). bested a.value a.cells p m) e
+or_none None {b} {p} {m} e = let (v, n) = e in ap₂ (λ (x : Float) (k : ℕ). bested x k p m) v n
 
-pub returns-in_err-rows-clause-bested : goal.returns-in_err-rows-clause-bested
-returns-in_err-rows-clause-bested c = λ h.
-    let e = rows_unbested c.args.task.now c.args.k (c.in_err-rows.ensures h) c.args.values.now c.args.places.now c.args.masses.now in
-    search (rules, e)
+pub returns-clause-bested : goal.returns-clause-bested
+returns-clause-bested c = λ h. or_none c.best_if_any.result c.unwrap_or_default.ensures ∙ c.best_if_any.ensures.bested h
+
+pub returns-clause-none : goal.returns-clause-none
+returns-clause-none c = λ h. let (r, p, m) = c.best_if_any.ensures.none h in or_none c.best_if_any.result c.unwrap_or_default.ensures ∙ (λ i. bested_as (r i) (p i) (m i))

@@ -9,11 +9,11 @@ discover_in-requires-clause-explorable c =
     let l = c.args.left.now in
     let r = c.args.right.now in
     let p = c.args.pairs.now in
-    startable l.shape (of_chain l) r.shape (of_chain r) p.lefts.now p.rights.now p.codes.now c.requires l.shape.initial.0 r.shape.initial.0 c.code.result refl refl c.code.ensures
+    startable l.shape (of_chain l) r.shape (of_chain r) p.lefts.now p.rights.now p.codes.now c.requires l.shape.initial.0 r.shape.initial.0 c.new.result.0 refl refl c.new.ensures
 
 pub returns-clause-discovered : goal.returns-clause-discovered
 returns-clause-discovered c =
     let l = c.args.left.now in
     let r = c.args.right.now in
     let p = c.args.pairs.now in
-    (c.discover_in.ensures.explores.0, all_discovered l.shape (of_chain l) r.shape (of_chain r) p.lefts.now p.rights.now p.codes.now c.requires l.shape.initial.0 r.shape.initial.0 c.code.result refl refl c.code.ensures c.discover_in.ensures.explores.2)
+    (c.discover_in.ensures.explores.0, all_discovered l.shape (of_chain l) r.shape (of_chain r) p.lefts.now p.rights.now p.codes.now c.requires l.shape.initial.0 r.shape.initial.0 c.new.result.0 refl refl c.new.ensures c.discover_in.ensures.explores.2)

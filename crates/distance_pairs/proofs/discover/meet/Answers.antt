@@ -20,6 +20,6 @@ returns-clause-met c =
     let R = c.requires in
     let noted = (let a = R.codes_long in let b = c.goes-at.ensures in c.insert.ensures.put (omega arith) (omega arith)) in (
       tt,
-      record { few = (let f = c.if-n-ge4096.false in omega arith); lefts_long = rw length-set R.lefts_long; rights_long = rw length-set R.rights_long; codes_long = (let a = R.codes_long in let e = ap length noted ∙ put_length at (p.count - at) p.codes.now c.code.result in omega arith) },
-      takes_new c.args.x c.args.y p.count p.lefts.now p.rights.now p.codes.now c.requires _ at c.key-pair.ensures.0 c.goes-at.ensures.0 (sym c.known.ensures ∙ c.if-known.false) c.if-n-ge4096.false _ (noted ∙ ap (put at (p.count - at) p.codes.now) c.code.ensures),
+      record { few = (let f = c.if-n-ge4096.false in omega arith); lefts_long = rw length-set R.lefts_long; rights_long = rw length-set R.rights_long; codes_long = (let a = R.codes_long in let e = ap length noted ∙ put_length at (p.count - at) p.codes.now c.new.result.0 in omega arith) },
+      takes_new c.args.x c.args.y p.count p.lefts.now p.rights.now p.codes.now c.requires _ at c.key-pair.ensures.0 c.goes-at.ensures.0 (sym c.known.ensures ∙ c.if-known.false) c.if-n-ge4096.false _ (noted ∙ ap (put at (p.count - at) p.codes.now) c.new.ensures),
     )

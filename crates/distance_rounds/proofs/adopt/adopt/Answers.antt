@@ -1,35 +1,27 @@
 -- By the cases of the tests (Steps).
 use mathlib.Core.Path.{◌≡◌}
 use Rattle.std.proofs.Common.{rules}
-use Rattle.distance_rounds.proofs.Steps.{current_is, no_gain, no_places, no_masses, adopts}
+use Rattle.distance_rounds.proofs.Steps.{no_gain, no_places, no_masses, adopts}
 use Rattle.distance_rounds.proofs.adopt.adopt.Goals as goal
 use Rattle.distance_rounds.proofs.adopt.adopt.Goals.{then-from-n-via-then-from-n, then-from-n-via-else-from-n+then-from-n-2}
 
 pub returns-then-not-value-current-clause-adopted : goal.returns-then-not-value-current-clause-adopted
 returns-then-not-value-current-clause-adopted c =
     let a = c.args in
-    let S = a.store.now in
-    no_gain a.value a.shares.now.places.now a.shares.now.masses.now a.values.now a.k S.starts.now S.lengths.now S.places.now S.masses.now c.expected-current.result
-    (current_is a.values.now S c.read.result a.k c.read.ensures c.shares.result c.shares.ensures c.expected-current.ensures) c.if-not-value-current.true
+    no_gain a.value a.shares.now a.values.now a.k a.starts.now a.store.now c.read.result c.read.ensures c.shares.result c.shares.ensures _ c.expected-current.ensures c.if-not-value-current.true
 
 pub returns-then-from-n-clause-adopted : goal.returns-then-from-n-clause-adopted
 returns-then-from-n-clause-adopted c =
     let a = c.args in
-    let S = a.store.now in
     elim c.then-from-n.branch [
-      | then-from-n-via-then-from-n w ↦
-          no_places a.value a.shares.now.places.now a.shares.now.masses.now a.values.now a.k S.starts.now S.lengths.now S.places.now S.masses.now c.expected-current.result
-          (current_is a.values.now S c.read.result a.k c.read.ensures c.shares.result c.shares.ensures c.expected-current.ensures) c.if-not-value-current.false w.if-from-n.true
+      | then-from-n-via-then-from-n w ↦ no_places a.value a.shares.now a.values.now a.k a.starts.now a.store.now c.read.result c.read.ensures c.shares.result c.shares.ensures _ c.expected-current.ensures c.if-not-value-current.false w.if-from-n.true
       | then-from-n-via-else-from-n+then-from-n-2 w ↦
-          no_masses a.value a.shares.now.places.now a.shares.now.masses.now a.values.now a.k S.starts.now S.lengths.now S.places.now S.masses.now c.expected-current.result
-          (current_is a.values.now S c.read.result a.k c.read.ensures c.shares.result c.shares.ensures c.expected-current.ensures) c.if-not-value-current.false w.if-from-n.false w.if-from-n-2.true
+          no_masses a.value a.shares.now a.values.now a.k a.starts.now a.store.now c.read.result c.read.ensures c.shares.result c.shares.ensures _ c.expected-current.ensures c.if-not-value-current.false w.if-from-n.false w.if-from-n-2.true
     ]
 
 pub returns-clause-adopted : goal.returns-clause-adopted
 returns-clause-adopted c =
     let a = c.args in
-    let S = a.store.now in
     let u : c.copy_from_slice.new.self ≡ a.shares.now.places.now = search rules in
     let w : c.copy_from_slice-2.new.self ≡ a.shares.now.masses.now = search rules in
-    adopts a.value a.shares.now.places.now a.shares.now.masses.now a.values.now a.k S.starts.now S.lengths.now S.places.now S.masses.now c.expected-current.result
-    (current_is a.values.now S c.read.result a.k c.read.ensures c.shares.result c.shares.ensures c.expected-current.ensures) c.if-not-value-current.false c.if-from-n.false c.if-from-n-2.false c.requires.2 _ _ u w
+    adopts a.value a.shares.now a.values.now a.k a.starts.now a.store.now c.read.result c.read.ensures c.shares.result c.shares.ensures _ c.expected-current.ensures c.if-not-value-current.false c.if-from-n.false c.if-from-n-2.false c.requires.2 _ _ u w

@@ -12,9 +12,9 @@ use Rattle.distance_rounds.proofs.improve.counted.Goals as goal
 pub returns : goal.returns
 unfolding all
 returns c =
-    let n = c.args.n in
+    let n = length c.args.values.now in
     let T = c.args.task.now in
     let S = c.args.store.now in
     c.long.ensures
-    ∙ ap (λ (b : Bool). leb n (length T.pairs.lefts.now) && (leb n (length T.pairs.rights.now) && (leb n (length T.cost.now) && (leb n (length S.starts.now) && b)))) (and-true (leb n (length S.lengths.now)))
-    ∙ ap (λ (b : Bool). leb n (length T.pairs.lefts.now) && (leb n (length T.pairs.rights.now) && (b && (leb n (length T.cost.now) && (leb n (length S.starts.now) && leb n (length S.lengths.now)))))) (sym (le-leb n n (omega arith)))
+    ∙ ap (λ (b : Bool). leb n (length T.pairs.lefts.now) && (leb n (length T.pairs.rights.now) && (leb n (length T.cost.now) && (leb n (length c.args.starts.now) && b)))) (and-true (leb n (length S.lengths.now)))
+    ∙ ap (λ (b : Bool). leb n (length T.pairs.lefts.now) && (leb n (length T.pairs.rights.now) && (b && (leb n (length T.cost.now) && (leb n (length c.args.starts.now) && leb n (length S.lengths.now)))))) (sym (le-leb n n (omega arith)))

@@ -10,8 +10,8 @@ returns-clause-solved c =
     let a = c.args in
     let T = a.task.now in
     let s = a.store.now in
-    made (length T.pairs.lefts.now) T.pairs.lefts.now T.pairs.rights.now T.pairs.codes.now (of_chain T.left) (of_chain T.right) T.cost.now T.gamma a.options s.starts.now s.lengths.now s.places.now s.masses.now a.values.now
-    c.in_ok-lay_store.ensures.filled refl c.uneven.ensures c.if-uneven.false c.aim-near.ensures c.requires c.iterate.ensures.kept.1 c.iterate.ensures.iterated
+    made (length T.pairs.lefts.now) T.pairs.lefts.now T.pairs.rights.now T.pairs.codes.now (of_chain T.left) (of_chain T.right) T.cost.now T.gamma a.options a.starts.now s.lengths.now s.places.now s.masses.now a.values.now
+    c.in_ok-lay_store.ensures.filled refl c.uneven.ensures c.if-uneven.false c.aim-near.ensures c.requires c.iterate.ensures.iterated
 
 pub returns-in_err-lay_store-clause-solved : goal.returns-in_err-lay_store-clause-solved
 returns-in_err-lay_store-clause-solved c =
@@ -19,4 +19,4 @@ returns-in_err-lay_store-clause-solved c =
     let T = a.task.now in
     let s = a.store.now in
     stopped c.from_residual.result _ _ _ _ _ _ c.from_residual.ensures.1 c.in_err-lay_store.ensures.refusal
-    (short (length T.pairs.lefts.now) T.pairs.lefts.now T.pairs.rights.now T.pairs.codes.now (of_chain T.left) (of_chain T.right) T.cost.now T.gamma a.options s.starts.now s.lengths.now s.places.now s.masses.now a.values.now c.in_err-lay_store.ensures.filled refl)
+    (short (length T.pairs.lefts.now) T.pairs.lefts.now T.pairs.rights.now T.pairs.codes.now (of_chain T.left) (of_chain T.right) T.cost.now T.gamma a.options a.starts.now s.lengths.now s.places.now s.masses.now a.values.now c.in_err-lay_store.ensures.filled refl)

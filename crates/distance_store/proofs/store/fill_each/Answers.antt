@@ -4,15 +4,15 @@ use Rattle.distance_store.proofs.Filling.{refused, fills_start, fills_end, cells
 use Rattle.distance_store.proofs.store.fill_each.Goals as goal
 
 pub loop-k-init : goal.loop-k-init
-loop-k-init c = ((refl, refl, refl, refl), fills_start _ _ _ _ _ _)
+loop-k-init c = ((refl, refl, refl), fills_start _ _ _ _ _ _)
 
 pub returns-in_err-cells-clause-filled : goal.returns-in_err-cells-clause-filled
 returns-in_err-cells-clause-filled c =
     let r = c.requires.1 in
     refused c.from_residual.result _ c.from_residual.ensures.1 (fills_ended c.args.task.now c.loop-k.invariant.1 c.loop-k-test.true (omega arith) _ _ _ c.lay_pair.ensures.laid c.in_err-cells.ensures.ok_part)
 
-pub overflow_cast-store-in-loop-k : goal.overflow_cast-store-in-loop-k
-overflow_cast-store-in-loop-k c =
+pub overflow_cast-store : goal.overflow_cast-store
+overflow_cast-store c =
     let r = c.requires.1 in
     let e = (cells_here c.args.task.now c.loop-k.invariant.1 c.loop-k-test.true (omega arith) _ _ _ c.lay_pair.ensures.laid c.in_ok-cells.ensures.ok_part).0 in omega arith
 

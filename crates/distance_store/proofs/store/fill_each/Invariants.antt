@@ -7,4 +7,4 @@ use Rattle.distance_store.proofs.store.fill_each.Given as goal
 
 abbrev pub invariant-loop-k : goal.invariant-loop-k
 invariant-loop-k l =
-    SameStore l.initial.store l.store × Fills (laying_in l.task) (length l.task.pairs.lefts.now) l.initial.store.starts.now l.initial.store.lengths.now l.initial.store.places.now l.initial.store.masses.now l.k l.at l.store.starts.now l.store.lengths.now l.store.places.now l.store.masses.now
+    SameStore l.initial.store l.store × Fills (laying_in l.task) (length l.task.pairs.lefts.now) l.initial.starts l.initial.store.lengths.now l.initial.store.places.now l.initial.store.masses.now l.k l.at l.starts l.store.lengths.now l.store.places.now l.store.masses.now

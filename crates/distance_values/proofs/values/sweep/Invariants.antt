@@ -3,4 +3,4 @@ use Rattle.distance_values.proofs.Sweeping.{Sweeping}
 use Rattle.distance_values.proofs.values.sweep.Given as goal
 
 abbrev pub invariant-loop-k : goal.invariant-loop-k
-invariant-loop-k l = Sweeping l.of.store.starts.now l.of.store.lengths.now l.of.store.places.now l.of.store.masses.now l.of.cost.now l.of.gamma l.initial.value l.value l.delta l.k
+invariant-loop-k l = Sweeping l.of.policy.store.starts.now l.of.policy.store.lengths.now l.of.policy.store.places.now l.of.policy.store.masses.now l.of.cost.now l.of.policy.gamma l.initial.value l.value l.delta l.k

@@ -3,4 +3,4 @@ use Rattle.distance_values.proofs.Sweeping.{Repeating}
 use Rattle.distance_values.proofs.values.sweeps_in.Given as goal
 
 abbrev pub invariant-loop : goal.invariant-loop
-invariant-loop l = Repeating l.limit l.of.store.starts.now l.of.store.lengths.now l.of.store.places.now l.of.store.masses.now l.of.cost.now l.of.gamma l.tol l.initial.value l.value l.counter
+invariant-loop l = Repeating l.limit l.of.policy.store.starts.now l.of.policy.store.lengths.now l.of.policy.store.places.now l.of.policy.store.masses.now l.of.cost.now l.of.policy.gamma l.tol l.initial.value l.value l.counter

@@ -6,8 +6,8 @@ use lib.ListN.{length-set}
 use Rattle.epsdelta_jumps.proofs.Makes.{fillable, turn, within}
 use Rattle.epsdelta_jumps.proofs.rows.model_rows.Goals as goal
 
-pub fill-end-requires-clause-room : goal.fill-end-requires-clause-room
-fill-end-requires-clause-room c = fillable c.requires.model.0 c.requires.room c.loop-s.invariant c.loop-s-test.true
+pub fill-end-requires : goal.fill-end-requires
+fill-end-requires c = record { room = fillable c.requires.model.0 c.requires.room c.loop-s.invariant c.loop-s-test.true }
 
 pub overflow_cast-rows : goal.overflow_cast-rows
 overflow_cast-rows c =

@@ -12,7 +12,7 @@ marks-requires c =
     let a = c.args in
     let z = length-take-le (states_of a.rows.now) a.classes.now c.requires.1 in
     let f = c.requires.0.few in
-    (omega arith, sym z, c.requires.2 ∙ ap relation_bytes (sym z))
+    (omega arith, c.requires.2 ∙ ap relation_bytes (sym z))
 
 pub run-requires : goal.run-requires
 run-requires c =

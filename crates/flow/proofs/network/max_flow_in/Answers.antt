@@ -4,7 +4,8 @@ use mathlib.Core.List.{◌++◌}
 use lib.ListN.{take, drop}
 use lib.Seq.{length-take-le}
 use Rattle.numbers.specs.Refuse.{numbered}
-use Rattle.flow_core.specs.Outcome.{ends}
+use Rattle.flow_core.specs.Outcome.{ends, flow_on}
+use Rattle.flow.specs.Network.{Seen}
 use Rattle.flow.proofs.Running.{put_none, put_on, put_cut, entered_front, entered_wide, lent_front, lent_rest, lent_wide, run_done}
 use Rattle.flow.proofs.network.max_flow_in.Goals as goal
 
@@ -34,6 +35,9 @@ returns c =
     let wide = lent_wide N.count c.unpack.new.caps z there k in
     let cut = length-take-le N.count (z ++ drop N.count c.unpack.new.caps) wide in
     run_done N c.args.ends.source c.args.ends.sink c.args.heads.now c.args.caps.now c.args.costs.now c.requires.0 whole (numbered c.max_flow_rows-answer.result) (z ++ drop N.count c.unpack.new.caps)
-    E (put_cut N _ c.loop-j.invariant) (let t = c.loop-j-test.false in omega arith)
-    (ap (ends (numbered c.max_flow_rows-answer.result)) (lent_front N.count c.unpack.new.caps z there k) ∙ c.max_flow_rows-answer.ensures.caps_after, lent_rest N.count c.unpack.new.caps z there k)
+    E (put_cut N _ c.loop-j.invariant) (let t = c.loop-j-test.false in omega arith) (
+      ap (ends (numbered c.max_flow_rows-answer.result)) (lent_front N.count c.unpack.new.caps z there k) ∙ c.max_flow_rows-answer.ensures.caps_after
+          ∙ ap (λ (s : Seen). flow_on s.heads (take N.count c.unpack.new.caps) s.costs s.starts s.list s.nodes c.args.ends.source c.args.ends.sink) c.in_rows-lent.ensures,
+      lent_rest N.count c.unpack.new.caps z there k,
+    )
     wide

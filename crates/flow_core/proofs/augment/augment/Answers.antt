@@ -10,4 +10,4 @@ pub returns-in_default : goal.returns-in_default
 returns-in_default c = blocked_push c.requires c.in_default.ensures
 
 pub returns : goal.returns
-returns c = reached_push c.requires c.in-Some.path.links c.in-Some.ensures _ _ (c.least-x.ensures ∙ ap (λ (x : Float). least c.args.caps.now x (take c.in-Some.path.len c.in-Some.path.links)) c.infinity.ensures) c.push_path.ensures
+returns c = reached_push c.requires c.walk.new.path c.in-Some.ensures _ _ (c.least-x.ensures ∙ ap (λ (x : Float). least c.args.caps.now x (take c.in-Some.len c.walk.new.path)) c.infinity.ensures) c.push_path.ensures

@@ -5,7 +5,7 @@ use Rattle.flow_theory.proofs.Walking.{Walking, standing}
 use Rattle.flow_core.proofs.augment.walk.Given as goal
 
 abbrev pub invariant-loop-u : goal.invariant-loop-u
-invariant-loop-u l = Walking (net_on l.phase.course) l.caps l.phase.level.now l.initial.next l.initial.path.links l.u l.path.len l.path.links l.next
+invariant-loop-u l = Walking (net_on l.phase.course) l.caps l.phase.level.now l.initial.next l.initial.path l.u l.len l.path l.next
 
 abbrev pub decreases-loop-u : goal.decreases-loop-u
-decreases-loop-u l = gauge (net_on l.phase.course) l.phase.level.now (standing l.u l.path.len l.path.links l.next)
+decreases-loop-u l = gauge (net_on l.phase.course) l.phase.level.now (standing l.u l.len l.path l.next)

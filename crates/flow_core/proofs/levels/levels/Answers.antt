@@ -1,18 +1,15 @@
-use native.Mathlib.Omega.{arith}
 use Rattle.flow_core.proofs.Leaving.{node_scannable, node_scanned}
-use Rattle.flow_theory.proofs.Searching.{starts_outer, node_low, scannable, outer_again, outer_ends}
+use Rattle.flow_theory.proofs.Searching.{starts_outer, outer_ends}
 use Rattle.flow_core.proofs.levels.levels.Goals as goal
 
-pub loop-queue-init : goal.loop-queue-init
-loop-queue-init c = starts_outer c.requires
+pub loop-first-init : goal.loop-first-init
+loop-first-init c = starts_outer c.requires
 
 pub scan-requires : goal.scan-requires
-scan-requires c = node_scannable c.args.course.now.net (omega (arith, node_low c.requires c.loop-queue.invariant c.loop-queue-test.true)) (scannable c.requires c.loop-queue.invariant c.loop-queue-test.true) c.leaving.ensures
+scan-requires c = node_scannable c.args.course.now.net c.requires c.loop-first.invariant c.loop-first-test.true
 
-pub loop-queue-preserved : goal.loop-queue-preserved
-loop-queue-preserved c =
-    let S = scannable c.requires c.loop-queue.invariant c.loop-queue-test.true in
-    rw c.scan.ensures.first_kept (outer_again c.requires c.loop-queue.invariant c.loop-queue-test.true (node_scanned c.args.course.now.net (omega (arith, node_low c.requires c.loop-queue.invariant c.loop-queue-test.true)) S c.leaving.ensures c.scan.ensures.scanned))
+pub loop-first-preserved : goal.loop-first-preserved
+loop-first-preserved c = node_scanned c.args.course.now.net c.requires c.loop-first.invariant c.loop-first-test.true c.scan.ensures
 
 pub returns : goal.returns
-returns c = outer_ends c.requires c.loop-queue.invariant c.loop-queue-test.false
+returns c = outer_ends c.requires c.loop-first.invariant c.loop-first-test.false

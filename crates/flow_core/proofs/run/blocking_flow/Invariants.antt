@@ -5,8 +5,8 @@ use Rattle.flow_check.specs.Lent.{net_on}
 use Rattle.flow_theory.proofs.Blocking.{PhaseGoing}
 use Rattle.flow_core.proofs.run.blocking_flow.Given as goal
 
-abbrev pub invariant-loop-before : goal.invariant-loop-before
-invariant-loop-before l = PhaseGoing (net_on l.phase.course) l.initial.caps l.phase.level.now l.before l.caps l.next l.flow l.count
+abbrev pub invariant-loop-path : goal.invariant-loop-path
+invariant-loop-path l = PhaseGoing (net_on l.phase.course) l.initial.caps l.phase.level.now l.before l.caps l.next l.flow l.count
 
-abbrev pub decreases-loop-before : goal.decreases-loop-before
-decreases-loop-before l = length l.phase.course.net.heads.now - l.count
+abbrev pub decreases-loop-path : goal.decreases-loop-path
+decreases-loop-path l = length l.phase.course.net.heads.now - l.count

@@ -1,12 +1,11 @@
 -- `whole::transport_in` meets its contract: the links are written, and all below is over them (Carries.carried).
-use mathlib.Core.Path.{sym, ap, subst⁻¹, ◌∙◌}
+use mathlib.Core.Path.{ap, subst⁻¹, ◌∙◌}
 use Prim.Native.Nat.{ℕ}
 use lib.ListN.{take}
 use Rattle.std.specs.Prelude.{Option}
 use Rattle.std.specs.Option.{unwrap_or}
 use Rattle.transport_theory.proofs.TransportRows.{Carried}
 use Rattle.transport.proofs.Carries.{carried, laid_places, laid_room}
-use lib.Seq.{length-take-le}
 use Rattle.transport.proofs.whole.transport_in.Goals as goal
 
 pub plan_links-requires : goal.plan_links-requires
@@ -18,14 +17,15 @@ plan_links-requires c =
     (c.unwrap_or-places.ensures ∙ ap (λ (o : Option ℕ). unwrap_or o 0) (laid_places c.requires _ _ _ _ c.write_links.ensures.written))
     (carried c.requires _ _ _ _ c.write_links.ensures.written)
 
+-- each of them is there, of the prices and of the capacities
 pub slice_bounds-links-end-3 : goal.slice_bounds-links-end-3
-slice_bounds-links-end-3 c = (laid_room c.requires _ _ _ _ c.write_links.ensures.written c.unwrap_or-places.ensures).1
+slice_bounds-links-end-3 c = (laid_room c.requires _ _ _ _ c.write_links.ensures.written c.unwrap_or-places.ensures).1.0
 
 pub slice_bounds-links-end-4 : goal.slice_bounds-links-end-4
-slice_bounds-links-end-4 c = sym (length-take-le _ _ (laid_room c.requires _ _ _ _ c.write_links.ensures.written c.unwrap_or-places.ensures).1)
+slice_bounds-links-end-4 c = (laid_room c.requires _ _ _ _ c.write_links.ensures.written c.unwrap_or-places.ensures).1.1
 
 pub slice_bounds-plan_links-end : goal.slice_bounds-plan_links-end
-slice_bounds-plan_links-end c = (laid_room c.requires _ _ _ _ c.write_links.ensures.written c.unwrap_or-places.ensures).0
+slice_bounds-plan_links-end c = (laid_room c.requires _ _ _ _ c.write_links.ensures.written c.unwrap_or-places.ensures).0.0
 
 pub slice_bounds-plan_links-end-2 : goal.slice_bounds-plan_links-end-2
-slice_bounds-plan_links-end-2 c = sym (length-take-le _ _ (laid_room c.requires _ _ _ _ c.write_links.ensures.written c.unwrap_or-places.ensures).0)
+slice_bounds-plan_links-end-2 c = (laid_room c.requires _ _ _ _ c.write_links.ensures.written c.unwrap_or-places.ensures).0.1

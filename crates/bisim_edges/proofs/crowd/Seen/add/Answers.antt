@@ -7,7 +7,7 @@ pub returns-then-is_some-clause-added : goal.returns-then-is_some-clause-added
 returns-then-is_some-clause-added c _ = note_old _ _ _ c.requires c.seek.ensures (sym c.is_some.ensures ∙ c.if-is_some.true)
 
 pub returns-then-self-eq31-clause-full : goal.returns-then-self-eq31-clause-full
-returns-then-self-eq31-clause-full c _ = note_full _ _ _ c.requires c.seek.ensures (sym c.is_some.ensures ∙ c.if-is_some.false) (omega arith) _
+returns-then-self-eq31-clause-full c _ = note_full _ _ _ c.requires c.seek.ensures (sym c.is_some.ensures ∙ c.if-is_some.false) (omega arith)
 
 pub returns-clause-added : goal.returns-clause-added
 returns-clause-added c _ = note_new _ _ _ c.requires c.seek.ensures (sym c.is_some.ensures ∙ c.if-is_some.false) (omega arith) _ refl

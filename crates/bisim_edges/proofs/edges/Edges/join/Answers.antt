@@ -10,7 +10,7 @@ use Rattle.bisim_edges.proofs.edges.Edges.join.Goals as goal
 
 pub loop-number-init : goal.loop-number-init
 loop-number-init c =
-    ((refl, refl), joining (c.args.first.0 ∷ c.args.rest.now) (length c.args.rest.now + 1) c.args.weights.now _ _ c.requires.keys.0 (λ e. omega arith) _ _ _ c.triple-run.ensures c.at.ensures c.requires.few)
+    ((refl, refl), joining c.args.first.0 c.args.rest.now c.args.weights.now _ _ _ _ _ c.triple-run.ensures c.at.ensures c.requires.few)
 
 pub bounds-weights-at-in-loop-number : goal.bounds-weights-at-in-loop-number
 bounds-weights-at-in-loop-number c =
@@ -27,7 +27,7 @@ add-requires c =
     let h = c.loop-number-test.true in
     let l = numbers_length c.args.self.now.triples.now in
     let m = numbers_length c.loop-number.self.triples.now in
-    let x = room (c.args.first.0 ∷ c.args.rest.now) (length c.args.rest.now + 1) c.args.weights.now _ _ c.requires.keys.0 (omega arith) (omega arith) c.loop-number.invariant.1 in
+    let x = room (c.args.first.0 ∷ c.args.rest.now) c.args.weights.now _ _ (omega arith) (omega arith) c.loop-number.invariant.1 in
     (omega (arith, m, x.0), x.1)
 
 pub add-requires-2 : goal.add-requires-2
@@ -35,7 +35,7 @@ add-requires-2 c =
     let r = c.requires.room in
     let l = numbers_length c.args.self.now.triples.now in
     let m = numbers_length c.loop-number.self.triples.now in
-    let x = room (c.args.first.0 ∷ c.args.rest.now) (length c.args.rest.now + 1) c.args.weights.now _ _ c.requires.keys.0 (omega arith) (omega arith) c.loop-number.invariant.1 in
+    let x = room (c.args.first.0 ∷ c.args.rest.now) c.args.weights.now _ _ (omega arith) (omega arith) c.loop-number.invariant.1 in
     (omega (arith, m, x.0), x.1)
 
 pub loop-number-preserved : goal.loop-number-preserved
@@ -44,7 +44,7 @@ loop-number-preserved c =
     let W = c.args.weights.now in
     let i = c.loop-number.number-index + 1 in
     let k = behind c.args.first.0 c.args.rest.now c.loop-number.number-index in
-    let h : i < length c.args.rest.now + 1 = (let g = c.loop-number-test.true in omega arith) in
+    let h : i < length K = (let g = c.loop-number-test.true in omega arith) in
     let at-is : c.at-in-loop-number.result ≡ get_or K i 0 % 4096 = c.at-in-loop-number.ensures ∙ ap (λ (x : ℕ). x % 4096) k in
     let triple-is : c.triple.result.0 ≡ get_or K i 0 / 4096 = c.triple.ensures ∙ ap (λ (x : ℕ). x / 4096) k in
     let t : length K ≤ length (numbers c.args.self.now.triples.now) = (let r = c.requires.room in let l = numbers_length c.args.self.now.triples.now in omega arith) in
@@ -53,12 +53,12 @@ loop-number-preserved c =
     elim c.if-eq.branch [
       | then-eq w ↦ (
         (ap (λ x. x.triples.ghost_name) w.self-is ∙ I.0.0, ap (λ x. x.sums.ghost_name) w.self-is ∙ I.0.1),
-        goes_on K _ W _ _ c.requires.keys.0 (omega arith) (omega arith) I.1 h (sym triple-is ∙ eqb-true _ _ (sym c.eq.ensures ∙ w.if-eq.true)) _ _ _ _ _ (ap (λ x. numbers x.triples.now) w.self-is) (ap (λ x. x.sums.now) w.self-is)
+        goes_on K W _ _ (omega arith) (omega arith) I.1 h (sym triple-is ∙ eqb-true _ _ (sym c.eq.ensures ∙ w.if-eq.true)) _ _ _ _ _ (ap (λ x. numbers x.triples.now) w.self-is) (ap (λ x. x.sums.now) w.self-is)
             (ap (λ x. x.0) w.run-is) (w.sum-is ∙ ap (λ (a : ℕ). add binary64 c.loop-number.sum (get_or W a nan)) at-is) (ap (λ x. x.len) w.self-is),
       )
       | else-eq w ↦ (
         (ap (λ x. x.triples.ghost_name) w.self-is ∙ w.add.ensures.lists.0 ∙ I.0.0, ap (λ x. x.sums.ghost_name) w.self-is ∙ w.add.ensures.lists.1 ∙ I.0.1),
-        begins K _ W _ _ c.requires.keys.0 (omega arith) (omega arith) I.1 h (λ e. eqb-false _ _ (sym c.eq.ensures ∙ w.if-eq.false) (triple-is ∙ e)) _ _ _ w.add.ensures.added _ _ _ _ _ (ap (λ x. numbers x.triples.now) w.self-is) (ap (λ x. x.sums.now) w.self-is)
+        begins K W _ _ (omega arith) (omega arith) I.1 h (λ e. eqb-false _ _ (sym c.eq.ensures ∙ w.if-eq.false) (triple-is ∙ e)) _ _ _ w.add.ensures.added _ _ _ _ _ (ap (λ x. numbers x.triples.now) w.self-is) (ap (λ x. x.sums.now) w.self-is)
             (ap (λ x. x.0) w.run-is ∙ w.triple-run-else-eq.ensures ∙ ap (λ (x : ℕ). x / 4096) k) (w.sum-is ∙ ap (λ (a : ℕ). get_or W a nan) at-is) (ap (λ x. x.len) w.self-is),
       )
     ]
@@ -71,4 +71,4 @@ returns-clause-joined c =
     let r = c.requires.room in
     let h = c.loop-number-test.false in
     let l = numbers_length c.args.self.now.triples.now in
-    all_joined (c.args.first.0 ∷ c.args.rest.now) (length c.args.rest.now + 1) c.args.weights.now _ _ c.requires.keys.0 (omega arith) (omega arith) c.loop-number.invariant.1 (omega arith) _ _ _ c.add-2.ensures.added
+    all_joined (c.args.first.0 ∷ c.args.rest.now) c.args.weights.now _ _ (omega arith) (omega arith) c.loop-number.invariant.1 (omega arith) _ _ _ c.add-2.ensures.added

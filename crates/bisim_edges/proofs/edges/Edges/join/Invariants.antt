@@ -3,7 +3,6 @@
 use mathlib.Core.Path.{◌≡◌}
 use Prim.Native.Nat.{◌+◌}
 use mathlib.Core.List.{◌∷◌}
-use lib.ListN.{length}
 use Rattle.bisim_edges.specs.Lent.{numbers}
 use Rattle.bisim_edges.proofs.Joins.{Joining}
 use Rattle.bisim_edges.proofs.edges.Edges.join.Given as goal
@@ -12,4 +11,4 @@ abbrev pub invariant-loop-number : goal.invariant-loop-number
 invariant-loop-number l =
     let V = l.initial.self in
     ((l.self.triples.ghost_name ≡ V.triples.ghost_name) × (l.self.sums.ghost_name ≡ V.sums.ghost_name))
-    × Joining (l.fn.first.0 ∷ l.rest) (length l.rest + 1) l.weights (numbers V.triples.now) V.sums.now (numbers l.self.triples.now) l.self.sums.now l.run.0 l.sum l.self.len (l.number-index + 1)
+    × Joining (l.fn.first.0 ∷ l.rest) l.weights (numbers V.triples.now) V.sums.now (numbers l.self.triples.now) l.self.sums.now l.run.0 l.sum l.self.len (l.number-index + 1)

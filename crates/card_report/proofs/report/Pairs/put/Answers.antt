@@ -1,4 +1,3 @@
-use Prim.Native.Nat.{◌+◌}
 use native.Mathlib.Omega.{arith}
 use Rattle.card_layout.specs.Layout.{lines}
 use Rattle.card_layout.proofs.Writes.{put_from}

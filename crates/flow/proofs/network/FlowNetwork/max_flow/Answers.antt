@@ -13,5 +13,8 @@ returns-then-count-le128 c = (c.max_flow_with.ensures, every_run _ _ _ _ _ _ _ _
 pub returns-then-count-gt2176 : goal.returns-then-count-gt2176
 returns-then-count-gt2176 c = (rw (lt-leb _ _ c.if-count-gt2176.true), every_run _ _ _ _ _ _ _ _)
 
+pub returns-then-count-le512 : goal.returns-then-count-le512
+returns-then-count-le512 c = (c.max_flow_with-then-count-le512.ensures, every_run _ _ _ _ _ _ _ _)
+
 pub returns : goal.returns
 returns c = (c.max_flow_with-2.ensures, every_run _ _ _ _ _ _ _ _)

@@ -3,4 +3,4 @@ use Rattle.flow_direct.specs.Lent.{Settling}
 use Rattle.flow_direct.proofs.search.Search.settle.Given as goal
 
 abbrev pub invariant-loop : goal.invariant-loop
-invariant-loop l = Settling l.need l.initial.self l.before l.self l.s l.total
+invariant-loop l = Settling l.need l.initial.self l.before l.self l.so_far

@@ -7,4 +7,4 @@ pub returns-in-Some : goal.returns-in-Some
 returns-in-Some c = (c.one_step-step.ensures.0, c.after_step.ensures _ _ _ _ _ _ _ _ _ _ _ _ _ _ _ c.in-Some.ensures.1 c.one_step-step.ensures.1)
 
 pub returns-in-None : goal.returns-in-None
-returns-in-None c = (refl, λ A₀ B₀ F₀ l₀ r₀ t₀ I. settling_rises I c.if-s-lt-HIGHEST.true c.in-None.ensures refl)
+returns-in-None c = (refl, λ A₀ B₀ F₀ l₀ r₀ t₀ I. settling_rises I c.if-so_far-lt-HIGHEST.true c.in-None.ensures refl)
