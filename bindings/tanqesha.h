@@ -241,7 +241,7 @@ uint32_t tanqesha_new_network(size_t nodes, struct tanqesha_network *net);
 uint32_t tanqesha_add_edge(struct tanqesha_network *net, size_t from, size_t to, double capacity, double cost);
 
 /* The maximum flow from source to sink, the number of phases and of pushes. Only the capacities of net's links change: each is
- * what the run leaves, and of a reverse what went through its link.
+ * what the run leaves.
  * Refusals: 15. */
 uint32_t tanqesha_max_flow(struct tanqesha_network *net, size_t source, size_t sink,
                            double *flow, size_t *phases, size_t *pushes);
@@ -351,7 +351,8 @@ uint32_t tanqesha_common_rate(size_t left_states, size_t left_edges, size_t left
 
 /* The chain of a model at a rate: each weight divided by it, targets joined and rising, and what is left to stay if it is above
  * 1e-15. Behind the pointer: how many entries. Its states and initial state are the model's. A rate below an exit rate is not
- * refused here; the rows then add up to more than 1, and what takes the chain refuses it.
+ * refused here; the rows then add up to more than 1, and where a sum is over 1e-9 more, what takes the chain
+ * refuses it.
  * Needs an observation for each state; room for states + 1 offsets, edges + states targets and probabilities, and states
  * observations.
  * Refusals: 3, 4, 5, 6; 7; 8; 11; 12. */

@@ -697,10 +697,10 @@ impl Input for NormaliseArgs {
     }
 }
 
-/// How many bytes of a relation its lines list: all, or of over 600 those up to the last that is not zero.
+/// How many bytes of a relation its lines list: all, or of over 512 those up to the last that is not zero.
 pub fn listed(relation: &[u8]) -> usize {
     match relation.len() {
-        ..=600 => relation.len(),
+        ..=512 => relation.len(),
         _ => relation.iter().rposition(|&b| b != 0).map_or(0, |i| i + 1),
     }
 }

@@ -1,5 +1,5 @@
-//! The report program itself, as it was built (target/bin/report), on cards in examples/, the longest card, longer
-//! inputs and random cards. Where it is not built, nothing is run.
+//! The report program itself, as `./report` builds it, on cards in examples/, the longest card, longer inputs and
+//! random cards. Where it is not built, the test fails.
 
 use oracle::card::{LONGEST_CARD, LONGEST_REPORT, report};
 use oracle::generate::Rng;
@@ -13,9 +13,13 @@ fn root() -> PathBuf {
     PathBuf::from(env!("CARGO_MANIFEST_DIR")).join("..")
 }
 
+fn program() -> PathBuf {
+    root().join("crates/report/out/report")
+}
+
 /// What the program writes for these bytes.
 fn run(bytes: &[u8]) -> Vec<u8> {
-    let mut child = Command::new(root().join("target/bin/report"))
+    let mut child = Command::new(program())
         .stdin(Stdio::piped())
         .stdout(Stdio::piped())
         .spawn()
@@ -38,10 +42,10 @@ fn holds(bytes: &[u8]) {
 
 #[test]
 fn the_program_prints_what_the_oracle_does() {
-    if !root().join("target/bin/report").exists() {
-        eprintln!("the program is not built: not run");
-        return;
-    }
+    assert!(
+        program().exists(),
+        "not built: ./report < examples/worked.card builds it"
+    );
     for entry in fs::read_dir(root().join("examples")).expect("examples") {
         holds(&fs::read(entry.expect("an example").path()).expect("a card"));
     }

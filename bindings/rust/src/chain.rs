@@ -41,7 +41,7 @@ impl Chain {
     #[must_use]
     pub fn row(&self, s: StateId) -> Option<impl Iterator<Item = (StateId, f64)>> {
         let begins = |s: usize| Some(*self.offsets.get(s)? as usize);
-        let s = s.0 as usize;
+        let s = Some(s.0 as usize).filter(|s| *s < self.states)?;
         let places = begins(s)?..begins(s + 1)?;
         let targets = self.targets.get(places.clone())?;
         let probabilities = self.probabilities.get(places)?;
@@ -68,7 +68,7 @@ pub fn common_rate(left: &Model, right: &Model) -> f64 {
 }
 
 /// The chain of a model at a rate: each weight divided by it, and what is left to stay. A rate below an exit rate gives
-/// rows that add up to more than 1, which whatever takes the chain refuses.
+/// rows that add up to more than 1; where a sum is over 1e-9 more, whatever takes the chain refuses it.
 ///
 /// ```
 /// use tanqesha::{Model, Refusal, StateId, Transition, uniformise};

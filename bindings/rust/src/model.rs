@@ -232,7 +232,8 @@ impl Model {
 
     /// All edges, by source, label id and target.
     pub fn edges(&self) -> impl Iterator<Item = Edge> {
-        let ends = self.columns.offsets.windows(2);
+        // columns may be longer than the counts
+        let ends = self.columns.offsets.windows(2).take(self.columns.states);
         (0..).zip(ends).flat_map(|(s, ends)| {
             let row = ends[0] as usize..ends[1] as usize;
             self.row(StateId(s), row)

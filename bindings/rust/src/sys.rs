@@ -292,8 +292,8 @@ entries! {
         left: model, right: model, left_classes: [u32], right_classes: [u32],
         epsilon: f64, rho: f64, relation: [mut u8], related: &mut u32
     ) -> u32;
-    /// The least ε at which the initial states are related, if there is one; the bytes are zero at the end. Refuses with
-    /// 3 to 10.
+    /// An ε at which the initial states are related, found by halvings, if they are at 1; the bytes are zero at the end.
+    /// Refuses with 3 to 10.
     fn min_epsilon = tanqesha_min_epsilon(
         left: model, right: model, left_classes: [u32], right_classes: [u32],
         rho: f64, relation: [mut u8], present: &mut u32, epsilon: &mut f64
@@ -336,7 +336,8 @@ entries! {
 // distances: of chains
 entries! {
     /// The distance of two chains, with its contributions over the front of the records; the lists of pairs (`lefts`, `rights`,
-    /// `index`) and the coupling store (`places`, `masses`) are zero at the end. Refuses with 4, 7, 11 to 14, 16 to 19.
+    /// `index`) and the coupling store (`places`, `masses`) are zero at the end, but after 4 to 14, which leave all as it was.
+    /// Refuses with 4, 7, 11 to 14, 16 to 19.
     fn distance = tanqesha_distance(
         left: chain, left_observations: [f64], right: chain, right_observations: [f64],
         gamma: f64, tolerance: f64, max_rounds: usize, top: usize,
@@ -350,7 +351,8 @@ entries! {
 // model_distances: of models
 entries! {
     /// The distance of a state of each of two models, by their chains at the common rate and observations scaled together; the
-    /// lists of the chains are zero at the end too. Refuses with 3 to 8, 11, 12, 14, 16 to 19.
+    /// lists of the chains are zero at the end too, but after 3 to 14, which leave all as it was. Refuses with 3 to 8, 11, 12,
+    /// 14, 16 to 19.
     fn bisim_distance = tanqesha_bisim_distance(
         left: model, left_state: u32, left_observations: [f64],
         left_chain_offsets: [mut u32], left_chain_targets: [mut u32],

@@ -114,6 +114,20 @@ fn models() {
     assert_eq!((m.label_id(90), m.label_id(91)), (Some(LabelId(2)), None));
 }
 
+/// Entries past the counts are no part of a model.
+#[test]
+fn longer_columns() {
+    let mut columns = sample();
+    columns.label_values.push(70);
+    columns.offsets.extend([0, 9]);
+    columns.edge_labels.push(7);
+    columns.edge_targets.push(7);
+    columns.edge_weights.push(f64::NAN);
+    let m = accepted(columns);
+    assert!(m.edges().eq(model().edges()));
+    assert_eq!(m.successors(StateId(3)).err(), Some(Refusal::OutOfRange));
+}
+
 #[test]
 fn models_are_refused() {
     for (number, columns) in refused() {
@@ -312,6 +326,9 @@ fn chains() {
         [(StateId(1), 1.0)]
     );
     assert!(chain.row(StateId(2)).is_none() && chain.row(StateId(u32::MAX)).is_none());
+    let mut longer = chain.clone();
+    longer.offsets.push(longer.entries as u32);
+    assert!(longer.row(StateId(2)).is_none());
     assert_eq!(uniformise(&left, 4.0, &seen[1..]), Err(Refusal::Store));
     assert_eq!(
         uniformise(&without_initial(&left), 4.0, &seen),

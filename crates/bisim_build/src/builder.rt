@@ -5,9 +5,9 @@ ghost use Rattle.bisim_build.specs.Lent.{Built};
 
 use crate::write;
 use bisim_core::wlts::Shape;
-use bisim_edges::planner::{PlanLists, plan};
+use bisim_edges::planner::plan;
 use build_theory::keys::Triple;
-use build_theory::lent::{Draft, Store};
+use build_theory::lent::{Draft, PlanLists, Store};
 use numbers::refusal::Refusal;
 
 // `build`, with work space for the transitions given, if they are not too many.

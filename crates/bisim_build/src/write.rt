@@ -4,7 +4,7 @@ ghost use Rattle.numbers.specs.Lists.{over, span};
 ghost use Rattle.build_theory.specs.Edges;
 ghost use Rattle.build_theory.specs.Lent.{kept};
 ghost use Rattle.build_theory.proofs.Steps.{Rising, edges_in, FirstFrom, Writable, Written};
-ghost use Rattle.bisim_edges.specs.Lent.{numbers};
+ghost use Rattle.build_theory.proofs.Planning.{numbers};
 
 use build_theory::keys::Triple;
 use build_theory::lent::{Draft, Store};

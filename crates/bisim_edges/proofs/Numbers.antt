@@ -3,7 +3,7 @@ use Rattle.std.proofs.Common.{◌≡◌, ℕ, List, length}
 use lib.ListN.{get_or, set, get_or-map}
 use Rattle.std.proofs.lemmas.List.{length-map, map-set}
 use Rattle.build_theory.specs.declared.keys.Triple.{Triple}
-use Rattle.bisim_edges.specs.Lent.{numbers}
+use Rattle.build_theory.proofs.Planning.{numbers}
 
 pub numbers_length : (T : List Triple) → length (numbers T) ≡ length T
 numbers_length T = length-map T (λ (t : Triple). t.0)

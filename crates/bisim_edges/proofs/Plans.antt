@@ -19,8 +19,8 @@ use Rattle.numbers.proofs.Bools.{lt_or_ge, or_f}
 use Rattle.numbers.proofs.Refuses.{check_hit, check_none, hit, none}
 use Rattle.bisim_core.specs.Data.{Edge, Transitions}
 use Rattle.build_theory.specs.declared.lent.Draft.{Draft}
-use Rattle.bisim_edges.specs.declared.planner.PlanLists.{PlanLists}
-use Rattle.bisim_edges.specs.Lent.{lists_in}
+use Rattle.build_theory.specs.declared.lent.PlanLists.{PlanLists}
+use Rattle.build_theory.proofs.Planning.{lists_in}
 use Rattle.bisim_edges.proofs.Numbers.{numbers_length}
 use Rattle.build_theory.specs.Lent.{transitions_of}
 use Rattle.build_theory.proofs.Fronts.{take_least}

@@ -1,7 +1,7 @@
 // From sorted transitions to edges: equal triples joined, zero weights dropped.
 ghost use Rattle.std.specs.Prelude.{◌≡◌, ◌≤◌, ◌<◌, ◌∷◌, length};
 ghost use Rattle.build_theory.proofs.Steps.{Pushed, Keys, Joined};
-ghost use Rattle.bisim_edges.specs.Lent.{numbers};
+ghost use Rattle.build_theory.proofs.Planning.{numbers};
 
 use build_theory::keys::{Key, Triple};
 

@@ -3,25 +3,16 @@ ghost use Rattle.std.specs.Prelude.{◌≡◌, ◌||◌, ℕ, ◌≤◌, ◌<◌
 ghost use Rattle.numbers.specs.Refuse.{code};
 ghost use Rattle.build_theory.specs.Lent.{transitions_of};
 ghost use Rattle.build_theory.proofs.Steps.{Arrangeable, Arranged};
-ghost use Rattle.bisim_edges.specs.Lent.{Planned, same_lent};
+ghost use Rattle.build_theory.proofs.Planning.{Planned, same_lent};
 
 use crate::crowd::crowded;
 use crate::edges::join_runs;
 use crate::keys::arrange;
 use crate::labels::{intern_all, write_labels};
 use build_theory::fault;
-use build_theory::keys::Triple;
-use build_theory::lent::Draft;
+use build_theory::lent::{Draft, PlanLists};
 use numbers::least;
 use numbers::refusal::Refusal;
-
-// The lists that a plan fills: label values by id, and triples of source, label id and target, each with its weight.
-#[derive(Drop)]
-pub struct PlanLists<'a> {
-    pub label_values: &'a mut [u32],
-    pub triples: &'a mut [Triple],
-    pub edge_weights: &'a mut [f64],
-}
 
 // 7: fewer transitions than are given, by those that all columns have; or a list that is short, of the caller's or by the places in each of those that are filled.
 // Stays: `short` is no switch but a fact of the caller's lists, which check 7 is told in its turn.

@@ -1,5 +1,6 @@
 pub mod Plan
 pub mod Steps
+pub mod Planning
 pub mod Fronts
 pub mod Rows
 pub mod Offsets

@@ -3,6 +3,7 @@ ghost use Rattle.std.specs.Prelude.{◌≡◌};
 ghost use Rattle.bisim_core.specs.Data.{columns_of};
 ghost use Rattle.build_theory.specs.Lent.{columns_in};
 
+use crate::keys::Triple;
 use bisim_core::ids::StateId;
 use bisim_core::wlts::{Shape, Wlts};
 
@@ -44,4 +45,12 @@ impl Store<'_> {
             edge_weights: self.edge_weights,
         }
     }
+}
+
+// The lists that a plan fills: label values by id, and triples of source, label id and target, each with its weight.
+#[derive(Drop)]
+pub struct PlanLists<'a> {
+    pub label_values: &'a mut [u32],
+    pub triples: &'a mut [Triple],
+    pub edge_weights: &'a mut [f64],
 }

@@ -28,7 +28,7 @@ fn make_row(model: &Wlts, s: usize, rate: f64, targets: &mut [u32], probs: &mut 
         rates: probs,
         len: 0,
     };
-    entries.add_edges(model, s, 0, |w| w / rate);
+    entries.add_edges(model, s, 0, Some(rate));
     let stay = 1.0 - exit_rate(model, s) / rate;
     if stay > MARGIN {
         entries.add(s as u32, stay);

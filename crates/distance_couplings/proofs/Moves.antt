@@ -8,7 +8,7 @@ use mathlib.Core.List.{List, ◌++◌, map, append-nil}
 use native.Mathlib.Omega.{arith}
 use mathlib.Core.Logic.{◌⊎◌, inl, inr}
 use native.Mathlib.Nat.{mul-le-mul}
-use lib.ListN.{length, get_or, take, drop, length-append, length-drop, length-map, replicate, length-replicate, drop_of_length-le}
+use lib.ListN.{length, get_or, take, drop, length-append, length-drop, length-map, drop_of_length-le}
 use lib.Seq.{length-take-le}
 use lib.Dec.{leb, eqb}
 use lib.Ieee.{Float, binary64, mul, div}
@@ -89,18 +89,14 @@ module _ {a b costs : List Float} {xs ys : List ℕ} {codes places masses : ℕ}
         let k = ap (λ (o : Outcome). length o.columns) P ∙ length-append (map (λ (c : Cell). c.column) result.plan) (drop (length (map (λ (c : Cell). c.column) result.plan)) j₀) in
         (M.few_codes, omega arith, omega arith, omega arith)
 
--- the work lists of rows and of columns
-abbrev blank : List ℕ
-blank = replicate 1024 0
-
--- masses that are moved with these
-module _ {a b costs : List Float} {xs ys : List ℕ} {codes : ℕ} (p₀ : List ℕ) (x₀ : List Float) (M : Movable a b costs xs ys codes (length p₀) (length x₀)) where
+-- masses that are moved with work lists of 1,024 rows and columns
+module _ {a b costs : List Float} {xs ys : List ℕ} {codes : ℕ} (p₀ : List ℕ) (x₀ : List Float) (M : Movable a b costs xs ys codes (length p₀) (length x₀)) (i₀ j₀ : List ℕ) (er : length i₀ ≡ 1024) (ec : length j₀ ≡ 1024) where
   abbrev result : Transport
   result = transport a b costs
 
-  module _ (r : Result Plan Refusal) {i j : List ℕ} {x : List Float} (E : ends (numbered r) i j x ≡ transport_sized a b costs blank blank x₀) where
-    planned : ends (numbered r) i j x ≡ settled 0 result blank blank x₀
-    planned = let w = length-replicate {A = ℕ} 1024 0 in E ∙ ap (λ (k : ℕ). settled k result blank blank x₀) (accepted M (length blank) (length blank) w w)
+  module _ (r : Result Plan Refusal) {i j : List ℕ} {x : List Float} (E : ends (numbered r) i j x ≡ transport_sized a b costs i₀ j₀ x₀) where
+    planned : ends (numbered r) i j x ≡ settled 0 result i₀ j₀ x₀
+    planned = E ∙ ap (λ (k : ℕ). settled k result i₀ j₀ x₀) (accepted M (length i₀) (length j₀) er ec)
 
     -- there is a plan
     pub some_plan : {o : Option Plan} → o ≡ result_ok r → o ≡ None → ⊥
@@ -119,14 +115,14 @@ module _ {a b costs : List Float} {xs ys : List ℕ} {codes : ℕ} (p₀ : List 
       cells_is : cells ≡ length result.plan
       cells_is = ap (λ (q : Plan). q.cells) plan_is
 
-      rows_is : i ≡ over (map (λ (c : Cell). c.row) result.plan) blank
+      rows_is : i ≡ over (map (λ (c : Cell). c.row) result.plan) i₀
       rows_is = ap (λ (o : Outcome). o.rows) planned
 
-      columns_is : j ≡ over (map (λ (c : Cell). c.column) result.plan) blank
+      columns_is : j ≡ over (map (λ (c : Cell). c.column) result.plan) j₀
       columns_is = ap (λ (o : Outcome). o.columns) planned
 
       in_rows : (k : ℕ) → k < cells → (get_or i k 0 < length xs) × (get_or j k 0 < length ys)
-      in_rows = cells_read (λ p. 0) xs ys result.plan i j blank blank rows_is columns_is cells cells_is (moved_celled a b costs xs ys codes (length p₀) (length x₀) M)
+      in_rows = cells_read (λ p. 0) xs ys result.plan i j i₀ j₀ rows_is columns_is cells cells_is (moved_celled a b costs xs ys codes (length p₀) (length x₀) M)
 
       pub cells_room : cells ≤ length p₀
       cells_room = let e = cells_is in let f = moved_few a b costs xs ys codes (length p₀) (length x₀) M in let q = M.places_room in omega arith
@@ -151,11 +147,10 @@ module _ {a b costs : List Float} {xs ys : List ℕ} {codes : ℕ} (p₀ : List 
           let c = M.few_codes in
           let u = length-map result.plan (λ (c : Cell). c.row) in
           let w = length-map result.plan (λ (c : Cell). c.column) in
-          let z = length-replicate {A = ℕ} 1024 0 in
-          let du = length-drop (length (map (λ (c : Cell). c.row) result.plan)) blank in
-          let dw = length-drop (length (map (λ (c : Cell). c.column) result.plan)) blank in
-          let n = ap length rows_is ∙ length-append (map (λ (c : Cell). c.row) result.plan) (drop (length (map (λ (c : Cell). c.row) result.plan)) blank) in
-          let k = ap length columns_is ∙ length-append (map (λ (c : Cell). c.column) result.plan) (drop (length (map (λ (c : Cell). c.column) result.plan)) blank) in
+          let du = length-drop (length (map (λ (c : Cell). c.row) result.plan)) i₀ in
+          let dw = length-drop (length (map (λ (c : Cell). c.column) result.plan)) j₀ in
+          let n = ap length rows_is ∙ length-append (map (λ (c : Cell). c.row) result.plan) (drop (length (map (λ (c : Cell). c.row) result.plan)) i₀) in
+          let k = ap length columns_is ∙ length-append (map (λ (c : Cell). c.column) result.plan) (drop (length (map (λ (c : Cell). c.column) result.plan)) j₀) in
           let t = length-take-le cells p₀ cells_room in (
             omega arith,
             omega arith,
@@ -173,7 +168,7 @@ module _ {a b costs : List Float} {xs ys : List ℕ} {codes : ℕ} (p₀ : List 
           let ep : q ++ drop cells p₀ ≡ over (l cells) p₀ = ap₂ (λ (u : List ℕ) (k : ℕ). u ++ drop k p₀) (eq ∙ ap l (length-take-le cells p₀ cells_room)) (sym (places_length look xs ys i j cells)) in
           ap₂ (λ (t : Float) (n : ℕ). bested t n (q ++ drop cells p₀) x) total_is cells_is
           ∙ ap₂ (λ (u : List ℕ) (w : List Float). bested result.total (length result.plan) u w)
-          (ep ∙ ap (λ (l : List ℕ). over l p₀) (places_shares look xs ys result.plan i j blank blank rows_is columns_is cells cells_is)) (ap (λ (o : Outcome). o.masses) planned)
+          (ep ∙ ap (λ (l : List ℕ). over l p₀) (places_shares look xs ys result.plan i j i₀ j₀ rows_is columns_is cells cells_is)) (ap (λ (o : Outcome). o.masses) planned)
 
 -- ---- rows of several entries
 

@@ -11,6 +11,7 @@ ghost use Rattle.distance_theory.proofs.PairRows.{row_jumps};
 ghost use Rattle.distance_theory.proofs.Bests.{places_by, Movable, moved_on};
 ghost use Rattle.distance_theory.proofs.RowsLent.{RowsBeside, CellsRoom, PlanCells, rows_fitting, values_rows, best_rows, bested_in, best_over};
 
+use crate::bench::{Bench, Moving};
 use crate::shares::{cells, fits, lay_shares, place};
 use distance_theory::lent::{Best, Rows, SharesMut};
 use distance_theory::value_at;
@@ -68,19 +69,22 @@ fn lay_planned(rows: &Rows, plan: &PlanRows, places: &mut [u32])
 }
 
 // The transport of masses under their costs: its shares, with the places of the pairs of two rows.
-fn move_masses(of: &Masses, pairs: &Rows, shares: &mut SharesMut) -> Option<Best>
+fn move_masses(
+    of: &Masses,
+    pairs: &Rows,
+    shares: &mut SharesMut,
+    moving: &mut Moving,
+) -> Option<Best>
     requires { Movable of.now.left.now of.now.right.now of.now.costs.now pairs.now.xs.targets.now pairs.now.ys.targets.now (length pairs.now.codes.now) (length shares.old.places.now) (length shares.old.masses.now) }
     ensures lists { SameShares shares.old shares.new }
     ensures bested { bested_in result shares.new ≡ moved_on (look_up pairs.now.codes.now) pairs.now.xs.targets.now pairs.now.ys.targets.now (transport of.now.left.now of.now.right.now of.now.costs.now) shares.old.places.now shares.old.masses.now }
 {
-    let mut rows = [0u32; 1024];
-    let mut columns = [0u32; 1024];
     let mut plan = PlanRows {
-        rows: &mut rows,
-        columns: &mut columns,
+        rows: &mut moving.rows,
+        columns: &mut moving.columns,
         masses: &mut shares.masses[..],
     };
-    let moved = transport_sized(of, &mut plan).ok()?;
+    let moved = transport_sized(of, &mut plan, &mut moving.bench).ok()?;
     lay_planned(pairs, &plan, &mut shares.places[..moved.cells]);
     Some(Best {
         value: moved.total,
@@ -89,14 +93,18 @@ fn move_masses(of: &Masses, pairs: &Rows, shares: &mut SharesMut) -> Option<Best
 }
 
 // Rows of several entries each: by transport of one to the other, the values as costs.
-fn best_moved(of: &Valued, shares: &mut SharesMut) -> Option<Best>
+fn best_moved(
+    of: &Valued,
+    shares: &mut SharesMut,
+    costs: &mut [f64; 1024],
+    fitted: &mut [f64; 32],
+    moving: &mut Moving,
+) -> Option<Best>
     requires beside { RowsBeside of.now.rows }
     requires room { CellsRoom of.now.rows shares.old }
     ensures lists { SameShares shares.old shares.new }
     ensures bested { bested_in result shares.new ≡ best_over true (best_rows false of.now.rows of.now.values.now) shares.old }
 {
-    let mut costs = [0.0f64; 1024];
-    let mut fitted = [0.0f64; 32];
     let costs = &mut costs[..cells(&of.rows)];
     let fitted = &mut fitted[..of.rows.ys.targets.len()];
     lay_values(of, costs);
@@ -106,7 +114,7 @@ fn best_moved(of: &Valued, shares: &mut SharesMut) -> Option<Best>
         right: fitted,
         costs,
     };
-    move_masses(&masses, &of.rows, shares)
+    move_masses(&masses, &of.rows, shares, moving)
 }
 
 // A row of one entry: only one coupling exists.
@@ -123,7 +131,7 @@ fn best_alone(of: &Valued, shares: &mut SharesMut) -> Best
 }
 
 // One coupling alone where a row has one entry; else the one that transport gives.
-fn cheapest(of: &Valued, shares: &mut SharesMut) -> Option<Best>
+fn cheapest(of: &Valued, shares: &mut SharesMut, bench: &mut Bench) -> Option<Best>
     requires beside { RowsBeside of.now.rows }
     requires room { CellsRoom of.now.rows shares.old }
     ensures lists { SameShares shares.old shares.new }
@@ -132,16 +140,22 @@ fn cheapest(of: &Valued, shares: &mut SharesMut) -> Option<Best>
     if of.rows.xs.targets.len() == 1 || of.rows.ys.targets.len() == 1 {
         return Some(best_alone(of, shares));
     }
-    best_moved(of, shares)
+    best_moved(
+        of,
+        shares,
+        &mut bench.costs,
+        &mut bench.fitted,
+        &mut bench.moving,
+    )
 }
 
 // The cheapest coupling of two rows, over the front of two lists. None where the rows have over 32 entries or are no rows, there are over 4,096 codes, or a list is short: the lists are then as they were.
-pub(crate) fn best_coupling(of: &Valued, shares: &mut SharesMut) -> Option<Best>
+pub(crate) fn best_coupling(of: &Valued, shares: &mut SharesMut, bench: &mut Bench) -> Option<Best>
     ensures lists { SameShares shares.old shares.new }
     ensures bested { bested_in result shares.new ≡ best_over (rows_fitting of.now.rows shares.old) (best_rows (point_mass (row_jumps of.now.rows.xs) (row_jumps of.now.rows.ys)) of.now.rows of.now.values.now) shares.old }
 {
     if !fits(&of.rows, shares) {
         return None;
     }
-    cheapest(of, shares)
+    cheapest(of, shares, bench)
 }

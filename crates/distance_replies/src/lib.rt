@@ -1,13 +1,28 @@
-// A distance as numbers, for the exported functions: what it holds is put behind the references; a refusal is handed on, and leaves them as they were.
+// A distance as numbers, for the exported functions: what is asked is made of numbers, and what the answer holds is put behind the references; a refusal is handed on, and leaves them as they were.
 #![tactic(auto)]
 
 ghost use Rattle.std.specs.Prelude.{◌≡◌};
 ghost use Rattle.numbers.specs.Refuse.{code, numbered};
 ghost use Rattle.distance_replies.specs.Distances.{replied, of_measured};
 
-use distance_theory::Distance;
+use distance_theory::{Distance, Goal, MetricOptions};
 use numbers::refusal::Refusal;
 
+// The discount, how near the distance is wanted, the most rounds of improvement, and how many contributions are listed.
+pub fn goal_of(gamma: f64, tolerance: f64, max_rounds: usize, top: usize) -> Goal
+    ensures { result ≡ record { gamma = gamma; options = record { tolerance = tolerance; max_rounds = max_rounds; top = top } } }
+{
+    Goal {
+        gamma,
+        options: MetricOptions {
+            tolerance,
+            max_rounds,
+            top,
+        },
+    }
+}
+
+// A distance.
 pub fn put_distance(
     answer: Result<Distance, Refusal>,
     value: &mut f64,

@@ -6,6 +6,7 @@ ghost use Rattle.distance_words.proofs.Improving.{bettered_as, better_from, best
 ghost use Rattle.distance_words.proofs.Improving;
 
 use crate::adopt::adopt;
+use distance_couplings::bench::Bench;
 use distance_couplings::choose::best_pair;
 use distance_theory::lent::{SharesMut, StoreMut, Task};
 use distance_theory::long;
@@ -29,7 +30,13 @@ fn counted(task: &Task, values: &[f64], starts: &[u32], store: &StoreMut) -> boo
 }
 
 // Pair after pair.
-fn improve_each(task: &Task, values: &[f64], starts: &[u32], store: &mut StoreMut) -> Improvement
+fn improve_each(
+    task: &Task,
+    values: &[f64],
+    starts: &[u32],
+    store: &mut StoreMut,
+    bench: &mut Bench,
+) -> Improvement
     requires { (length values.now ≤ length task.now.pairs.lefts.now) × (length values.now ≤ length task.now.pairs.rights.now) × (length values.now ≤ length task.now.cost.now) × (length values.now ≤ length starts.now) × (length values.now ≤ length store.old.lengths.now) }
     ensures lists { SameStore store.old store.new }
     ensures bettered { bettered_as result store.new ≡ better_from (best_in task.now values.now) values.now task.now.gamma task.now.cost.now starts.now (length values.now) 0 nought false store.old.lengths.now store.old.places.now store.old.masses.now }
@@ -43,7 +50,7 @@ fn improve_each(task: &Task, values: &[f64], starts: &[u32], store: &mut StoreMu
     let mut residual = 0.0;
     let mut improved = false;
     for k in 0..values.len() {
-        let best = best_pair(task, k, values, &mut work);
+        let best = best_pair(task, k, values, &mut work, bench);
         residual = larger(
             residual,
             apart(task.cost[k] + task.gamma * best.value, values[k]),
@@ -61,7 +68,13 @@ fn improve_each(task: &Task, values: &[f64], starts: &[u32], store: &mut StoreMu
 }
 
 // The couplings of the pairs in the store, improved against their values. Where the left or right states, the costs, or the starts or lengths of the couplings are fewer than the values, nothing changes, and nothing is told to be off.
-pub fn improve(task: &Task, values: &[f64], starts: &[u32], store: &mut StoreMut) -> Improvement
+pub fn improve(
+    task: &Task,
+    values: &[f64],
+    starts: &[u32],
+    store: &mut StoreMut,
+    bench: &mut Bench,
+) -> Improvement
     ensures lists { SameStore store.old store.new }
     ensures bettered { bettered_as result store.new ≡ improve_in task.now values.now starts.now store.old }
 {
@@ -71,5 +84,5 @@ pub fn improve(task: &Task, values: &[f64], starts: &[u32], store: &mut StoreMut
             improved: false,
         };
     }
-    improve_each(task, values, starts, store)
+    improve_each(task, values, starts, store, bench)
 }

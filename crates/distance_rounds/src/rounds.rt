@@ -7,6 +7,7 @@ ghost use Rattle.distance_words.proofs.Valuing.{valued};
 ghost use Rattle.distance_words.proofs.Iterating.{iterated_as, iterate_in, valued_in};
 
 use crate::improve::improve;
+use distance_couplings::bench::Bench;
 use distance_theory::lent::{StoreMut, Task};
 use distance_values::values::{Costed, sweeps};
 use distance_values::visits::Policy;
@@ -51,6 +52,7 @@ pub fn iterate(
     starts: &[u32],
     store: &mut StoreMut,
     values: &mut [f64],
+    bench: &mut Bench,
 ) -> Rounds
     ensures lists { SameStore store.old store.new }
     ensures iterated { iterated_as result values.new store.new ≡ iterate_in max_rounds task.now aim tol starts.now store.old values.old }
@@ -59,7 +61,7 @@ pub fn iterate(
     for rounds in 0..max_rounds {
         // Stays: the refusal is dropped, for `iterate` is public and could not fail before, and so it may not now; `sweeps` leaves the values as they were then.
         let _ = evaluate(task, starts, store, tol, values);
-        let step = improve(task, values, starts, store);
+        let step = improve(task, values, starts, store, bench);
         residual = step.residual;
         if ended(step, aim) {
             return Rounds {

@@ -1,5 +1,5 @@
 -- The ways that `solve` ends.
-use mathlib.Core.Path.{◌≡◌, sym, ap, ap₂, ◌∙◌}
+use mathlib.Core.Path.{◌≡◌, refl, sym, ap, ap₂, ◌∙◌}
 use Prim.Native.Nat.{ℕ}
 use mathlib.Core.Bool.{Bool, true, false}
 use mathlib.Core.List.{List}
@@ -54,3 +54,10 @@ module _ (n : ℕ) (lefts rights codes : List ℕ) (C D : ChainColumns) (cost : 
         ap (λ (w : Iterated). solving 0 w.residual w.rounds s' w.lengths w.places w.masses w.values)
         (i ∙ ap₂ (λ (h : ℕ) (z : Float). iterate_from (task h lefts rights codes C D cost γ s' z (mul binary64 z tenth)) o.max_rounds (inf false) 0 v l' p' m') ej a)
         ∙ ap (from true) (sym g) ∙ laid
+
+    -- where no round is asked for
+    pub unmade : u ≡ false → o.max_rounds ≡ 0 → {x : Float} → x ≡ inf false → solving 0 x 0 s' l' p' m' v ≡ whole
+    unfolding iterate_from
+    unmade g z ex =
+        made g (aims γ o refl) refl
+        (ap (λ (y : Float). iterated y 0 v l' p' m') ex ∙ ap (λ (k : ℕ). iterate_from (task n lefts rights codes C D cost γ s' (aim_of γ o) (mul binary64 (aim_of γ o) tenth)) k (inf false) 0 v l' p' m') (sym z))

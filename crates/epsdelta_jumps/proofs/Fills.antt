@@ -1,4 +1,6 @@
 -- The row of a state in two lists: at their start, once its jumps are made, summed and divided, and then from place `at` on.
+use Rattle.std.specs.Prelude.{None}
+use Rattle.std.proofs.lemmas.List.{map-id}
 use mathlib.Core.Path.{◌≡◌, refl, sym, ap, ◌∙◌}
 use Prim.Native.Nat.{ℕ, ◌+◌, ◌≤◌}
 use mathlib.Core.List.{List, [], ◌∷◌, ◌++◌, map}
@@ -15,11 +17,6 @@ use Rattle.parts.specs.Jumping.{weighed}
 use Rattle.parts.proofs.Laid.{laid_by, laid_jumps, laid_past}
 use Rattle.parts.proofs.Lent.{part, back, take_back, past_back, slice_back}
 
--- weights as they are
-pub weighed_same : (es : List Edge) → map (weighed (λ w. w)) es ≡ es
-weighed_same [] = refl
-weighed_same (e ∷ es) = ap (λ (l : List Edge). e ∷ l) (weighed_same es)
-
 -- the rates divided by x
 abbrev pub quotients : Float → List Float → List Float
 quotients x P = map (λ (p : Float). div binary64 p x) P
@@ -31,9 +28,9 @@ divided_of x (t ∷ T) [] = refl
 divided_of x (t ∷ T) (p ∷ P) = ap (λ (l : List Jump). record { target = t; rate = div binary64 p x } ∷ l) (divided_of x T P)
 
 -- the row, once the jumps are made and their rates divided by their sum
-module _ (off : ℕ) (es : List Edge) (m : ℕ) (T₀ : List ℕ) (P₀ : List Float) (T : List ℕ) (P : List Float) (L : LaidJumps (add_edges off (map (weighed (λ w. w)) es) []) m T₀ P₀ T P) (h : m ≤ length T) (k : m ≤ length P) where
+module _ (off : ℕ) (es : List Edge) (m : ℕ) (T₀ : List ℕ) (P₀ : List Float) (T : List ℕ) (P : List Float) (L : LaidJumps (add_edges off (map (weighed None) es) []) m T₀ P₀ T P) (h : m ≤ length T) (k : m ≤ length P) where
   made : jumps_of (take m T) (take m P) ≡ add_edges off es []
-  made = laid_jumps L ∙ ap (λ (l : List Edge). add_edges off l []) (weighed_same es)
+  made = laid_jumps L ∙ ap (λ (l : List Edge). add_edges off l []) (map-id es)
 
   pub exit_is : sum (take m P) ≡ (row off es).exit
   unfolding row

@@ -29,7 +29,7 @@ use Rattle.flow_theory.specs.Run.{all_pushes}
 use Rattle.flow_core.specs.declared.Flow.{Flow}
 use Rattle.flow_links.specs.declared.rows.Test.{Test}
 use Rattle.flow_links.specs.declared.rows.Rows.{Rows}
-use Rattle.flow_direct.specs.Reaches.{both_reach, reaches, test_both, test_reaches, Known, at_least}
+use Rattle.flow_direct.specs.Reaches.{both_reach, reaches, test_both, test_reaches, test_lacks, Known, at_least}
 use Rattle.flow_direct.specs.declared.reach.Ways.{Ways}
 use Rattle.flow_direct.specs.declared.reach.Ways.TheVariants as ways
 use Rattle.epsdelta_sweeps.specs.Place.{Judged}
@@ -149,16 +149,16 @@ some_true (Some x) k e = (x, refl, k)
 some_true None k e = absurd (false≢true (sym k ∙ e))
 
 -- what is known of a flow test, of the definition's
-pub known_test : {X : List Bool → Type 0} (t : Test) (need : Float) (f : List Bool → Bool) (known : Option Bool) → IfSome known (λ passes. passes ≡ test_reaches t need) → ((R : List Bool) → X R → test_reaches t need ≡ f R) → IfSome known (λ passes. (R : List Bool) → X R → f R ≡ passes)
+pub known_test : {X : List Bool → Type 0} (t : Test) (need : Float) (f : List Bool → Bool) (known : Option Bool) → MatchOption known (test_lacks t need ≡ true) (λ passes. passes ≡ test_reaches t need) → ((R : List Bool) → X R → test_reaches t need ≡ f R) → IfSome known (λ passes. (R : List Bool) → X R → f R ≡ passes)
 known_test t need f (Some passes) v h = λ R e. sym (v ∙ h R e)
-known_test t need f None v h = v
+known_test t need f None v h = tt
 
 -- and of the one back
 pub known_judged : (t : Test) (need : Float) (here : Option Float) {f b : Bool} (w : Ways) → Known t need here w → test_both t need ≡ (f && b) → test_reaches t need ≡ f → (IsSomeAnd here (λ x. test_reaches t x ≡ true) → (f ≡ true) × (b ≡ true)) → Judged f b w
 known_judged t need here (ways.Both passes) k e g h = sym (k ∙ e)
 known_judged t need here ways.Plenty k e g h = h k
-known_judged t need here ways.Forth k e g h = sym g ∙ k
-known_judged t need here ways.Unknown k e g h = k
+known_judged t need here ways.Forth k e g h = sym g ∙ k.0
+known_judged t need here ways.Unknown k e g h = tt
 
 pub first_fails : (a b : Bool) → a ≡ false → false ≡ (a && b)
 first_fails a b h = ap (λ (x : Bool). x && b) (sym h)

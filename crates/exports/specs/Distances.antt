@@ -1,7 +1,7 @@
 -- The distance of chains, states and options that are given by their numbers.
 use Rattle.std.specs.Prelude.{ℕ, Float}
 use Rattle.chain_theory.specs.Columns.{ChainColumns}
-use Rattle.distance_theory.specs.Outcome.{Lent, Outcome, distance}
+use Rattle.distance_theory.specs.Outcome.{Lent, Outcome, ChainsOutcome, distance}
 use Rattle.distance_theory.specs.declared.MetricOptions.{MetricOptions}
 use Rattle.distance_replies.specs.Distances.{Replied, of_measured}
 use Rattle.replies.specs.Chains.{shape}
@@ -19,3 +19,11 @@ leaving a m = (a, m)
 -- an outcome: its answer, behind references that held these, and its memory
 abbrev pub by_numbers : Outcome → Float → Float → Float → ℕ → ℕ → ℕ → Replied × Lent
 by_numbers O v e g p c r = leaving (of_measured O.answer v e g p c r) O.lent
+
+-- what is replied, the memory, and the lists lent for both chains
+abbrev pub leaving_chains : Replied → Lent → ChainColumns → ChainColumns → Replied × Lent × ChainColumns × ChainColumns
+leaving_chains a m CL CR = (a, m, CL, CR)
+
+-- an outcome of models: its answer, behind references that held these, its memory, and those lists
+abbrev pub chains_by_numbers : ChainsOutcome → Float → Float → Float → ℕ → ℕ → ℕ → Replied × Lent × ChainColumns × ChainColumns
+chains_by_numbers O v e g p c r = leaving_chains (of_measured O.answer v e g p c r) O.lent O.left_chain O.right_chain

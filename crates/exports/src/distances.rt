@@ -7,9 +7,9 @@ ghost use Rattle.exports.specs.Distances.{leaving, distance_of, by_numbers};
 
 use chain_theory::Chain;
 use distance::entry::distance;
-use distance_replies::put_distance;
+use distance_replies::{goal_of, put_distance};
+use distance_theory::PairContribution;
 use distance_theory::lent::Scratch;
-use distance_theory::{Goal, MetricOptions, PairContribution};
 use numbers::refusal::code;
 use replies::shapes::chain_of;
 
@@ -48,9 +48,7 @@ pub extern "C" fn tanqesha_distance(
     rounds: &mut usize,
 ) -> u32
     ensures { leaving (replied result value.new error_bound.new discount.new pairs.new listed.new rounds.new) (memory lefts.new rights.new index.new places.new masses.new records.new)
-        ≡ by_numbers (distance_of left_states left_entries left_initial (chain_columns left_offsets.now left_targets.now left_probabilities.now left_observations.now)
-        right_states right_entries right_initial (chain_columns right_offsets.now right_targets.now right_probabilities.now right_observations.now)
-        gamma tolerance max_rounds top (memory lefts.old rights.old index.old places.old masses.old records.old)) value.old error_bound.old discount.old pairs.old listed.old rounds.old }
+        ≡ by_numbers (distance_of left_states left_entries left_initial (chain_columns left_offsets.now left_targets.now left_probabilities.now left_observations.now) right_states right_entries right_initial (chain_columns right_offsets.now right_targets.now right_probabilities.now right_observations.now) gamma tolerance max_rounds top (memory lefts.old rights.old index.old places.old masses.old records.old)) value.old error_bound.old discount.old pairs.old listed.old rounds.old }
 {
     let left = Chain {
         shape: chain_of(left_states, left_entries, left_initial),
@@ -66,14 +64,7 @@ pub extern "C" fn tanqesha_distance(
         probs: right_probabilities,
         observations: right_observations,
     };
-    let goal = Goal {
-        gamma,
-        options: MetricOptions {
-            tolerance,
-            max_rounds,
-            top,
-        },
-    };
+    let goal = goal_of(gamma, tolerance, max_rounds, top);
     let mut scratch = Scratch {
         lefts,
         rights,

@@ -13,7 +13,7 @@ use chain_theory::{ChainMut, ChainStore};
 use chains::chain;
 use numbers::refusal::code;
 use replies::answers;
-use replies::shapes::{chain_of, shape_of};
+use replies::shapes::{chain_of, initial_of, shape_of};
 
 // The rate that covers two models: their greatest exit rate, or 1 if nothing moves.
 #[unsafe(no_mangle)]
@@ -46,28 +46,18 @@ pub extern "C" fn tanqesha_common_rate(
         (shape right_states right_edges right_labels (initial right_present right_start))
         (columns right_label_values.now right_offsets.now right_edge_labels.now right_edge_targets.now right_edge_weights.now)) rate.old }
 {
+    let left_initial = initial_of(left_present, left_start);
     let left = Wlts {
-        shape: shape_of(
-            left_states,
-            left_edges,
-            left_labels,
-            left_present,
-            left_start,
-        ),
+        shape: shape_of(left_states, left_edges, left_labels, left_initial),
         label_values: left_label_values,
         offsets: left_offsets,
         edge_labels: left_edge_labels,
         edge_targets: left_edge_targets,
         edge_weights: left_edge_weights,
     };
+    let right_initial = initial_of(right_present, right_start);
     let right = Wlts {
-        shape: shape_of(
-            right_states,
-            right_edges,
-            right_labels,
-            right_present,
-            right_start,
-        ),
+        shape: shape_of(right_states, right_edges, right_labels, right_initial),
         label_values: right_label_values,
         offsets: right_offsets,
         edge_labels: right_edge_labels,
@@ -106,7 +96,7 @@ pub extern "C" fn tanqesha_uniformise(
         rate observations.now (chain_columns chain_offsets.old chain_targets.old chain_probabilities.old chain_observations.old)) entries.old }
 {
     let model = Wlts {
-        shape: shape_of(states, edges, labels, present, start),
+        shape: shape_of(states, edges, labels, initial_of(present, start)),
         label_values,
         offsets,
         edge_labels,

@@ -145,7 +145,7 @@ pub extern "C" fn tanqesha_model_refusal(
         (columns label_values.now offsets.now edge_labels.now edge_targets.now edge_weights.now) }
 {
     let model = Wlts {
-        shape: shape_of(states, edges, labels, present, start),
+        shape: shape_of(states, edges, labels, initial_of(present, start)),
         label_values,
         offsets,
         edge_labels,
@@ -175,7 +175,7 @@ pub extern "C" fn tanqesha_num_states(
         (columns label_values.now offsets.now edge_labels.now edge_targets.now edge_weights.now)) count.old }
 {
     let model = Wlts {
-        shape: shape_of(states, edges, labels, present, start),
+        shape: shape_of(states, edges, labels, initial_of(present, start)),
         label_values,
         offsets,
         edge_labels,
@@ -206,7 +206,7 @@ pub extern "C" fn tanqesha_num_transitions(
         (columns label_values.now offsets.now edge_labels.now edge_targets.now edge_weights.now)) count.old }
 {
     let model = Wlts {
-        shape: shape_of(states, edges, labels, present, start),
+        shape: shape_of(states, edges, labels, initial_of(present, start)),
         label_values,
         offsets,
         edge_labels,
@@ -237,7 +237,7 @@ pub extern "C" fn tanqesha_num_labels(
         (columns label_values.now offsets.now edge_labels.now edge_targets.now edge_weights.now)) count.old }
 {
     let model = Wlts {
-        shape: shape_of(states, edges, labels, present, start),
+        shape: shape_of(states, edges, labels, initial_of(present, start)),
         label_values,
         offsets,
         edge_labels,
@@ -269,7 +269,7 @@ pub extern "C" fn tanqesha_initial(
         (columns label_values.now offsets.now edge_labels.now edge_targets.now edge_weights.now)) found.old state.old }
 {
     let model = Wlts {
-        shape: shape_of(states, edges, labels, present, start),
+        shape: shape_of(states, edges, labels, initial_of(present, start)),
         label_values,
         offsets,
         edge_labels,
@@ -302,7 +302,7 @@ pub extern "C" fn tanqesha_successors(
         (columns label_values.now offsets.now edge_labels.now edge_targets.now edge_weights.now) s) from.old to.old }
 {
     let model = Wlts {
-        shape: shape_of(states, edges, labels, present, start),
+        shape: shape_of(states, edges, labels, initial_of(present, start)),
         label_values,
         offsets,
         edge_labels,
@@ -334,7 +334,7 @@ pub extern "C" fn tanqesha_label(
         (columns label_values.now offsets.now edge_labels.now edge_targets.now edge_weights.now) id) value.old }
 {
     let model = Wlts {
-        shape: shape_of(states, edges, labels, present, start),
+        shape: shape_of(states, edges, labels, initial_of(present, start)),
         label_values,
         offsets,
         edge_labels,
@@ -367,7 +367,7 @@ pub extern "C" fn tanqesha_label_id(
         (columns label_values.now offsets.now edge_labels.now edge_targets.now edge_weights.now) value) found.old id.old }
 {
     let model = Wlts {
-        shape: shape_of(states, edges, labels, present, start),
+        shape: shape_of(states, edges, labels, initial_of(present, start)),
         label_values,
         offsets,
         edge_labels,

@@ -12,13 +12,14 @@ use bisim_core::ids::StateId;
 use bisim_core::wlts::Wlts;
 use bisimilar::bisimilar::epsdelta_bisimilar;
 use bisimilar::related;
-use epsdelta::asked::{Side, Sides};
+use epsdelta::asked::Sides;
 use epsdelta::relation;
 use epsdelta_theory::tolerances::Tolerances;
 use min_epsilon::least;
 use numbers::refusal::code;
 use replies::answers;
-use replies::shapes::shape_of;
+use replies::shapes::{initial_of, shape_of};
+use replies::sides::side_of;
 
 // The relation of two models in the bytes; a refusal leaves them as they were.
 #[unsafe(no_mangle)]
@@ -50,48 +51,33 @@ pub extern "C" fn tanqesha_epsdelta(
     relation: &mut [u8],
 ) -> u32
     ensures { leaves result relation.new ≡ answered (outcome
-        (shape left_states left_edges left_labels (initial left_present left_start))
-        (columns left_label_values.now left_offsets.now left_edge_labels.now left_edge_targets.now left_edge_weights.now)
-        (shape right_states right_edges right_labels (initial right_present right_start))
-        (columns right_label_values.now right_offsets.now right_edge_labels.now right_edge_targets.now right_edge_weights.now)
+        (shape left_states left_edges left_labels (initial left_present left_start)) (columns left_label_values.now left_offsets.now left_edge_labels.now left_edge_targets.now left_edge_weights.now)
+        (shape right_states right_edges right_labels (initial right_present right_start)) (columns right_label_values.now right_offsets.now right_edge_labels.now right_edge_targets.now right_edge_weights.now)
         left_classes.now right_classes.now epsilon rho relation.old) }
 {
-    let left = Side {
-        model: Wlts {
-            shape: shape_of(
-                left_states,
-                left_edges,
-                left_labels,
-                left_present,
-                left_start,
-            ),
-            label_values: left_label_values,
-            offsets: left_offsets,
-            edge_labels: left_edge_labels,
-            edge_targets: left_edge_targets,
-            edge_weights: left_edge_weights,
-        },
-        classes: left_classes,
+    let left_initial = initial_of(left_present, left_start);
+    let left = Wlts {
+        shape: shape_of(left_states, left_edges, left_labels, left_initial),
+        label_values: left_label_values,
+        offsets: left_offsets,
+        edge_labels: left_edge_labels,
+        edge_targets: left_edge_targets,
+        edge_weights: left_edge_weights,
     };
-    let right = Side {
-        model: Wlts {
-            shape: shape_of(
-                right_states,
-                right_edges,
-                right_labels,
-                right_present,
-                right_start,
-            ),
-            label_values: right_label_values,
-            offsets: right_offsets,
-            edge_labels: right_edge_labels,
-            edge_targets: right_edge_targets,
-            edge_weights: right_edge_weights,
-        },
-        classes: right_classes,
+    let right_initial = initial_of(right_present, right_start);
+    let right = Wlts {
+        shape: shape_of(right_states, right_edges, right_labels, right_initial),
+        label_values: right_label_values,
+        offsets: right_offsets,
+        edge_labels: right_edge_labels,
+        edge_targets: right_edge_targets,
+        edge_weights: right_edge_weights,
+    };
+    let sides = Sides {
+        left: side_of(left, left_classes),
+        right: side_of(right, right_classes),
     };
     let tolerances = Tolerances { epsilon, rho };
-    let sides = Sides { left, right };
     code(&relation::epsdelta(&sides, tolerances, relation))
 }
 
@@ -142,53 +128,38 @@ pub extern "C" fn tanqesha_epsdelta_bisimilar(
     related: &mut u32,
 ) -> u32
     ensures { leaves (result ∷ related.new ∷ []) relation.new ≡ judged (bisimilar_outcome
-        (shape left_states left_edges left_labels (initial left_present left_start))
-        (columns left_label_values.now left_offsets.now left_edge_labels.now left_edge_targets.now left_edge_weights.now)
-        (shape right_states right_edges right_labels (initial right_present right_start))
-        (columns right_label_values.now right_offsets.now right_edge_labels.now right_edge_targets.now right_edge_weights.now)
+        (shape left_states left_edges left_labels (initial left_present left_start)) (columns left_label_values.now left_offsets.now left_edge_labels.now left_edge_targets.now left_edge_weights.now)
+        (shape right_states right_edges right_labels (initial right_present right_start)) (columns right_label_values.now right_offsets.now right_edge_labels.now right_edge_targets.now right_edge_weights.now)
         left_classes.now right_classes.now epsilon rho relation.old) related.old }
 {
-    let left = Side {
-        model: Wlts {
-            shape: shape_of(
-                left_states,
-                left_edges,
-                left_labels,
-                left_present,
-                left_start,
-            ),
-            label_values: left_label_values,
-            offsets: left_offsets,
-            edge_labels: left_edge_labels,
-            edge_targets: left_edge_targets,
-            edge_weights: left_edge_weights,
-        },
-        classes: left_classes,
+    let left_initial = initial_of(left_present, left_start);
+    let left = Wlts {
+        shape: shape_of(left_states, left_edges, left_labels, left_initial),
+        label_values: left_label_values,
+        offsets: left_offsets,
+        edge_labels: left_edge_labels,
+        edge_targets: left_edge_targets,
+        edge_weights: left_edge_weights,
     };
-    let right = Side {
-        model: Wlts {
-            shape: shape_of(
-                right_states,
-                right_edges,
-                right_labels,
-                right_present,
-                right_start,
-            ),
-            label_values: right_label_values,
-            offsets: right_offsets,
-            edge_labels: right_edge_labels,
-            edge_targets: right_edge_targets,
-            edge_weights: right_edge_weights,
-        },
-        classes: right_classes,
+    let right_initial = initial_of(right_present, right_start);
+    let right = Wlts {
+        shape: shape_of(right_states, right_edges, right_labels, right_initial),
+        label_values: right_label_values,
+        offsets: right_offsets,
+        edge_labels: right_edge_labels,
+        edge_targets: right_edge_targets,
+        edge_weights: right_edge_weights,
+    };
+    let sides = Sides {
+        left: side_of(left, left_classes),
+        right: side_of(right, right_classes),
     };
     let tolerances = Tolerances { epsilon, rho };
-    let sides = Sides { left, right };
     let answer = epsdelta_bisimilar(&sides, tolerances, relation);
     code(&answers::put(answer.map(u32::from), related))
 }
 
-// The least ε at which the initial states of two models are related, if there is one; the bytes are work space, zero at the end.
+// An ε at which the initial states of two models are related, found by halvings, if they are at ε = 1; the bytes are work space, zero at the end.
 #[unsafe(no_mangle)]
 pub extern "C" fn tanqesha_min_epsilon(
     left_states: usize,
@@ -219,48 +190,32 @@ pub extern "C" fn tanqesha_min_epsilon(
     epsilon: &mut f64,
 ) -> u32
     ensures { leaves (sought result present.new epsilon.new) relation.new ≡ searched (Outcome.outcome
-        (shape left_states left_edges left_labels (initial left_present left_start))
-        (columns left_label_values.now left_offsets.now left_edge_labels.now left_edge_targets.now left_edge_weights.now)
-        (shape right_states right_edges right_labels (initial right_present right_start))
-        (columns right_label_values.now right_offsets.now right_edge_labels.now right_edge_targets.now right_edge_weights.now)
-        left_classes.now right_classes.now
-        rho relation.old) present.old epsilon.old }
+        (shape left_states left_edges left_labels (initial left_present left_start)) (columns left_label_values.now left_offsets.now left_edge_labels.now left_edge_targets.now left_edge_weights.now)
+        (shape right_states right_edges right_labels (initial right_present right_start)) (columns right_label_values.now right_offsets.now right_edge_labels.now right_edge_targets.now right_edge_weights.now)
+        left_classes.now right_classes.now rho relation.old) present.old epsilon.old }
 {
-    let left = Side {
-        model: Wlts {
-            shape: shape_of(
-                left_states,
-                left_edges,
-                left_labels,
-                left_present,
-                left_start,
-            ),
-            label_values: left_label_values,
-            offsets: left_offsets,
-            edge_labels: left_edge_labels,
-            edge_targets: left_edge_targets,
-            edge_weights: left_edge_weights,
-        },
-        classes: left_classes,
+    let left_initial = initial_of(left_present, left_start);
+    let left = Wlts {
+        shape: shape_of(left_states, left_edges, left_labels, left_initial),
+        label_values: left_label_values,
+        offsets: left_offsets,
+        edge_labels: left_edge_labels,
+        edge_targets: left_edge_targets,
+        edge_weights: left_edge_weights,
     };
-    let right = Side {
-        model: Wlts {
-            shape: shape_of(
-                right_states,
-                right_edges,
-                right_labels,
-                right_present,
-                right_start,
-            ),
-            label_values: right_label_values,
-            offsets: right_offsets,
-            edge_labels: right_edge_labels,
-            edge_targets: right_edge_targets,
-            edge_weights: right_edge_weights,
-        },
-        classes: right_classes,
+    let right_initial = initial_of(right_present, right_start);
+    let right = Wlts {
+        shape: shape_of(right_states, right_edges, right_labels, right_initial),
+        label_values: right_label_values,
+        offsets: right_offsets,
+        edge_labels: right_edge_labels,
+        edge_targets: right_edge_targets,
+        edge_weights: right_edge_weights,
     };
-    let sides = Sides { left, right };
+    let sides = Sides {
+        left: side_of(left, left_classes),
+        right: side_of(right, right_classes),
+    };
     let answer = least::min_epsilon(&sides, rho, relation);
     code(&answers::put_option(answer, present, epsilon))
 }

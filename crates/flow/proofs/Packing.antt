@@ -2,6 +2,7 @@
 use mathlib.Core.Path.{◌≡◌, refl, sym, ap, ◌∙◌}
 use Prim.Native.Nat.{ℕ, zero, suc, ◌+◌, ◌≤◌, ◌<◌}
 use mathlib.Core.List.{List, [], ◌∷◌, ◌++◌, map}
+use mathlib.Core.Logic.{◌⊎◌, inl, inr}
 use native.Mathlib.Omega.{arith}
 use native.Mathlib.Numerals.{add-one}
 use native.Mathlib.Nat.{le_of_suc-le-suc, not-suc-le-zero}
@@ -71,6 +72,18 @@ pub caps_none : (ls : List Link) → with_caps ls [] ≡ ls
 unfolding with_caps
 caps_none [] = refl
 caps_none (l ∷ ls) = refl
+
+-- capacities past the links are not put in
+pub caps_cut : (ls : List Link) (cs : List Float) (k : ℕ) → (length ls ≤ k) ⊎ (length cs ≤ k) → with_caps ls (take k cs) ≡ with_caps ls cs
+unfolding with_caps
+caps_cut ls [] zero h = refl
+caps_cut ls [] (suc k) h = refl
+caps_cut [] (x ∷ cs) zero h = refl
+caps_cut [] (x ∷ cs) (suc k) h = refl
+caps_cut (l ∷ ls) (x ∷ cs) zero (inl h) = absurd (not-suc-le-zero h)
+caps_cut (l ∷ ls) (x ∷ cs) zero (inr h) = absurd (not-suc-le-zero h)
+caps_cut (l ∷ ls) (x ∷ cs) (suc k) (inl h) = ap (λ (m : List Link). record { head = l.head; cap = x; cost = l.cost } ∷ m) (caps_cut ls cs k (inl (le_of_suc-le-suc h)))
+caps_cut (l ∷ ls) (x ∷ cs) (suc k) (inr h) = ap (λ (m : List Link). record { head = l.head; cap = x; cost = l.cost } ∷ m) (caps_cut ls cs k (inr (le_of_suc-le-suc h)))
 
 pub caps_length : (ls : List Link) (cs : List Float) → length (with_caps ls cs) ≡ length ls
 unfolding with_caps

@@ -1,12 +1,14 @@
 -- The run over rows that were filled from a network's links is the network's run.
 use mathlib.Core.Path.{◌≡◌, sym, ap, ◌∙◌}
-use Prim.Native.Nat.{ℕ, ◌+◌, ◌≤◌, ◌<◌}
+use Prim.Native.Nat.{ℕ, ◌+◌, ◌≤◌, ◌<◌, min}
 use native.Mathlib.Numerals.{add-one}
 use mathlib.Core.List.{List, ◌++◌, map}
+use mathlib.Core.Logic.{◌⊎◌, inl, inr}
+use Rattle.numbers.proofs.Bools.{lt_or_ge}
 use native.Mathlib.Omega.{arith}
 use borrow.Author.Tests.{le-leb}
 use lib.ListN.{length, get_or, set, take, drop, take-append-drop, length-append, length-map}
-use lib.Seq.{length-take-le, take-take, take_at, drop_at}
+use lib.Seq.{length-take-le, take-length, take_at, drop_at}
 use lib.Ieee.{Float}
 use Rattle.std.specs.Prelude.{Result}
 use Rattle.flow_core.specs.declared.Flow.{Flow}
@@ -15,7 +17,7 @@ use Rattle.flow.specs.declared.network.Link.{Link}
 use Rattle.flow.specs.declared.network.FlowNetwork.{FlowNetwork}
 use Rattle.numbers.specs.Lists.{over}
 use Rattle.flow.specs.Network.{heads_of, caps_of, costs_of, with_caps, with_links, Outcome, ends, flow_through, flown, flow_in}
-use Rattle.flow.proofs.Packing.{past_end, fill, fill_next, fill_taken, fill_dropped, fill_over, front_rows, cap_at, caps_suc, caps_none, caps_with}
+use Rattle.flow.proofs.Packing.{past_end, fill, fill_next, fill_taken, fill_dropped, fill_over, front_rows, cap_at, caps_suc, caps_cut, caps_none, caps_with}
 
 abbrev pub heads_in : List Link → List ℕ → ℕ → List ℕ
 heads_in ls r i = fill (λ (l : Link). l.head) ls r i
@@ -71,25 +73,32 @@ entered_wide ls n h cs {caps} e =
     let a = ap length e ∙ length-append (caps_of n ls) (drop (length (caps_of n ls)) cs) in
     omega arith
 
--- the network while capacities are put back: the first j are those of the row
-abbrev pub PutBack : FlowNetwork → List Float → FlowNetwork → ℕ → Type 0
-PutBack N z N' j = (j ≤ N.count) × (N' ≡ with_links N (with_caps N.links (take j z)))
+-- the network while capacities are kept: the first j are those of the row
+abbrev pub Keeping : FlowNetwork → List Float → FlowNetwork → ℕ → Type 0
+Keeping N z N' j = (j ≤ length z) × (N' ≡ with_links N (with_caps N.links (take j z)))
 
-module _ (N : FlowNetwork) (z : List Float) (few : N.count ≤ length N.links) (wide : N.count ≤ length z) {N' : FlowNetwork} {j : ℕ} (I : PutBack N z N' j) where
-  pub put_on : j < N.count → PutBack N z (with_links N' (set N'.links j (cap_at N'.links z j))) (j + 1)
-  put_on h = (
+pub keep_none : (N : FlowNetwork) (z : List Float) → Keeping N z N 0
+keep_none N z = (omega arith, ap (with_links N) (sym (caps_none N.links)))
+
+module _ (N : FlowNetwork) (z : List Float) {N' : FlowNetwork} {j : ℕ} (I : Keeping N z N' j) where
+  pub keep_on : length z ≤ length N.links → j < length z → Keeping N z (with_links N' (set N'.links j (cap_at N'.links z j))) (j + 1)
+  keep_on few h = (
     omega arith,
     ap (λ (M : FlowNetwork). with_links M (set M.links j (cap_at M.links z j))) I.1
         ∙ ap (with_links N) (caps_suc N.links z j (omega arith) (omega arith))
         ∙ ap (λ (m : ℕ). with_links N (with_caps N.links (take m z))) (sym (add-one j)),
   )
 
--- of a row that is cut behind them
-pub put_cut : (N : FlowNetwork) (z : List Float) {N' : FlowNetwork} {j : ℕ} → PutBack N (take N.count z) N' j → PutBack N z N' j
-put_cut N z {j = j} I = (I.0, I.1 ∙ ap (λ (p : List Float). with_links N (with_caps N.links p)) (take-take j N.count z I.0))
-
-pub put_none : (N : FlowNetwork) (z : List Float) → PutBack N z N 0
-put_none N z = (omega arith, ap (with_links N) (sym (caps_none N.links)))
+-- all are, where z is as much of a list as there are links
+pub keep_all : (N : FlowNetwork) (cs : List Float) (k : ℕ) → k ≡ min (length cs) (length N.links) → {N' : FlowNetwork} {j : ℕ} → Keeping N (take k cs) N' j → length (take k cs) ≤ j → N' ≡ with_links N (with_caps N.links cs)
+keep_all N cs k e {j = j} I h =
+    let u = I.0 in
+    I.1 ∙ ap (λ (p : List Float). with_links N (with_caps N.links p)) (ap (λ (m : ℕ). take m (take k cs)) (let q : j ≡ length (take k cs) = omega arith in q) ∙ take-length (take k cs))
+    ∙ ap (with_links N) (caps_cut N.links cs k (least (lt_or_ge (length N.links) (length cs))))
+  where
+    least : (length N.links < length cs) ⊎ (length cs ≤ length N.links) → (length N.links ≤ k) ⊎ (length cs ≤ k)
+    least (inl l) = inl (omega arith)
+    least (inr g) = inr (omega arith)
 
 module _ (N : FlowNetwork) (s t : ℕ) (hs : List ℕ) (cs ps : List Float) where
   abbrev n : ℕ
@@ -129,17 +138,14 @@ module _ (N : FlowNetwork) (s t : ℕ) (hs : List ℕ) (cs ps : List Float) wher
         ∙ ap (λ (o : Outcome). flown o.answer o.network (over (heads_of n N.links) hs) (over (caps_of n o.network.links) cs) (over (costs_of n N.links) ps)) (run_is r z said)
 
     -- the run, with the rows and the network as the loops leave them
-    pub run_done : (r : Result Flow ℕ) (z : List Float) {heads : List ℕ} {caps costs : List Float} {j : ℕ} {N' : FlowNetwork} → (heads ≡ over (heads_of n N.links) hs) × (caps ≡ over (caps_of n N.links) cs) × (costs ≡ over (costs_of n N.links) ps) → PutBack N z N' j → n ≤ j
+    pub run_done : (r : Result Flow ℕ) (z : List Float) {heads : List ℕ} {caps costs : List Float} {N' : FlowNetwork} → (heads ≡ over (heads_of n N.links) hs) × (caps ≡ over (caps_of n N.links) cs) × (costs ≡ over (costs_of n N.links) ps) → N' ≡ with_links N (with_caps N.links (take n z))
         → (rows.ends r (take n z) ≡ rows.flow_on (take n heads) (take n caps) (take n costs) N.starts N.list N.nodes s t) × (drop n z ≡ drop n caps) → n ≤ length z
         → flown r N' heads z costs ≡ flow_in N hs cs ps s t
-    run_done r z {heads = heads} {caps = caps} {costs = costs} {j = j} {N' = N'} E B hj said h =
-        let v = B.0 in
-        let ej : j ≡ n = omega arith in
+    run_done r z {heads = heads} {caps = caps} {costs = costs} {N' = N'} E en said h =
         let there : n ≤ length N.links = omega arith in
         let eh : heads ≡ heads_in N.links hs n = E.0 ∙ sym (fill_over (λ (l : Link). l.head) N.links hs n there) in
         let ec : caps ≡ caps_in N.links cs n = E.1 ∙ sym (fill_over (λ (l : Link). l.cap) N.links cs n there) in
         let ep : costs ≡ costs_in N.links ps n = E.2 ∙ sym (fill_over (λ (l : Link). l.cost) N.links ps n there) in
-        let en : N' ≡ with_links N (with_caps N.links (take n z)) = B.1 ∙ ap (λ (m : ℕ). with_links N (with_caps N.links (take m z))) ej in
         rw (eh, ep, en) (flow_is r z (rw (← eh, ← ec, ← ep) said) h)
 
 -- the first n capacities after a run that was lent them, and those past them

@@ -1,6 +1,6 @@
 // Networks of links, and the flow run on one that is lent.
 ghost use Rattle.flow.specs.Network as nets;
-ghost use Rattle.flow.specs.Network.{heads_of, caps_of, costs_of, flow_through, flown, flow_in, ClaimedOn, seen, seen_in, bare, made, fits_on, grown, leaves, added};
+ghost use Rattle.flow.specs.Network.{heads_of, caps_of, costs_of, with_caps, with_links, flow_through, flown, flow_in, ClaimedOn, seen, seen_in, bare, made, fits_on, grown, leaves, added};
 ghost use Rattle.flow_theory.proofs.ListRows.{Indexable};
 ghost use Rattle.numbers.specs.Lists.{over};
 ghost use Rattle.numbers.specs.Refuse.{numbered, code};
@@ -113,9 +113,7 @@ pub(crate) fn max_flow_in(
     unpack(&net.links[..n], heads, caps, costs);
     let lent = in_rows(net, heads, costs);
     let answer = rows::max_flow_rows(&Course { net: lent, ends }, &mut caps[..n]);
-    for (j, cap) in caps[..n].iter().enumerate() {
-        net.links[j].cap = *cap;
-    }
+    net.keep_caps(&caps[..n]);
     answer
 }
 
@@ -180,6 +178,16 @@ impl FlowNetwork {
             cost: -edge.cost,
         };
         grow(self)
+    }
+
+    // The first links take these capacities, as many as there are of both.
+    pub fn keep_caps(&mut self, caps: &[f64])
+        ensures { self.new ≡ with_links self.old (with_caps self.old.links caps.now) }
+    {
+        let n = caps.len().min(2176);
+        for (j, cap) in caps[..n].iter().enumerate() {
+            self.links[j].cap = *cap;
+        }
     }
 
     // The maximum flow from source to sink: the links keep the capacities that the run leaves.

@@ -1,23 +1,21 @@
 -- The flow test of two rows that fit: what its start is, and what an answer says of it.
 use mathlib.Core.Path.{◌≡◌, refl, sym, ap, ◌∙◌}
 use Prim.Native.Nat.{ℕ, ◌+◌, ◌*◌}
-use mathlib.Core.Bool.{Bool, true, false, ◌&&◌, true≢false, beq}
+use mathlib.Core.Bool.{Bool, true, false, not, ◌&&◌, true≢false, beq}
 use mathlib.Core.List.{List, []}
 use lib.Dec.{leb}
 use lib.Ieee.{Float, le}
 use lib.ListN.{get_or}
-use Rattle.std.specs.Prelude.{Option, Some, None, IfSome}
-use Rattle.std.specs.Option.{option_eq}
-use Rattle.std.proofs.lemmas.Option.{IfSome_then}
+use Rattle.std.specs.Prelude.{Option, Some, None}
+use Rattle.std.specs.Option.{MatchOption, option_eq}
 use Rattle.numbers.specs.Bits.{bit_at}
 use Rattle.numbers.proofs.Bools.{and_t, and_second}
 use Rattle.flow_theory.specs.Run.{FlowRun}
 use Rattle.epsdelta_theory.specs.Jumps.{Jump, jumps_of}
 use Rattle.epsdelta_theory.specs.Relation.{relation_of, holds}
-use Rattle.epsdelta_theory.specs.FlowTest.{run_between}
 use Rattle.epsdelta_theory.proofs.RowReads.{jumps_at}
 use Rattle.flow_routes.proofs.Crossing.{target_at}
-use Rattle.flow_routes.proofs.Standing.{Rows, holding}
+use Rattle.flow_routes.proofs.Standing.{Rows, holding, flow_of, first_flow}
 use Rattle.flow_routes.proofs.Reaching.{Begins, Told}
 use Rattle.flow_links.specs.Fits.{row_fits, fits}
 use Rattle.flow_links.proofs.LinkWrites.{entry}
@@ -27,7 +25,7 @@ use Rattle.flow_core.proofs.Tests.{lefts, rights, between}
 use Rattle.flow_links.specs.declared.rows.Test.{Test}
 use Rattle.flow_links.specs.Lent.{test_fits}
 use Rattle.flow_direct.specs.Lent as lent
-use Rattle.flow_direct.specs.Reaches.{reaches, test_reaches, at_least}
+use Rattle.flow_direct.specs.Reaches.{reaches, lacks, test_reaches, test_lacks, back_lacks, at_least}
 
 abbrev rows_of : List ℕ → List Float → List ℕ → List Float → ℕ → List ℕ → Rows
 rows_of us vs ts ws n store = record { states = n; relation = relation_of store; ps = jumps_of us vs; pt = jumps_of ts ws }
@@ -53,27 +51,34 @@ module _ (us : List ℕ) (vs : List Float) (ts : List ℕ) (ws : List Float) (n 
         }
 
     -- what is known of rows that fit
-    pub known_reaches : (need : Float) (known : Option Bool) → Told us vs ts ws n store need known → IfSome known (λ passes. passes ≡ reaches us vs ts ws n (relation_of store) need)
-    known_reaches need known T = IfSome_then known T (λ _ E. E (rows_of us vs ts ws n store) begins ∙ ap (λ (b : Bool). b && le need (run_between n (relation_of store) (jumps_of us vs) (jumps_of ts ws)).total) (sym f))
+    pub known_reaches : (need : Float) (known : Option Bool) → Told us vs ts ws n store need known → MatchOption known (lacks us vs ts ws n (relation_of store) need ≡ true) (λ passes. passes ≡ reaches us vs ts ws n (relation_of store) need)
+    known_reaches need (Some _) E = E (rows_of us vs ts ws n store) begins ∙ ap (λ (b : Bool). b && le need (flow_of (rows_of us vs ts ws n store))) (sym f)
+    known_reaches need None E = ap (λ (b : Bool). b && not (le need (first_flow (rows_of us vs ts ws n store)))) f ∙ ap not (E (rows_of us vs ts ws n store) begins)
 
 -- of a test that is lent
-pub known_test : (T : Test) → test_fits T ≡ true → (need : Float) (known : Option Bool) → lent.Told T need known → IfSome known (λ passes. passes ≡ test_reaches T need)
+pub known_test : (T : Test) → test_fits T ≡ true → (need : Float) (known : Option Bool) → lent.Told T need known → MatchOption known (test_lacks T need ≡ true) (λ passes. passes ≡ test_reaches T need)
 known_test T = known_reaches T.left.targets.now T.left.rates.now T.right.targets.now T.right.rates.now T.states T.relation.now
 
 -- what is known to be so
-pub known_true : {x : Bool} (known : Option Bool) → IfSome known (λ passes. passes ≡ x) → true ≡ option_eq beq known (Some true) → x ≡ true
-known_true (Some true) e z = sym e
-known_true (Some false) e z = absurd (true≢false z)
-known_true None e z = absurd (true≢false z)
+pub known_true : (Q : Type 0) {x : Bool} (known : Option Bool) → MatchOption known Q (λ passes. passes ≡ x) → true ≡ option_eq beq known (Some true) → x ≡ true
+known_true Q (Some true) e z = sym e
+known_true Q (Some false) e z = absurd (true≢false z)
+known_true Q None e z = absurd (true≢false z)
 
 -- ---- both ways
 
 -- rows that fit one way fit the other
-pub fits_back : (us : List ℕ) (vs : List Float) (ts : List ℕ) (ws : List Float) (n : ℕ) → fits us vs ts ws n ≡ true → fits ts ws us vs n ≡ true
+fits_back : (us : List ℕ) (vs : List Float) (ts : List ℕ) (ws : List Float) (n : ℕ) → fits us vs ts ws n ≡ true → fits ts ws us vs n ≡ true
 fits_back us vs ts ws n f =
     let (a, r) = and_t (leb n 2000) (row_fits us vs && row_fits ts ws) f in
     let (b, d) = and_t (row_fits us vs) (row_fits ts ws) r in
     sym (and_second (leb n 2000) (row_fits ts ws && row_fits us vs) true a (and_second (row_fits ts ws) (row_fits us vs) true d (sym b)))
+
+-- of the test back
+pub known_back : (T U : Test) → (U.left ≡ T.right) × (U.right ≡ T.left) × (U.states ≡ T.states) × (U.relation ≡ T.relation) → test_fits T ≡ true → (need : Float) (known : Option Bool) → lent.Told U need known
+    → MatchOption known (back_lacks T need ≡ true) (λ passes. passes ≡ reaches T.right.targets.now T.right.rates.now T.left.targets.now T.left.rates.now T.states (relation_of T.relation.now) need)
+known_back T U (l, r, n, b) f need known t =
+    known_reaches T.right.targets.now T.right.rates.now T.left.targets.now T.left.rates.now T.states T.relation.now (fits_back T.left.targets.now T.left.rates.now T.right.targets.now T.right.rates.now T.states f) need known (rw (l, r, n, b) at t)
 
 -- what an answer says
 pub answer_reaches : (need : Float) (b : Bool) (r : FlowRun) → at_least need (settled b r []).answer ≡ (b && le need r.total)

@@ -1,12 +1,13 @@
 // Whether the flow of a flow test is enough.
-ghost use Rattle.std.specs.Prelude.{◌≡◌, true, ℕ, ◌≤◌, ◌<◌, ◌*◌, length, get_or, Float, Option, IfSome};
+ghost use Rattle.std.specs.Prelude.{◌≡◌, true, ℕ, ◌≤◌, ◌<◌, ◌*◌, length, get_or, Float, Option};
+ghost use Rattle.std.specs.Option.{MatchOption};
 ghost use Rattle.std.specs.Float.{nan};
 ghost use Rattle.numbers.specs.Real.{nought};
 ghost use Rattle.numbers.specs.Refuse.{numbered};
 ghost use Rattle.flow_links.specs.Lent.{test_fits};
 ghost use Rattle.flow_links.proofs.Fitting.{TestFit};
 ghost use Rattle.flow_direct.specs.Lent.{Told};
-ghost use Rattle.flow_direct.specs.Reaches.{at_least, test_reaches, Known};
+ghost use Rattle.flow_direct.specs.Reaches.{at_least, test_reaches, test_lacks, Known};
 
 use crate::give::Rest;
 use crate::search::{Labels, Search};
@@ -75,10 +76,10 @@ fn reach(test: &Test, need: f64) -> Option<bool>
     reach_in_room::<961>(test, need)
 }
 
-// Whether the flow of a flow test is at least what is needed, where that is known without a network.
+// Whether the flow of a flow test is at least what is needed, where that is known without a network. It is known where the flow after the first phase of the run is enough.
 // It is not enough where a row has over 31 targets, or not one rate from 0 to 2^40 for each, or where the relation is over more than 2,000 states.
 pub fn verdict(test: &Test, need: f64) -> Option<bool>
-    ensures { IfSome result (λ passes. passes ≡ test_reaches test.now need) }
+    ensures { MatchOption result (test_lacks test.now need ≡ true) (λ passes. passes ≡ test_reaches test.now need) }
 {
     if !test.fits() {
         return Some(false);
@@ -87,6 +88,7 @@ pub fn verdict(test: &Test, need: f64) -> Option<bool>
 }
 
 // What is known without a network of a flow test and the one back: whether both pass; or that the flow of the first is at least what is called plenty, if any is; or that the first passes, and no more; or nothing.
+// Where nothing is known, the flow of the first is not enough after the first phase of its run; where no more than that the first passes, the flow back is not.
 #[derive(Clone, Copy, Debug, PartialEq, Eq)]
 pub enum Ways {
     Both(bool),

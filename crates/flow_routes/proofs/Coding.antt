@@ -16,7 +16,7 @@ use Rattle.numbers.specs.Choice.{smaller}
 use Rattle.numbers.proofs.Bools.{eq_or_ne}
 use Rattle.flow_routes.proofs.Labelled.{entry_low}
 use Rattle.flow_routes.proofs.Standing.{Rows, holding, Standing}
-use Rattle.flow_routes.proofs.Giving.{Cursor, cursor_skips, cursor_turns, gives, cursor_gives}
+use Rattle.flow_routes.proofs.Giving.{Cursor, First, cursor_skips, cursor_turns, gives, cursor_gives}
 use Rattle.flow_routes.proofs.Ways.{LeftAt, ForthAt, BackAt, Trace}
 
 -- the flow test that the lists are of: targets us and ts, and the bits of a relation over n states
@@ -103,7 +103,7 @@ shut_on {f} {k} {B} h l x = record { at = λ q m. ap (lt eps) (get_or-set_other 
 -- from the state A₀ B₀ F₀ t₀ with the turn at i₀ to the state A B F t with the turn at i and k
 pub record Giving (us ts : List ℕ) (n : ℕ) (store : List ℕ) (A₀ B₀ F₀ : List Float) (t₀ : Float) (i₀ : ℕ) (A B F : List Float) (t : Float) (i k : ℕ) : Type 0 where
   pub sized : Sized A₀ B₀ F₀ A B F
-  pub state : (G : Rows) → Reads G us ts n store → Standing G A₀ B₀ F₀ t₀ → Cursor G A₀ B₀ i₀ 0 → Standing G A B F t × Cursor G A B i k
+  pub state : (G : Rows) → Reads G us ts n store → First G A₀ B₀ F₀ t₀ → Cursor G A₀ B₀ i₀ 0 → First G A B F t × Cursor G A B i k
 
 module _ {us ts : List ℕ} {n : ℕ} {store : List ℕ} {A₀ B₀ F₀ : List Float} {t₀ : Float} {i₀ : ℕ} {A B F : List Float} {t : Float} {i k : ℕ} (I : Giving us ts n store A₀ B₀ F₀ t₀ i₀ A B F t i k) where
   -- nothing is left of k

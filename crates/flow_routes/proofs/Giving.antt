@@ -1,6 +1,6 @@
 -- The pushes of the first phase: each target i of s in turn gives to each target k of t in turn that is held with it, as much as both have left. Each is the push of the definition's run.
-use mathlib.Core.Path.{◌≡◌, refl, sym, ap, subst, ◌∙◌}
-use Prim.Native.Nat.{ℕ, ◌≤◌, ◌<◌, ◌+◌, ◌*◌}
+use mathlib.Core.Path.{◌≡◌, refl, sym, ap, subst, subst⁻¹, ◌∙◌}
+use Prim.Native.Nat.{ℕ, suc, ◌≤◌, ◌<◌, ◌+◌, ◌*◌}
 use mathlib.Core.Bool.{Bool, true, false, ◌&&◌, cond, true≢false}
 use mathlib.Core.Logic.{◌≢◌, ◌⊎◌, inl, inr}
 use mathlib.Core.List.{List, [], ◌∷◌}
@@ -14,19 +14,27 @@ use Rattle.numbers.specs.Real.{eps}
 use Rattle.numbers.specs.Choice.{smaller}
 use Rattle.numbers.proofs.Bools.{and_t, eq_or_ne}
 use Rattle.numbers.proofs.Floats.{Plain}
+use Rattle.flow_theory.specs.Network.{nodes, left}
 use Rattle.flow_theory.specs.Augment.{least, push_path}
-use Rattle.flow_routes.proofs.Shortest.{Route}
-use Rattle.flow_routes.proofs.Underway.{Underway, underway_pushes}
+use Rattle.flow_routes.proofs.Shortest.{Bounding, Route}
+use Rattle.flow_theory.proofs.Links.{Caps}
+use Rattle.flow_routes.proofs.Underway.{Underway, underway_pushes, Opening, opening_pushes, opening_over, opening_none}
 use Rattle.flow_routes.proofs.Growth.{flow_grows}
-use Rattle.flow_routes.proofs.Numbered.{source_link, sink_link, cross_link, source_head, cross_head}
-use Rattle.flow_routes.proofs.Labelled.{Mapped, Labels, dist, push_source, push_sink, push_cross}
+use Rattle.flow_routes.proofs.Numbered.{source_link, sink_link, cross_link, cross_back_cap, source_head, cross_head}
+use Rattle.flow_routes.proofs.Labelled.{Mapped, Labels, dist, dist_source, none_above, push_source, push_sink, push_cross}
 use Rattle.flow_routes.proofs.Tight.{bounding, first_source, first_left, ends_route, longer_route}
-use Rattle.flow_routes.proofs.Standing.{Rows, net, holding, flow_of, Standing, source_plain, smaller_plain, smaller_above, smaller_spends, least_first, least_over, least_next, least_none}
+use Rattle.flow_routes.proofs.Standing.{Rows, net, holding, flow_of, caps_of, first_flow, Standing, source_plain, smaller_plain, smaller_above, smaller_spends, least_first, least_over, least_next, least_none}
 
 -- the turn is at i and k: no earlier pair that is held has something left on both sides
 pub record Cursor (G : Rows) (A B : List Float) (i k : ℕ) : Type 0 where
   pub rows : (j q : ℕ) → j < i → j < length G.ps → q < length G.pt → holding G j q ≡ true → lt eps (get_or A j nan) ≡ true → lt eps (get_or B q nan) ≡ false
   pub row : (q : ℕ) → q < k → q < length G.pt → holding G i q ≡ true → lt eps (get_or A i nan) ≡ true → lt eps (get_or B q nan) ≡ false
+
+-- the same before the run's second phase, whose paths have more links than the 3 of the first
+pub record First (G : Rows) (A B F : List Float) (t : Float) : Type 0 where
+  pub standing : Standing G A B F t
+  pub caps : Caps (net G) (caps_of G)
+  pub opening : Opening standing.good (caps_of G) 3 t standing.caps
 
 -- labels that fit: 2 for what can give or take no more
 abbrev left_label : List Float → ℕ → ℕ → ℕ
@@ -86,7 +94,10 @@ module _ {G : Rows} {A B : List Float} {i k : ℕ} (K : Cursor G A B i k) where
           K.row q (omega arith) g (ap (λ (x : ℕ). holding G x q) (sym e) ∙ t) u
       pick j q l h g t o (inr d) = K.rows j q (omega arith) h g t o
 
-  module _ {F : List Float} {t : Float} (S : Standing G A B F t) (hi : i < length G.ps) (hk : k < length G.pt) (u : holding G i k ≡ true) (oa : lt eps (get_or A i nan) ≡ true) (ob : lt eps (get_or B k nan) ≡ true) where
+  module _ {F : List Float} {t : Float} (X : First G A B F t) (hi : i < length G.ps) (hk : k < length G.pt) (u : holding G i k ≡ true) (oa : lt eps (get_or A i nan) ≡ true) (ob : lt eps (get_or B k nan) ≡ true) where
+    abbrev S : Standing G A B F t
+    S = X.standing
+
     abbrev x : Float
     x = smaller (get_or A i nan) (get_or B k nan)
 
@@ -152,20 +163,33 @@ module _ {G : Rows} {A B : List Float} {i k : ℕ} (K : Cursor G A B i k) where
     abbrev F' : List Float
     F' = set F (i * length G.pt + k) (add binary64 (get_or F (i * length G.pt + k) nan) x)
 
+    far : D (length G.ps + length G.pt) ≡ 3
+    far = dist_source G.states G.relation G.ps G.pt (λ j. left_label A i j) (λ q. right_label B q) 1 (length G.ps + length G.pt) refl
+
+    opened : Opening S.good (caps_of G) 3 (add binary64 t x) (push_path x p S.caps)
+    opened =
+        subst (λ (y : Float). Opening S.good (caps_of G) 3 (add binary64 t y) (push_path y p S.caps)) amount
+        (subst (λ (d : ℕ). Opening S.good (caps_of G) d (add binary64 t (least S.caps (inf false) p)) (push_path (least S.caps (inf false) p) p S.caps)) far
+        (opening_pushes S.good X.caps D (bounding G.states G.relation G.ps G.pt S.mapped (first_labels F)) S.rising p route (subst⁻¹ (λ (d : ℕ). Opening S.good (caps_of G) d t S.caps) far X.opening)))
+
     moved : Mapped G.states G.relation G.ps G.pt (push_path x p S.caps) A' B' F'
     unfolding push_path
     moved =
         push_sink G.states G.relation G.ps G.pt
         (push_cross G.states G.relation G.ps G.pt (push_source G.states G.relation G.ps G.pt S.mapped x x_plain i hi) x x_plain i k hi hk u) x x_plain k hk
 
-    pub gives : Standing G A' B' F' (add binary64 t x)
+    pub gives : First G A' B' F' (add binary64 t x)
     gives = record {
-      good = S.good;
-      rising = S.rising;
-      caps = push_path x p S.caps;
-      flow = (flow_grows t x S.flow (smaller_above (get_or A i nan) (get_or B k nan) oa ob)).0;
-      underway = pushed;
-      mapped = moved;
+      standing = record {
+        good = S.good;
+        rising = S.rising;
+        caps = push_path x p S.caps;
+        flow = (flow_grows t x S.flow (smaller_above (get_or A i nan) (get_or B k nan) oa ob)).0;
+        underway = pushed;
+        mapped = moved;
+      };
+      caps = X.caps;
+      opening = opened;
     }
 
     left_same : get_or A' i nan ≡ sub binary64 (get_or A i nan) x
@@ -201,3 +225,50 @@ module _ {G : Rows} {A B : List Float} {i k : ℕ} (K : Cursor G A B i k) where
 
 pub cursor_starts : {G : Rows} {A B : List Float} → Cursor G A B 0 0
 cursor_starts = record { rows = λ j q l h g t o. absurd (omega arith); row = λ q l h t o. absurd (omega arith) }
+
+-- ---- all first pushes are made: the flow is that of the run's first phase
+
+-- labels that fit then: any n for what can give or take no more, 2 where something can be taken back
+spent_labels : {G : Rows} {A B : List Float} {i : ℕ} → Cursor G A B i 0 → length G.ps ≤ i → (F : List Float) (n : ℕ) → 1 ≤ n → ((j q : ℕ) → j < length G.ps → q < length G.pt → holding G j q ≡ true → lt eps (get_or F (j * length G.pt + q) nan) ≡ true → n ≤ 2)
+    → Labels G.states G.relation G.ps G.pt A B F (λ j. cond (lt eps (get_or A j nan)) n 1) (λ q. cond (lt eps (get_or B q nan)) 1 n) n
+spent_labels {G} {A} {B} K done F n some back = record {
+  source = λ j h o. rw o (omega arith);
+  sink = λ q h o. rw o (omega arith);
+  forth = λ j q h g t. forth j q h g t (lt eps (get_or A j nan)) refl;
+  back = λ j q h g t o. let e = back j q h g t o in let a = (high (lt eps (get_or A j nan))).0 in let b = (low (lt eps (get_or B q nan))).1 in omega arith;
+  low = λ j h. let a = (high (lt eps (get_or A j nan))).1 in omega arith;
+  least = λ j h. (high (lt eps (get_or A j nan))).0;
+  some = λ q h. (low (lt eps (get_or B q nan))).0;
+}
+  where
+    high : (b : Bool) → (1 ≤ cond b n 1) × (cond b n 1 ≤ n)
+    high true = (omega arith, omega arith)
+    high false = (omega arith, omega arith)
+
+    low : (b : Bool) → (1 ≤ cond b 1 n) × (cond b 1 n ≤ n)
+    low true = (omega arith, omega arith)
+    low false = (omega arith, omega arith)
+
+    forth : (j q : ℕ) → j < length G.ps → q < length G.pt → holding G j q ≡ true → (b : Bool) → lt eps (get_or A j nan) ≡ b → cond b n 1 ≤ cond (lt eps (get_or B q nan)) 1 n
+    forth j q h g t true e = rw (K.rows j q (omega arith) h g t e) (omega arith)
+    forth j q h g t false e = (low (lt eps (get_or B q nan))).0
+
+pub first_phase : {G : Rows} {A B F : List Float} {t : Float} {i : ℕ} → First G A B F t → Cursor G A B i 0 → length G.ps ≤ i → first_flow G ≡ t
+first_phase {G} {A} {B} {F} {t} X K done = pick X.opening
+  where
+    pick : Opening X.standing.good (caps_of G) 3 t X.standing.caps → first_flow G ≡ t
+    pick (inl (z, e)) =
+        let n = nodes (net G) in
+        opening_none X.standing.good X.caps (dist G.states G.relation G.ps G.pt (λ j. cond (lt eps (get_or A j nan)) n 1) (λ q. cond (lt eps (get_or B q nan)) 1 n) n)
+        (subst (λ (c : List Float). Bounding (net G) c (dist G.states G.relation G.ps G.pt (λ j. cond (lt eps (get_or A j nan)) n 1) (λ q. cond (lt eps (get_or B q nan)) 1 n) n)) e
+        (bounding G.states G.relation G.ps G.pt X.standing.mapped (spent_labels K done F n (omega arith) (λ j q h g u o. absurd (true≢false (sym o ∙ untaken j q h g u e))))))
+        (let f = dist_source G.states G.relation G.ps G.pt (λ j. cond (lt eps (get_or A j nan)) n 1) (λ q. cond (lt eps (get_or B q nan)) 1 n) n (length G.ps + length G.pt) refl in omega arith)
+        ∙ sym z
+      where
+        untaken : (j q : ℕ) → j < length G.ps → q < length G.pt → holding G j q ≡ true → X.standing.caps ≡ caps_of G → lt eps (get_or F (j * length G.pt + q) nan) ≡ false
+        untaken j q h g u e =
+            ap (lt eps) (sym (X.standing.mapped.back j q h g u) ∙ ap (λ (c : List Float). left c (suc (cross_link G.states G.relation G.ps G.pt j q))) e ∙ cross_back_cap G.states G.relation G.ps G.pt j q h g u) ∙ none_above
+    pick (inr (I, b, l)) =
+        opening_over X.standing.good X.caps (dist G.states G.relation G.ps G.pt (λ j. cond (lt eps (get_or A j nan)) 2 1) (λ q. cond (lt eps (get_or B q nan)) 1 2) 2)
+        (bounding G.states G.relation G.ps G.pt X.standing.mapped (spent_labels K done F 2 (omega arith) (λ j q h g u o. omega arith))) X.standing.rising I b
+        (let f = dist_source G.states G.relation G.ps G.pt (λ j. cond (lt eps (get_or A j nan)) 2 1) (λ q. cond (lt eps (get_or B q nan)) 1 2) 2 (length G.ps + length G.pt) refl in omega arith)

@@ -45,7 +45,7 @@ inf_more (inf s) p = absurd p
 inf_more (fin true n e) p = absurd p
 inf_more (fin false n e) p = refl
 
-none_above : lt eps nought ≡ false
+pub none_above : lt eps nought ≡ false
 unfolding lt of_bits of_fields
 none_above = refl
 

@@ -1,12 +1,14 @@
 -- Words of private contracts: one try of the search for a flow that is enough, its first labels, and its start from the rates of two rows.
-use mathlib.Core.Path.{◌≡◌, refl, sym, subst⁻¹, ◌∙◌}
+use mathlib.Core.Path.{◌≡◌, refl, sym, ap, subst⁻¹, ◌∙◌}
+use mathlib.Core.Logic.{inl}
 use Prim.Native.Nat.{ℕ, ◌≤◌, ◌<◌, ◌*◌}
 use mathlib.Core.Bool.{Bool, true, false, cond}
 use mathlib.Core.List.{List}
 use native.Mathlib.Omega.{arith}
 use lib.ListN.{length, get_or}
 use lib.Ieee.{Float, nan, binary64, lt, le, add}
-use Rattle.std.specs.Prelude.{Option, Some, IfSome}
+use Rattle.std.specs.Prelude.{Option, Some, None, IfSome}
+use Rattle.std.specs.Option.{MatchOption}
 use Rattle.std.specs.declared.ops.ControlFlow.{ControlFlow}
 use Rattle.std.specs.declared.ops.ControlFlow.TheVariants.{Continue, Break}
 use Rattle.std.proofs.lemmas.Option.{IfSome_then}
@@ -22,8 +24,8 @@ use Rattle.flow_routes.proofs.Underway.{run_underway}
 use Rattle.flow_routes.proofs.Growth.{flow_starts}
 use Rattle.flow_routes.proofs.Crossing.{rate_at}
 use Rattle.flow_routes.proofs.Labelled.{mapped_first}
-use Rattle.flow_routes.proofs.Standing.{Rows, net, holding, flow_of, Standing, Labelled, enough}
-use Rattle.flow_routes.proofs.Giving.{Cursor, cursor_starts}
+use Rattle.flow_routes.proofs.Standing.{Rows, net, holding, flow_of, first_flow, Standing, Labelled, enough}
+use Rattle.flow_routes.proofs.Giving.{Cursor, First, cursor_starts, first_phase}
 use Rattle.flow_routes.proofs.Coding.{Reads, Room, StartsAt, Giving}
 use Rattle.flow_routes.proofs.Pathing.{Stepped, Settling, Settled, settling_stays, settling_pushes, settled_yes, settled_no}
 
@@ -123,14 +125,15 @@ pub record Begins (G : Rows) (us : List ℕ) (vs : List Float) (ts : List ℕ) (
   pub left : (i : ℕ) → rate_at G.ps i ≡ get_or vs i nan
   pub right : (k : ℕ) → rate_at G.pt k ≡ get_or ws k nan
 
--- what is said of it, if anything is known
+-- what is said of it: nothing is known only where the first phase is not enough
 abbrev pub Told : List ℕ → List Float → List ℕ → List Float → ℕ → List ℕ → Float → Option Bool → Type 0
-Told us vs ts ws n store need known = IfSome known (λ passes. (G : Rows) → Begins G us vs ts ws n store → passes ≡ le need (flow_of G))
+Told us vs ts ws n store need known =
+    MatchOption known ((G : Rows) → Begins G us vs ts ws n store → le need (first_flow G) ≡ false) (λ passes. (G : Rows) → Begins G us vs ts ws n store → passes ≡ le need (flow_of G))
 
 module _ {us : List ℕ} (vs : List Float) {ts : List ℕ} (ws : List Float) {n : ℕ} {A B F : List Float} (R : Room us ts n A B F) (ev : length vs ≡ length us) (ew : length ws ≡ length ts) (fa : (i : ℕ) → i < length vs → get_or A i nan ≡ get_or vs i nan)
     (fb : (k : ℕ) → k < length ws → get_or B k nan ≡ get_or ws k nan) (ff : (j : ℕ) → j < length F → get_or F j nan ≡ nought) where
-  first_standing : {store : List ℕ} {G : Rows} → Begins G us vs ts ws n store → Standing G A B F nought
-  first_standing {store} {G} K =
+  first_state : {store : List ℕ} {G : Rows} → Begins G us vs ts ws n store → First G A B F nought
+  first_state {store} {G} K =
       let c = caps (links_of G.states G.relation G.ps G.pt) in
       let m = length (links_of G.states G.relation G.ps G.pt) in
       let good = accepted_good (net G) c m K.accepted in
@@ -139,20 +142,26 @@ module _ {us : List ℕ} (vs : List Float) {ts : List ℕ} (ws : List Float) {n 
       let ra = R.size_a in
       let rb = R.size_b in
       let rf : length G.ps * length G.pt ≤ length F = rw (a, b) R.room_f in
+      let caps_in = accepted_caps (net G) c m K.accepted in
       record {
-        good = good;
-        rising = out_rising (net G) K.accepted.lists;
-        caps = c;
-        flow = flow_starts;
-        underway = run_underway good c (accepted_caps (net G) c m K.accepted);
-        mapped = mapped_first G.states G.relation G.ps G.pt A B F (omega arith) (omega arith) rf (λ i h. fa i (omega arith) ∙ sym (K.left i)) (λ k h. fb k (omega arith) ∙ sym (K.right k)) (λ j h. ff j (omega arith));
+        standing = record {
+          good = good;
+          rising = out_rising (net G) K.accepted.lists;
+          caps = c;
+          flow = flow_starts;
+          underway = run_underway good c caps_in;
+          mapped = mapped_first G.states G.relation G.ps G.pt A B F (omega arith) (omega arith) rf (λ i h. fa i (omega arith) ∙ sym (K.left i)) (λ k h. fb k (omega arith) ∙ sym (K.right k)) (λ j h. ff j (omega arith));
+        };
+        caps = caps_in;
+        opening = inl (refl, refl);
       }
 
   module _ {store : List ℕ} {A' B' F' : List Float} {t : Float} {i : ℕ} (I : Giving us ts n store A B F nought 0 A' B' F' t i 0) (need : Float) where
     -- the first pushes are enough
     pub told_first : le need t ≡ true → Told us vs ts ws n store need (Some true)
-    told_first h G K = sym (enough (I.state G K.reads (first_standing K) cursor_starts).0 need h)
+    told_first h G K = sym (enough (I.state G K.reads (first_state K) cursor_starts).0.standing need h)
 
     -- all first pushes are made, and the search says whether
     pub told_search : le need t ≡ false → (le need t ≡ false → length us ≤ i) → (known : Option Bool) → Searched us ts n store need A' B' F' t known → Told us vs ts ws n store need known
-    told_search h done known D = IfSome_then known D (λ _ E G K. let (X, Y) = I.state G K.reads (first_standing K) cursor_starts in E h G K.reads X i Y (done h))
+    told_search h done (Some _) E = λ G K. let (X, Y) = I.state G K.reads (first_state K) cursor_starts in E h G K.reads X.standing i Y (done h)
+    told_search h done None D = λ G K. let (X, Y) = I.state G K.reads (first_state K) cursor_starts in ap (le need) (first_phase X Y (let e = K.reads.lefts in let d = done h in omega arith)) ∙ h

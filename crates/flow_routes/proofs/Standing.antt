@@ -14,11 +14,12 @@ use Rattle.numbers.proofs.Bools.{eq_or_ne}
 use Rattle.numbers.proofs.Floats.{Plain}
 use Rattle.flow_theory.specs.Network.{Net, out, left}
 use Rattle.flow_theory.specs.Augment.{least}
+use Rattle.flow_theory.specs.Run.{run, start}
 use Rattle.flow_theory.proofs.Links.{WellFormed}
 use Rattle.flow_theory.proofs.Floats.{above_low, sub_self}
 use Rattle.flow_theory.proofs.Pushes.{plain_next, plain_below}
 use Rattle.epsdelta_theory.specs.Jumps.{Jump}
-use Rattle.epsdelta_theory.specs.FlowTest.{network_between, run_between}
+use Rattle.epsdelta_theory.specs.FlowTest.{links_of, caps, network_between, run_between}
 use Rattle.epsdelta_theory.proofs.Pairs.{same_entry, pair_cases}
 use Rattle.flow_routes.proofs.Rising.{Rising}
 use Rattle.flow_routes.proofs.Underway.{Underway, underway_caps}
@@ -43,6 +44,14 @@ holding G i k = held G.states G.relation G.ps G.pt i k
 -- the flow at the end of the run
 abbrev pub flow_of : Rows → Float
 flow_of G = (run_between G.states G.relation G.ps G.pt).total
+
+-- the capacities at first
+abbrev pub caps_of : Rows → List Float
+caps_of G = caps (links_of G.states G.relation G.ps G.pt)
+
+-- the flow after its first phase
+abbrev pub first_flow : Rows → Float
+first_flow G = (run (net G) 1 (start (caps_of G))).total
 
 -- A, B and F hold what is left, and the flow is t so far
 pub record Standing (G : Rows) (A B F : List Float) (t : Float) : Type 0 where

@@ -1,6 +1,6 @@
 -- A run on its way, push by push: each push is along the first of the shortest paths, and which phase it falls into does not show.
 use mathlib.Core.Path.{◌≡◌, refl, sym, ap, subst, subst⁻¹, ◌∙◌}
-use Prim.Native.Nat.{ℕ, zero, suc, ◌≤◌, ◌+◌}
+use Prim.Native.Nat.{ℕ, zero, suc, ◌≤◌, ◌<◌, ◌+◌}
 use mathlib.Core.Bool.{true, false}
 use mathlib.Core.Logic.{◌≢◌, ◌⊎◌, inl, inr}
 use mathlib.Core.List.{List, [], ◌∷◌, reverse}
@@ -14,7 +14,7 @@ use Rattle.numbers.proofs.Comparisons.{not_small, nought_small}
 use Rattle.flow_theory.specs.Network.{Net, nodes, links, head, tail, out, residual}
 use Rattle.flow_theory.specs.Levels.{unset, level_of, levels}
 use Rattle.flow_theory.specs.Augment.{Walk, Walked, reached, blocked, walk, walk_fuel, Pushed, push, augment, least, push_path}
-use Rattle.flow_theory.specs.Run.{PhaseState, push_counted, no_push, blocking_flow, phase, Phase, FlowRun, after_phase, at_end, run, max_flow}
+use Rattle.flow_theory.specs.Run.{PhaseState, push_counted, no_push, blocking_flow, phase, Phase, FlowRun, after_phase, at_end, run, start, max_flow}
 use Rattle.flow_theory.proofs.Links.{HasLevel, WellFormed, Caps}
 use Rattle.flow_theory.proofs.Levels.{Levels, levels_ok, Pred}
 use Rattle.flow_theory.proofs.Paths.{Ended, Walks, walk_ok, rests_le}
@@ -88,11 +88,11 @@ module _ {N : Net} (G : WellFormed N) where
 
   module _ {T t : Float} {c : List Float} where
     -- a phase begins where the levels reach the sink
-    opens : Between N G T t c → HasLevel (levels N c) N.sink → (W : Within N G T t c) × (W.before.cap ≡ c)
+    opens : (I : Between N G T t c) → HasLevel (levels N c) N.sink → (W : Within N G T t c) × (W.before ≡ run_now t c I.level I.phases)
     unfolding phase
     opens I h = pick I.fuel I.running I.same
       where
-        pick : (k : ℕ) → Running N G (run_now t c I.level I.phases) k → (run N k (run_now t c I.level I.phases)).total ≡ T → (W : Within N G T t c) × (W.before.cap ≡ c)
+        pick : (k : ℕ) → Running N G (run_now t c I.level I.phases) k → (run N k (run_now t c I.level I.phases)).total ≡ T → (W : Within N G T t c) × (W.before ≡ run_now t c I.level I.phases)
         pick zero J e = let f = J.fuel in let l = J.low in absurd (omega arith)
         pick (suc k) J e = (
           record {
@@ -204,33 +204,38 @@ module _ {N : Net} (G : WellFormed N) where
         gives = subst⁻¹ (λ (l : List ℕ). Pushes N L c (push_path (least c (inf false) l) l c) (least c (inf false) l)) is
             (path_push N G c I.phasing.caps L base.src nx q (subst (Ended N c L) some ended).2)
 
-        pub goes_on : Within N G T (add binary64 t x) d
+        pub goes_on : (W : Within N G T (add binary64 t x) d) × (W.before ≡ I.before)
         unfolding push_counted
         goes_on =
             let (j, P, e) = spare in
             let r : Pushed = record { amount = x; cap = d; next = nx } in
-            let z = subst (Ended N c L) some ended in
-            record {
-              before = I.before;
-              fuel = I.fuel;
-              running = I.running;
-              reaches = I.reaches;
-              same = I.same;
-              next = nx;
-              pushes = suc I.pushes;
-              rest = j;
-              phasing = gained N G I.before.cap L base j state r P gives z.0 z.1;
-              ends = ap (λ (y : Pushed). blocking_flow N L j (push_counted state y)) (sym pushed_some)
-                  ∙ sym (blocking_flow_more N L j state (ap (λ (y : Pushed). le y.amount eps) pushed_some ∙ not_small x gives.amount)) ∙ e;
-            }
+            let z = subst (Ended N c L) some ended in (
+              record {
+                before = I.before;
+                fuel = I.fuel;
+                running = I.running;
+                reaches = I.reaches;
+                same = I.same;
+                next = nx;
+                pushes = suc I.pushes;
+                rest = j;
+                phasing = gained N G I.before.cap L base j state r P gives z.0 z.1;
+                ends = ap (λ (y : Pushed). blocking_flow N L j (push_counted state y)) (sym pushed_some)
+                    ∙ sym (blocking_flow_more N L j state (ap (λ (y : Pushed). le y.amount eps) pushed_some ∙ not_small x gives.amount)) ∙ e;
+              },
+              refl,
+            )
 
     module _ (rising : (u : ℕ) → Rising (out N u)) (D : ℕ → ℕ) (S : Bounding N c D) (p : List ℕ) (R : Route N c D N.source p) where
-      level_pushes : (I : Within N G T t c) → level_of (levels N I.before.cap) N.sink ≡ D N.source → Further N G T t c p
+      -- within its phase, if the sink is as far there as D says
+      level_pushes : (I : Within N G T t c) → level_of (levels N I.before.cap) N.sink ≡ D N.source → (W : Within N G T (add binary64 t (least c (inf false) p)) (push_path (least c (inf false) p) p c)) × (W.before ≡ I.before)
       level_pushes I z =
           let (q, nx, e, is) = finds N G rising (base I) I.phasing.valid I.phasing.caps D S p R z (found I) (ended I) in
-          inr (goes_on I q nx p e is)
+          goes_on I q nx p e is
 
-      opens_pushes : Between N G T t c → Further N G T t c p
+      -- in a new phase, whose sink is
+      opens_pushes : (I : Between N G T t c) → (level_of (levels N c) N.sink ≡ D N.source)
+          × (W : Within N G T (add binary64 t (least c (inf false) p)) (push_path (least c (inf false) p) p c)) × (W.before ≡ run_now t c I.level I.phases)
       opens_pushes I =
           let C = I.running.caps in
           let B = levels_ok N G c C in
@@ -240,12 +245,14 @@ module _ {N : Net} (G : WellFormed N) where
           let (h, l) = route_level N G rising B (λ e r. inl r) C D p N.source R (omega arith) in
           let b = levels_bound C D S (level_of (levels N c) N.sink) N.sink refl h in
           let s = S.sink in
+          let z : level_of (levels N c) N.sink ≡ D N.source = omega arith in
           let (W, e) = opens I h in
-          level_pushes W (ap (λ (x : List Float). level_of (levels N x) N.sink) e ∙ (omega arith))
+          let (V, f) = level_pushes W (ap (λ (r : FlowRun). level_of (levels N r.cap) N.sink) e ∙ z) in
+          (z, V, f ∙ e)
 
       -- one push more, along a route by D
       pub underway_pushes : Underway N G T t c → Further N G T t c p
-      underway_pushes (inl I) = opens_pushes I
+      underway_pushes (inl I) = inr (opens_pushes I).1
       underway_pushes (inr I) =
           let (h, l) = route_level N G rising (base I) I.phasing.valid I.phasing.caps D p N.source R source_set in
           pick l (eq_or_ne (level_of (levels N I.before.cap) N.sink) (D N.source))
@@ -255,11 +262,11 @@ module _ {N : Net} (G : WellFormed N) where
 
           pick : level_of (levels N I.before.cap) N.sink ≤ level_of (levels N I.before.cap) N.source + D N.source
               → (level_of (levels N I.before.cap) N.sink ≡ D N.source) ⊎ (level_of (levels N I.before.cap) N.sink ≢ D N.source) → Further N G T t c p
-          pick l (inl z) = level_pushes I z
+          pick l (inl z) = inr (level_pushes I z).0
           pick l (inr d) =
               let z = (base I).src in
               let (nx, e) = finds_none N G rising (base I) I.phasing.valid I.phasing.caps D S (omega arith) (found I) (ended I) in
-              opens_pushes (closes I nx e)
+              inr (opens_pushes (closes I nx e)).1
 
     -- no push is left where nodes with the source and without the sink are left by no link with capacity left
     module _ (Z : ℕ → Type 0) (from : Z N.source) (not-to : Z N.sink → ⊥) (closed : (e : ℕ) → residual c e ≡ true → Z (tail N e) → Z (head N e)) where
@@ -269,3 +276,45 @@ module _ {N : Net} (G : WellFormed N) where
       pub underway_ends : Underway N G T t c → t ≡ T
       underway_ends (inl I) = between_ends I
       underway_ends (inr I) = let (nx, e) = walk_stays N c (levels N I.before.cap) Z from closed not-to (found I) (ended I) in between_ends (closes I nx e)
+
+  -- ---- the first phase of a run from capacities c₀, to a sink d links away: nothing is pushed yet, or what is pushed was pushed in it
+
+  abbrev pub Opening : List Float → ℕ → Float → List Float → Type 0
+  Opening c₀ d t c = ((t ≡ nought) × (c ≡ c₀)) ⊎ ((I : Within N G (max_flow N c₀).total t c) × (I.before ≡ start c₀) × (level_of (levels N c₀) N.sink ≡ d))
+
+  module _ {c₀ : List Float} (C : Caps N c₀) {t : Float} {c : List Float} (D : ℕ → ℕ) (S : Bounding N c D) where
+    begun_between : t ≡ nought → c ≡ c₀ → (I : Between N G (max_flow N c₀).total t c) × (run_now t c I.level I.phases ≡ start c₀)
+    unfolding max_flow
+    begun_between z e = rw (z, e) (record { fuel = nodes N; level = []; phases = []; running = run_starts N G c₀ C; same = refl }, refl)
+
+    module _ (rising : (u : ℕ) → Rising (out N u)) where
+      -- one push more
+      pub opening_pushes : (p : List ℕ) → Route N c D N.source p → Opening c₀ (D N.source) t c → Opening c₀ (D N.source) (add binary64 t (least c (inf false) p)) (push_path (least c (inf false) p) p c)
+      opening_pushes p R (inl (z, e)) =
+          let (I, b) = begun_between z e in
+          let (l, W, f) = opens_pushes rising D S p R I in
+          inr (W, f ∙ b, ap (λ (x : List Float). level_of (levels N x) N.sink) (sym e) ∙ l)
+      opening_pushes p R (inr (I, b, l)) =
+          let (W, f) = level_pushes rising D S p R I (ap (λ (r : FlowRun). level_of (levels N r.cap) N.sink) b ∙ l) in
+          inr (W, f ∙ b, l)
+
+      -- the phase is over where the sink is farther by now
+      pub opening_over : (I : Within N G (max_flow N c₀).total t c) → I.before ≡ start c₀ → level_of (levels N c₀) N.sink < D N.source → (run N 1 (start c₀)).total ≡ t
+      unfolding run after_phase
+      opening_over I b h =
+          let e = ap (λ (r : FlowRun). level_of (levels N r.cap) N.sink) b in
+          let (nx, f) = finds_none N G rising (base I) I.phasing.valid I.phasing.caps D S (omega arith) (found I) (ended I) in
+          ap (λ (r : FlowRun). (run N 1 r).total) (sym b) ∙ ap (λ (r : FlowRun). r.total) (run_on N 0 I.before I.reaches) ∙ ap (λ (s : PhaseState). s.total) (phase_is I nx f)
+
+  -- and there is none where the sink is farther than there are nodes
+  pub opening_none : {c₀ : List Float} → Caps N c₀ → (D : ℕ → ℕ) → Bounding N c₀ D → nodes N ≤ D N.source → (run N 1 (start c₀)).total ≡ nought
+  unfolding at_end
+  opening_none {c₀} C D S h = ap (λ (r : FlowRun). r.total) (run_end N 0 (start c₀) (pick (eq_or_ne (level_of (levels N c₀) N.sink) unset)))
+    where
+      pick : (level_of (levels N c₀) N.sink ≡ unset) ⊎ (level_of (levels N c₀) N.sink ≢ unset) → level_of (levels N c₀) N.sink ≡ unset
+      pick (inl e) = e
+      pick (inr g) =
+          let b = levels_bound C D S (level_of (levels N c₀) N.sink) N.sink refl g in
+          let l = (levels_ok N G c₀ C).bnd N.sink g in
+          let s = S.sink in
+          absurd (omega arith)

@@ -1,4 +1,4 @@
-// The least ε at which two models are bisimilar.
+// An ε at which two models are bisimilar, found by halvings.
 ghost use Rattle.std.specs.Prelude.{◌≡◌, length, Ok};
 ghost use Rattle.numbers.specs.Refuse.{numbered};
 ghost use Rattle.epsdelta_theory.specs.MinEpsilon.{alike_at, halving, min_epsilon, Searched};
@@ -52,7 +52,7 @@ impl Search<'_> {
         Ok(hi)
     }
 
-    // The least ε found where ε = 1 holds: 0 if ε = 0 holds, else by halvings.
+    // The ε found where ε = 1 holds: 0 if ε = 0 holds, else by halvings.
     fn below_one(&self, relation: &mut [u8]) -> Result<f64, Refusal>
         requires { refusal self.now.sides.now self.now.rho (length relation.old) ≡ 0 }
         ensures { (numbered result ≡ Ok (below_one (alike self.now.sides.now self.now.rho))) × Cleared relation.old relation.new }

@@ -1,5 +1,7 @@
 -- Jumps over the front of two lists that are lent.
-use Rattle.std.specs.Prelude.{◌≡◌, ◌⊎◌, ℕ, ◌+◌, ◌-◌, ◌<◌, ◌≤◌, ◌||◌, ◌&&◌, List, [], ◌∷◌, cond, eqb, leb, min, length, take, Float}
+use Rattle.std.specs.Prelude.{◌≡◌, ◌⊎◌, ℕ, ◌+◌, ◌-◌, ◌<◌, ◌≤◌, ◌||◌, ◌&&◌, List, [], ◌∷◌, cond, eqb, leb, min, length, take, Option, Some, None, Float}
+use Rattle.std.specs.Float.{binary64}
+use Rattle.std.specs.Float.Ieee.{div}
 use Rattle.bisim_core.specs.Data.{Edge, Columns, columns_of}
 use Rattle.bisim_core.specs.declared.wlts.Wlts.{Wlts}
 use Rattle.bisim_core.specs.Model.{begins, row}
@@ -61,10 +63,11 @@ degree M s = begins M (s + 1) - begins M s
 abbrev pub HasRoom : Columns → ℕ → Jumps → Type 0
 HasRoom M s V = (V.len + degree M s ≤ length V.targets.now) × (V.len + degree M s ≤ length V.rates.now)
 
--- an edge, its weight by g
-abbrev pub weighed : (Float → Float) → Edge → Edge
-weighed g e = record { source = e.source; label = e.label; target = e.target; weight = g e.weight }
+-- a weight, divided by the number that is given
+abbrev pub per : Float → Option Float → Float
+per w None = w
+per w (Some q) = div binary64 w q
 
--- each answer is by g
-abbrev pub AnswersBy : (Float → Float) → (Float → Float → Type 0) → Type 0
-AnswersBy g Post = (x y : Float) → Post x y → y ≡ g x
+-- an edge with its weight divided so
+abbrev pub weighed : Option Float → Edge → Edge
+weighed q e = record { source = e.source; label = e.label; target = e.target; weight = per e.weight q }

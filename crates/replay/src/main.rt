@@ -9,13 +9,13 @@ mod models; // models.rt: the kind `model`
 mod reals; // reals.rt: the kind `real`
 
 use entries::Entry;
-use replay_text::cases;
+use replay_text::cases::Cases;
 use replay_text::tally::Counts;
 use replay_text::text::Reader;
 use std::io;
 
-fn run_kind(r: &mut Reader, kind: &[u8]) {
-    match kind {
+fn run_kind(r: &mut Reader) {
+    match r.kind() {
         b"real" => reals::run(r),
         b"intern" => labels::run_intern(r),
         b"label" => labels::run_label(r),
@@ -52,7 +52,13 @@ fn print_all(rt: &impl Print, counts: &Counts) {
 }
 
 fn main(rt: HostRuntime) -> io::Result<()> {
-    let counts = cases::run(&rt, run_kind)?;
+    let cases = Cases::read(&mut rt.reader(), rt.alloc())?;
+    let mut counts = Counts::new();
+    for k in 0..cases.count() {
+        let mut r = Reader::new(cases.case(k), counts);
+        run_kind(&mut r);
+        counts = r.end();
+    }
     print_all(&rt, &counts);
     Ok(())
 }

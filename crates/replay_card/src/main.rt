@@ -4,19 +4,25 @@
 
 mod cards; // cards.rt: a stored card, its report and the store
 
-use replay_text::cases;
+use replay_text::cases::Cases;
+use replay_text::tally::Counts;
 use replay_text::text::Reader;
 use std::io;
 
-fn run_kind(r: &mut Reader, kind: &[u8], card: &mut [u8], out: &mut [u8]) {
-    cases::run_only(r, kind, b"card", |r| cards::run(r, card, out));
-}
-
-// Stays: one function for the four programs of one kind would take the kind, the title and what runs a case, and print. It would be public, and to say what it answers it would need a definition of its own of the step that `run_only` makes of what runs a case, for five lines less in each program.
+// Stays: one function for the four programs of one kind would take what runs a case as a closure, and so ask of its callers that it can be called.
 fn main(rt: HostRuntime) -> io::Result<()> {
     let mut card = [0u8; 10500];
     let mut out = [0u8; 26662];
-    let counts = cases::run(&rt, |r, kind| run_kind(r, kind, &mut card, &mut out))?;
+    let cases = Cases::read(&mut rt.reader(), rt.alloc())?;
+    let mut counts = Counts::new();
+    for k in 0..cases.count() {
+        let mut r = Reader::new(cases.case(k), counts);
+        if r.is_kind(b"card") {
+            cards::run(&mut r, &mut card, &mut out);
+            r.count(0);
+        }
+        counts = r.end();
+    }
     counts.print(&rt, "card report", 0);
     counts.print_end(&rt);
     Ok(())

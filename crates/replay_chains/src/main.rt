@@ -8,12 +8,13 @@ mod rates; // rates.rt: the kind `rate`
 mod scaled; // scaled.rt: the kind `normalise`
 
 use entries::Entry;
-use replay_text::cases;
+use replay_text::cases::Cases;
+use replay_text::tally::Counts;
 use replay_text::text::Reader;
 use std::io;
 
-fn run_kind(r: &mut Reader, kind: &[u8]) {
-    match kind {
+fn run_kind(r: &mut Reader) {
+    match r.kind() {
         b"rate" => rates::run(r),
         b"uniformise" => made::run(r),
         b"normalise" => scaled::run(r),
@@ -22,7 +23,13 @@ fn run_kind(r: &mut Reader, kind: &[u8]) {
 }
 
 fn main(rt: HostRuntime) -> io::Result<()> {
-    let counts = cases::run(&rt, run_kind)?;
+    let cases = Cases::read(&mut rt.reader(), rt.alloc())?;
+    let mut counts = Counts::new();
+    for k in 0..cases.count() {
+        let mut r = Reader::new(cases.case(k), counts);
+        run_kind(&mut r);
+        counts = r.end();
+    }
     counts.print(&rt, "rate common_rate", Entry::CommonRate as usize);
     counts.print(&rt, "uniformise uniformise", Entry::Uniformise as usize);
     counts.print(&rt, "normalise normalise", Entry::Normalise as usize);

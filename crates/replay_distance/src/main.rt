@@ -4,15 +4,23 @@
 
 mod runs; // runs.rt: the kind `distance`
 
-use replay_text::cases;
+use replay_text::cases::Cases;
+use replay_text::tally::Counts;
+use replay_text::text::Reader;
 use std::io;
 
-// Stays: one function for the four programs of one kind would take the kind, the title and what runs a case, and print. It would be public, and to say what it answers it would need a definition of its own of the step that `run_only` makes of what runs a case, for five lines less in each program.
+// Stays: one function for the four programs of one kind would take what runs a case as a closure, and so ask of its callers that it can be called.
 fn main(rt: HostRuntime) -> io::Result<()> {
-    let counts = cases::run(
-        &rt,
-        |r, kind| cases::run_only(r, kind, b"distance", runs::run),
-    )?;
+    let cases = Cases::read(&mut rt.reader(), rt.alloc())?;
+    let mut counts = Counts::new();
+    for k in 0..cases.count() {
+        let mut r = Reader::new(cases.case(k), counts);
+        if r.is_kind(b"distance") {
+            runs::run(&mut r);
+            r.count(0);
+        }
+        counts = r.end();
+    }
     counts.print(&rt, "distance distance", 0);
     counts.print_end(&rt);
     Ok(())

@@ -30,7 +30,7 @@ pub fn run(r: &mut Reader) {
     };
     let ran = lent::max_flow(l.net, ends);
     r.expect_answer(ran.answer.map(|f| (f.flow, f.phases, f.pushes)));
-    r.expect_each(front(&ran.net.links, l.links), |link| link.cap);
+    r.expect_list(front(&ran.net.links.map(|link| link.cap), l.links));
     r.compared(same_else(&l.net, &ran.net, l.links));
     r.count(Entry::MaxFlow as usize);
 }

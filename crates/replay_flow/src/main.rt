@@ -11,12 +11,13 @@ mod nets; // nets.rt: networks as rows of numbers
 mod nodes; // nodes.rt: the kind `nodes`
 
 use entries::Entry;
-use replay_text::cases;
+use replay_text::cases::Cases;
+use replay_text::tally::Counts;
 use replay_text::text::Reader;
 use std::io;
 
-fn run_kind(r: &mut Reader, kind: &[u8]) {
-    match kind {
+fn run_kind(r: &mut Reader) {
+    match r.kind() {
         b"flow" => flows::run(r),
         b"edge" => edges::run(r),
         b"nodes" => nodes::run(r),
@@ -25,7 +26,13 @@ fn run_kind(r: &mut Reader, kind: &[u8]) {
 }
 
 fn main(rt: HostRuntime) -> io::Result<()> {
-    let counts = cases::run(&rt, run_kind)?;
+    let cases = Cases::read(&mut rt.reader(), rt.alloc())?;
+    let mut counts = Counts::new();
+    for k in 0..cases.count() {
+        let mut r = Reader::new(cases.case(k), counts);
+        run_kind(&mut r);
+        counts = r.end();
+    }
     counts.print(&rt, "flow max_flow", Entry::MaxFlow as usize);
     counts.print(&rt, "edge add_edge", Entry::AddEdge as usize);
     counts.print(&rt, "nodes new", Entry::New as usize);

@@ -2,7 +2,7 @@
 ghost use Rattle.replay_text.specs.Reading.{Lasts};
 
 use distance_theory::{Distance, PairContribution};
-use distance_words::told::Answer;
+use distance_words::told::{Answer, Listed};
 use numbers::refusal::Refusal;
 use replay_text::lists::front;
 use replay_text::text::Reader;
@@ -17,15 +17,16 @@ fn figures(d: Distance) -> Figures {
     )
 }
 
-// The fields of records, each in a list of its own.
-fn expect_records(r: &mut Reader, records: &[PairContribution])
+// The first n records: each field in a list of its own.
+// Stays: `map` is of an array, so that the list of a field is made of the whole and cut afterwards; of a slice it would be a loop for each field.
+fn expect_records(r: &mut Reader, records: [PairContribution; 64], n: usize)
     ensures { Lasts r.old r.new }
 {
-    r.expect_each(records, |c| c.left);
-    r.expect_each(records, |c| c.right);
-    r.expect_each(records, |c| c.gap);
-    r.expect_each(records, |c| c.occupancy);
-    r.expect_each(records, |c| c.contribution);
+    r.expect_list(front(&records.map(|c| c.left), n));
+    r.expect_list(front(&records.map(|c| c.right), n));
+    r.expect_list(front(&records.map(|c| c.gap), n));
+    r.expect_list(front(&records.map(|c| c.occupancy), n));
+    r.expect_list(front(&records.map(|c| c.contribution), n));
 }
 
 // The distance and its contributions, or the refusal, with zeros and none.
@@ -35,11 +36,11 @@ pub fn expect(r: &mut Reader, told: &Result<Answer, Refusal>)
     match told {
         Ok(answer) => {
             r.expect_answer(Ok(figures(answer.distance)));
-            expect_records(r, front(&answer.records, answer.distance.contributions));
+            expect_records(r, answer.records, answer.distance.contributions);
         }
         Err(refusal) => {
             r.expect_answer::<Figures>(Err(*refusal));
-            expect_records(r, &[]);
+            expect_records(r, Listed::default().records, 0);
         }
     }
 }

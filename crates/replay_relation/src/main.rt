@@ -7,13 +7,13 @@ mod relations; // relations.rt: the kinds `relation` and `related`
 mod store; // store.rt: the bytes lent for a relation
 
 use entries::Entry;
-use replay_text::cases;
+use replay_text::cases::Cases;
 use replay_text::tally::Counts;
 use replay_text::text::Reader;
 use std::io;
 
-fn run_kind(r: &mut Reader, kind: &[u8], bytes: &mut [u8]) {
-    match kind {
+fn run_kind(r: &mut Reader, bytes: &mut [u8]) {
+    match r.kind() {
         b"relation" => relations::run(r, bytes),
         b"related" => relations::run_related(r, bytes),
         _ => r.unknown(),
@@ -34,7 +34,13 @@ fn print_all(rt: &impl Print, counts: &Counts) {
 
 fn main(rt: HostRuntime) -> io::Result<()> {
     let mut bytes = [0u8; 501502];
-    let counts = cases::run(&rt, |r, kind| run_kind(r, kind, &mut bytes))?;
+    let cases = Cases::read(&mut rt.reader(), rt.alloc())?;
+    let mut counts = Counts::new();
+    for k in 0..cases.count() {
+        let mut r = Reader::new(cases.case(k), counts);
+        run_kind(&mut r, &mut bytes);
+        counts = r.end();
+    }
     print_all(&rt, &counts);
     Ok(())
 }

@@ -1,21 +1,21 @@
--- The first empty line, as it is found.
+-- The first empty line, as it is found, and where cases begin.
 use mathlib.Core.Path.{◌≡◌, refl, ap, sym, ◌∙◌}
 use mathlib.Core.Bool.{cond}
-use mathlib.Core.List.{List, ◌∷◌}
+use mathlib.Core.List.{List, [], ◌∷◌, ◌++◌}
 use mathlib.Core.Logic.{◌⊎◌, inl, inr}
-use Prim.Native.Nat.{ℕ, ◌≤◌, ◌<◌, ◌+◌}
+use Prim.Native.Nat.{ℕ, zero, suc, ◌≤◌, ◌<◌, ◌+◌, ◌-◌}
 use native.Mathlib.Omega.{arith}
 use lib.Dec.{ltb}
-use lib.ListN.{length, take, drop}
-use lib.Seq.{drop-drop}
+use lib.ListN.{length, drop}
 use borrow.Author.Tests.{lt-ltb, le-ltb}
 use Rattle.std.specs.Prelude.{Option, Some, None}
 use Rattle.std.specs.List.{position_or_len, range_with_len}
 use Rattle.std.specs.Option.{unwrap_or}
+use Rattle.std.proofs.lemmas.List.{append_assoc, append-nil, length-append}
 use Rattle.std.proofs.lemmas.List.FromFn.{length-range_with_len}
 use Rattle.std.proofs.lemmas.List.Sums.{prefix_len-le-length}
 use Rattle.numbers.proofs.Bools.{lt_or_ge}
-use Rattle.replay_text.specs.Cases.{empty_at, first_case}
+use Rattle.replay_text.specs.Cases.{empty_at, first_case, starts, starts_from}
 
 pub placed : (i m n : ℕ) → i ≤ m → m ≡ n → unwrap_or (cond (ltb i m) (Some i) None) n ≡ i
 placed i m n h e = pick (lt_or_ge i m)
@@ -28,9 +28,24 @@ pub first_found : (t : List ℕ) (r : Option ℕ) (end : ℕ) → end ≡ unwrap
 unfolding first_case
 first_found t r end u p = u ∙ ap (λ (o : Option ℕ). unwrap_or o (length t)) p ∙ placed _ _ (length t) (prefix_len-le-length _ (range_with_len 0 (length t))) (length-range_with_len 0 (length t))
 
--- a part of a list by its own length, and what stands behind the entry that follows it
-pub cut_at : (t a : List ℕ) (end : ℕ) → a ≡ take end t → length a ≡ end → a ≡ take (length a) t
-cut_at t a end p e = p ∙ ap (λ (x : ℕ). take x t) (sym e)
+-- one case more
+pub one_more : (t l u : List ℕ) (at size next : ℕ) → length l ≤ at → at < length t → u ≡ l ++ at ∷ [] → size ≡ first_case (drop at t) → next ≡ at + (size + 1)
+    → (length u ≤ next) × (u ++ starts_from (length t - length u) next t ≡ l ++ starts_from (length t - length l) at t)
+unfolding starts_from
+one_more t l u at size next a h e f g = (omega (arith, a, g, k), turn (length t - length u) (length t - length l) (omega (arith, a, h, k)))
+  where
+    k : length u ≡ length l + 1
+    k = ap length e ∙ length-append l (at ∷ [])
 
-pub behind_first : (t a u v : List ℕ) (x end : ℕ) → u ≡ drop end t → length a ≡ end → u ≡ x ∷ v → v ≡ drop (length a + 1) t
-behind_first t a u v x end p e q = ap (drop 1) (sym q) ∙ ap (drop 1) p ∙ drop-drop 1 end t ∙ ap (λ (k : ℕ). drop k t) (sym (ap (λ (k : ℕ). k + 1) e))
+    turn : (m n : ℕ) → n ≡ suc m → u ++ starts_from m next t ≡ l ++ starts_from n at t
+    turn m n p =
+        let here : next ≡ at + first_case (drop at t) + 1 = omega (arith, f, g) in
+        rw (p, lt-ltb at (length t) h) (ap (λ (v : List ℕ). v ++ starts_from m next t) e ∙ append_assoc l (at ∷ []) _ ∙ ap (λ (x : ℕ). l ++ at ∷ starts_from m x t) here)
+
+pub no_more : (t l : List ℕ) (n at : ℕ) → length t ≤ at → l ++ starts_from n at t ≡ starts t → l ≡ starts t
+unfolding starts_from
+no_more t l n at h e = sym (append-nil l) ∙ ap (λ (v : List ℕ). l ++ v) (sym (none n)) ∙ e
+  where
+    none : (k : ℕ) → starts_from k at t ≡ []
+    none zero = refl
+    none (suc k) = rw (le-ltb at (length t) h) refl

@@ -1,3 +1,2 @@
-pub mod Running
 pub mod Cuts
 pub mod Words

@@ -118,3 +118,7 @@ bytes room t = values pair past_pair (field_size room t) (past_field t)
 
 abbrev pub past_bytes : ℕ → List ℕ → List ℕ
 past_bytes room t = closed (field_size room t) (behind past_pair (field_size room t) (past_field t))
+
+-- where list k of a built model stands: behind four fields of one word, which are its shape, and k lists
+abbrev pub list_at : ℕ → List ℕ → List ℕ
+list_at k t = behind (past_list 2112) k (past_field (past_field (past_field (past_field t))))

@@ -1,11 +1,13 @@
-// All cases of standard input, one by one.
-ghost use Rattle.std.specs.Prelude.{◌≡◌, ◌≢◌, ◌+◌, ◌<◌, ◌≤◌, ℕ, List, IfOk, length, take, drop};
-ghost use Rattle.std.specs.Fn.{FnOnceReturnsAtMut};
-ghost use Rattle.replay_text.specs.Cases.{Runs, empty_at, first_case};
-ghost use Rattle.replay_text.specs.Tally.{Ready, none, agrees, tallied, other_tallied};
+// The cases of a text, one behind the other; an empty line ends each.
+ghost use Rattle.std.specs.Prelude.{◌≡◌, ◌≢◌, ◌≤◌, true, false, IfOk, IfSome, length, get_or};
+ghost use Rattle.replay_text.specs.Cases.{empty_at, first_case, starts as begins, case_at};
+ghost use Rattle.replay_text.specs.Reading.{Lasts};
+ghost use Rattle.replay_text.specs.Tally.{Counted, other_tallied};
+ghost use Rattle.replay_text.specs.Words.{field_word, past_field};
 
-use crate::tally::Counts;
+use crate::lists::{behind, front};
 use crate::text::Reader;
+use std::alloc::{AllocError, Global};
 use std::io;
 use std::io::Read;
 
@@ -16,65 +18,85 @@ fn empty_line(text: &[u8], i: usize) -> bool
     text.get(i) == Some(&b'\n') && (i == 0 || text.get(i - 1) == Some(&b'\n'))
 }
 
-// The first case of a text, which an empty line ends, and what stands behind that line.
-fn cut(text: &[u8]) -> (&[u8], &[u8])
-    ensures first { length result.0.now ≡ first_case text.now }
-    ensures parts { (result.0.now ≡ take (length result.0.now) text.now) × (result.1.now ≡ drop (length result.0.now + 1) text.now) }
-    ensures shorter { 1 ≤ length text.now → length result.1.now < length text.now }
+// How many bytes the first case has.
+fn first(text: &[u8]) -> usize
+    ensures size { result ≡ first_case text.now }
+    ensures within { result ≤ length text.now }
 {
-    let end = (0..text.len())
+    (0..text.len())
         .position(|i| empty_line(text, i))
-        .unwrap_or(text.len());
-    let (case, rest) = text.split_at(end);
-    match rest.split_first() {
-        Some((_, after)) => (case, after),
-        None => (case, rest),
+        .unwrap_or(text.len())
+}
+
+// Where the cases of a text begin.
+fn starts(text: &[u8], alloc: Global) -> Result<Vec<usize>, AllocError>
+    ensures { IfOk result (λ l. l.items ≡ begins text.now) }
+{
+    let mut starts = Vec::new(alloc);
+    let mut at = 0;
+    while at < text.len() {
+        starts.push(at)?;
+        at += first(behind(text, at)) + 1;
+    }
+    Ok(starts)
+}
+
+// A text, and where its cases begin.
+#[derive(Drop)]
+pub struct Cases {
+    text: Vec<u8>,
+    starts: Vec<usize>,
+}
+
+impl Cases {
+    // All that is still to be read.
+    pub fn read<R: Read>(from: &mut R, alloc: Global) -> io::Result<Cases>
+        ensures text { IfOk result (λ c. IfSome (R.remaining from.old) (λ t. c.text.items ≡ t)) }
+        ensures starts { IfOk result (λ c. c.starts.items ≡ begins c.text.items) }
+    {
+        let mut text = Vec::new(alloc);
+        from.read_to_end(&mut text)?;
+        let starts = starts(&text, alloc)?;
+        Ok(Cases { text, starts })
+    }
+
+    // How many cases there are.
+    pub fn count(&self) -> usize
+        ensures { result ≡ length self.now.starts.items }
+    {
+        self.starts.len()
+    }
+
+    // Case k, without the empty line that ends it; no bytes where there is none.
+    pub fn case(&self, k: usize) -> &[u8]
+        ensures { result.now ≡ case_at self.now.text.items (get_or self.now.starts.items k (length self.now.text.items)) }
+    {
+        let start = self.starts.get(k).copied().unwrap_or(self.text.len());
+        let rest = behind(&self.text, start);
+        front(rest, first(rest))
     }
 }
 
-// Each case of a text is run by `run`.
-fn run_all<F: FnMut(&mut Reader, &[u8])>(text: &[u8], mut run: F) -> Counts
-    requires run { F.IsAlwaysCallable run }
-    ensures { (n : ℕ) × (last : F) × Runs (λ f r k s h. F.step f r k tt s h) n text.now run none last result }
-{
-    let mut counts = Counts::new();
-    let mut rest = text;
-    while !rest.is_empty() {
-        let (case, after) = cut(rest);
-        let mut r = Reader::new(case, counts);
-        r.name();
-        let kind = r.word();
-        run(&mut r, kind);
-        r.end();
-        counts = r.counts;
-        rest = after;
+impl<'a> Reader<'a> {
+    // The kind of a case, which its first line says.
+    pub fn kind(&mut self) -> &'a [u8]
+        ensures read { (result.now ≡ field_word self.old.rest.now) × (self.new.rest.now ≡ past_field self.old.rest.now) }
+        ensures lasts { Lasts self.old self.new }
+    {
+        self.name();
+        self.word()
     }
-    counts
-}
 
-// Each case of standard input is run by `run`, which is handed the word of its kind, with which a case begins; how many answers agree and differ, by entry.
-// That the text is that of standard input, no contract says.
-pub fn run<F>(rt: &HostRuntime, run: F) -> io::Result<Counts>
-where
-    F: FnMut(&mut Reader, &[u8]),
-    requires run { F.IsAlwaysCallable run }
-    ensures { IfOk result (λ d. (text : List ℕ) × (n : ℕ) × (last : F) × Runs (λ f r k s h. F.step f r k tt s h) n text run none last d) }
-{
-    let mut text = Vec::new(rt.alloc());
-    rt.reader().read_to_end(&mut text)?;
-    Ok(run_all(&text, run))
-}
-
-// A case of a program whose cases are all of one kind, where that is its kind; the answer is counted as of entry 0.
-pub fn run_only<F: FnOnce(&mut Reader)>(r: &mut Reader, word: &[u8], kind: &[u8], run: F)
-    requires run { F.IsAlwaysCallable run }
-    ensures known { word.now ≡ kind.now → (s : _) × FnOnceReturnsAtMut F.FnOnce run r.old tt s × (r.new.counts ≡ tallied s.counts 0 (agrees s)) × Ready s r.new × (r.new.rest ≡ s.rest) }
-    ensures unknown { word.now ≢ kind.now → (r.new.counts ≡ other_tallied r.old.counts) × Ready r.old r.new × (r.new.rest ≡ r.old.rest) }
-{
-    if word == kind {
-        run(r);
-        r.count(0);
-    } else {
-        r.unknown();
+    // Whether a case is of this kind; one of another kind is counted.
+    pub fn is_kind(&mut self, kind: &[u8]) -> bool
+        ensures rest { self.new.rest.now ≡ past_field self.old.rest.now }
+        ensures known { result ≡ true → (field_word self.old.rest.now ≡ kind.now) × Lasts self.old self.new }
+        ensures other { result ≡ false → (field_word self.old.rest.now ≢ kind.now) × (self.new.counts ≡ other_tallied self.old.counts) × Counted self.old self.new }
+    {
+        if self.kind() == kind {
+            return true;
+        }
+        self.unknown();
+        false
     }
 }

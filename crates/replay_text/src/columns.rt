@@ -1,7 +1,7 @@
 // A built model in the text: counts, initial state and columns.
-ghost use Rattle.std.specs.Prelude.{◌≡◌, length, take, is_some, IfSome};
+ghost use Rattle.std.specs.Prelude.{◌≡◌, take, replicate, is_some, IfSome, None};
 ghost use Rattle.replay_text.specs.Reading.{Lasts};
-ghost use Rattle.replay_text.specs.Words.{whole_or_none, whole, short, field_word, past_field, field_size, listed, past_list};
+ghost use Rattle.replay_text.specs.Words.{whole_or_none, whole, short, field_word, past_field, field_size, listed, past_list, list_at, real};
 
 use crate::lists::front;
 use crate::text::Reader;
@@ -18,7 +18,7 @@ pub struct Column<T, const N: usize> {
 
 impl<T: Entry, const N: usize> Column<T, N> {
     pub fn new() -> Column<T, N>
-        ensures { result.count ≡ 0 }
+        ensures { (result.entries ≡ replicate N T.none) × (result.count ≡ 0) }
     {
         Column {
             entries: [T::zero(); N],
@@ -27,8 +27,8 @@ impl<T: Entry, const N: usize> Column<T, N> {
     }
 
     pub fn fill(&mut self, r: &mut Reader)
-        ensures read { (self.new.count ≡ field_size (length self.old.entries) r.old.rest.now) × (r.new.rest.now ≡ past_list (length self.old.entries) r.old.rest.now) }
-        ensures entries { take self.new.count self.new.entries ≡ listed T.said (length self.old.entries) r.old.rest.now }
+        ensures read { (self.new.count ≡ field_size N r.old.rest.now) × (r.new.rest.now ≡ past_list N r.old.rest.now) }
+        ensures entries { take self.new.count self.new.entries ≡ listed T.said N r.old.rest.now }
         ensures lasts { Lasts r.old r.new }
     {
         let n = r.size_field(self.entries.len());
@@ -69,6 +69,7 @@ impl Reader<'_> {
     pub fn shape(&mut self) -> Shape
         ensures read { (result.states ≡ whole (field_word self.old.rest.now)) × (result.edges ≡ whole (field_word (past_field self.old.rest.now))) × (result.labels ≡ whole (field_word (past_field (past_field self.old.rest.now))))
             × (self.new.rest.now ≡ past_field (past_field (past_field (past_field self.old.rest.now)))) }
+        ensures initial { (is_some result.initial ≡ is_some (whole_or_none (field_word (past_field (past_field (past_field self.old.rest.now)))))) × IfSome result.initial (λ s. s.0 ≡ short (field_word (past_field (past_field (past_field self.old.rest.now))))) }
         ensures lasts { Lasts self.old self.new }
     {
         Shape {
@@ -83,7 +84,8 @@ impl Reader<'_> {
 impl Model {
     // No state, and columns without entries.
     pub fn new() -> Model
-        ensures { result.shape.states ≡ 0 }
+        ensures shape { result.shape ≡ record { states = 0; edges = 0; labels = 0; initial = None } }
+        ensures lists { (result.label_values.count ≡ 0) × (result.offsets.count ≡ 0) × (result.edge_labels.count ≡ 0) × (result.edge_targets.count ≡ 0) × (result.edge_weights.count ≡ 0) }
     {
         Model {
             shape: Shape {
@@ -102,6 +104,11 @@ impl Model {
 
     pub fn read(&mut self, r: &mut Reader)
         ensures read { (self.new.shape.states ≡ whole (field_word r.old.rest.now)) × (self.new.shape.edges ≡ whole (field_word (past_field r.old.rest.now))) × (self.new.shape.labels ≡ whole (field_word (past_field (past_field r.old.rest.now)))) }
+        ensures initial { (is_some self.new.shape.initial ≡ is_some (whole_or_none (field_word (past_field (past_field (past_field r.old.rest.now)))))) × IfSome self.new.shape.initial (λ s. s.0 ≡ short (field_word (past_field (past_field (past_field r.old.rest.now))))) }
+        ensures numbers { (take self.new.label_values.count self.new.label_values.entries ≡ listed short 2112 (list_at 0 r.old.rest.now)) × (take self.new.offsets.count self.new.offsets.entries ≡ listed short 2112 (list_at 1 r.old.rest.now))
+            × (take self.new.edge_labels.count self.new.edge_labels.entries ≡ listed short 2112 (list_at 2 r.old.rest.now)) × (take self.new.edge_targets.count self.new.edge_targets.entries ≡ listed short 2112 (list_at 3 r.old.rest.now)) }
+        ensures weights { take self.new.edge_weights.count self.new.edge_weights.entries ≡ listed real 2112 (list_at 4 r.old.rest.now) }
+        ensures rest { r.new.rest.now ≡ list_at 5 r.old.rest.now }
         ensures lasts { Lasts r.old r.new }
     {
         self.shape = r.shape();

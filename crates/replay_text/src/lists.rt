@@ -73,22 +73,14 @@ impl Reader<'_> {
         list
     }
 
-    // The list stored is what `of` makes of these.
-    pub fn expect_each<T, V: Value, F: Fn(&T) -> V>(&mut self, xs: &[T], of: F)
-        requires of { F.IsAlwaysCallable of }
+    // The list stored is the list given.
+    pub fn expect_list<T: Value + Copy>(&mut self, xs: &[T])
         ensures { Lasts self.old self.new }
     {
         self.name();
         self.expect(xs.len());
         for x in xs {
-            self.expect(of(x));
+            self.expect(*x);
         }
-    }
-
-    // The list stored is the list given.
-    pub fn expect_list<T: Entry>(&mut self, xs: &[T])
-        ensures { Lasts self.old self.new }
-    {
-        self.expect_each(xs, |x| *x);
     }
 }

@@ -2,7 +2,7 @@
 ghost use Rattle.std.specs.Prelude.{◌≡◌, true, false, ◌<◌, ◌&&◌, not, cond, eqb, length, drop, IfSome, IfNone, Some};
 ghost use Rattle.replay_text.specs.Words.{in_word, digit_of, grown, digits, float_of, past, first_word, past_word, whole, whole_or_none, short, real};
 ghost use Rattle.replay_text.specs.Reading.{Placed, Kept, Lasts, same};
-ghost use Rattle.replay_text.specs.Tally.{Ready, agrees as agreed, tallied, other_tallied};
+ghost use Rattle.replay_text.specs.Tally.{Ready, agrees as agreed, tallied, other_tallied, closed};
 
 use crate::lists::front;
 use crate::tally::Counts;
@@ -286,14 +286,14 @@ impl<'a> Reader<'a> {
         self.settle();
     }
 
-    // A case has ended: where it is as laid out so far, more text is one difference.
-    pub fn end(&mut self)
-        ensures counted { self.new.counts ≡ cond (not self.old.faulty && not (eqb (length self.old.rest.now) 0)) (other_tallied self.old.counts) self.old.counts }
-        ensures differs { self.new.differs ≡ cond (not self.old.faulty && not (eqb (length self.old.rest.now) 0)) false self.old.differs }
-        ensures kept { (self.new.rest ≡ self.old.rest) × (self.new.faulty ≡ self.old.faulty) }
+    // The counts once a case has ended: where it is as laid out so far, more text is one difference.
+    pub fn end(&self) -> Counts
+        ensures { result ≡ closed self.now }
     {
+        let mut counts = self.counts;
         if !self.faulty && !self.at_end() {
-            self.unknown();
+            counts.count_other();
         }
+        counts
     }
 }

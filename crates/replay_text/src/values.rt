@@ -1,5 +1,6 @@
 // Values in the text.
-ghost use Rattle.std.specs.Prelude.{◌≡◌, ℕ, List};
+ghost use Rattle.std.specs.Prelude.{◌≡◌, ℕ, List, Some, false};
+ghost use Rattle.numbers.specs.Real.{nought};
 ghost use Rattle.replay_text.specs.Reading.{Lasts};
 ghost use Rattle.replay_text.specs.Words.{first_word, past_word, short, byte, real};
 
@@ -10,8 +11,11 @@ use bisim_core::ids::{LabelId, StateId};
 // What an answer is made of. Each type has an impl of its own.
 pub trait Value: Sized {
     // What stands for it on a refusal.
+    ghost none: { Self };
+
     // Stays: one for all that are numbers (`impl<T: Into<u64>>`) would meet those of f64 and of an Option, and by `Default` an Option's would be None.
-    fn zero() -> Self;
+    fn zero() -> Self
+        ensures { result ≡ none };
 
     // The one stored is this one.
     // Stays: as `zero`.
@@ -31,6 +35,8 @@ pub trait Entry: Value + Copy {
 }
 
 impl Value for () {
+    ghost none = { tt };
+
     fn zero() -> () {
         ()
     }
@@ -41,6 +47,8 @@ impl Value for () {
 }
 
 impl Value for u64 {
+    ghost none = { 0 };
+
     fn zero() -> u64 {
         0
     }
@@ -52,6 +60,8 @@ impl Value for u64 {
 }
 
 impl Value for u32 {
+    ghost none = { 0 };
+
     fn zero() -> u32 {
         0
     }
@@ -62,6 +72,8 @@ impl Value for u32 {
 }
 
 impl Value for u8 {
+    ghost none = { 0 };
+
     fn zero() -> u8 {
         0
     }
@@ -72,6 +84,8 @@ impl Value for u8 {
 }
 
 impl Value for usize {
+    ghost none = { 0 };
+
     fn zero() -> usize {
         0
     }
@@ -83,6 +97,8 @@ impl Value for usize {
 
 // 1 where it holds.
 impl Value for bool {
+    ghost none = { false };
+
     fn zero() -> bool {
         false
     }
@@ -93,6 +109,8 @@ impl Value for bool {
 }
 
 impl Value for f64 {
+    ghost none = { nought };
+
     fn zero() -> f64 {
         0.0
     }
@@ -104,6 +122,8 @@ impl Value for f64 {
 }
 
 impl Value for StateId {
+    ghost none = { record { 0 = 0 } };
+
     fn zero() -> StateId {
         StateId(0)
     }
@@ -114,6 +134,8 @@ impl Value for StateId {
 }
 
 impl Value for LabelId {
+    ghost none = { record { 0 = 0 } };
+
     fn zero() -> LabelId {
         LabelId(0)
     }
@@ -125,6 +147,8 @@ impl Value for LabelId {
 
 // None is written `-`.
 impl<T: Value> Value for Option<T> {
+    ghost none = { Some T.none };
+
     fn zero() -> Option<T> {
         Some(T::zero())
     }
@@ -141,6 +165,8 @@ impl<T: Value> Value for Option<T> {
 }
 
 impl<A: Value, B: Value> Value for (A, B) {
+    ghost none = { (A.none, B.none) };
+
     fn zero() -> (A, B) {
         (A::zero(), B::zero())
     }
@@ -152,6 +178,8 @@ impl<A: Value, B: Value> Value for (A, B) {
 }
 
 impl<A: Value, B: Value, C: Value> Value for (A, B, C) {
+    ghost none = { (A.none, B.none, C.none) };
+
     fn zero() -> (A, B, C) {
         (A::zero(), B::zero(), C::zero())
     }

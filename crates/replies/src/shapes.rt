@@ -15,14 +15,14 @@ pub fn initial_of(present: u32, start: u32) -> Option<StateId>
 }
 
 // A model's counts and initial state.
-pub fn shape_of(states: usize, edges: usize, labels: usize, present: u32, start: u32) -> Shape
-    ensures { result ≡ shape states edges labels (initial present start) }
+pub fn shape_of(states: usize, edges: usize, labels: usize, initial: Option<StateId>) -> Shape
+    ensures { result ≡ shape states edges labels initial }
 {
     Shape {
         states,
         edges,
         labels,
-        initial: initial_of(present, start),
+        initial,
     }
 }
 

@@ -11,7 +11,7 @@ use numbers::refusal::Refusal;
 use std::io;
 use std::io::{Read, Write};
 
-// Stays: `report_input` promises a text that fits the store, so that the other arm is never taken; a refusal that main handed on would have to be an error of io.
+// Stays: the text of `report_input` fits the store (law `fits`), so that the other arm is never taken; a refusal that main handed on would have to be an error of io.
 fn print_text(rt: &impl Print, text: Result<usize, Refusal>, out: &[u8]) -> io::Result<()> {
     match text {
         Ok(n) if n <= out.len() => io::writer(rt).write_all(&out[..n]),

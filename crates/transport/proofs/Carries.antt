@@ -11,7 +11,12 @@ use lib.Ieee.{Float}
 use borrow.Author.Tests.{le-leb, eq-eqb}
 use Rattle.numbers.specs.Lists.{over}
 use Rattle.numbers.specs.Real.{sum}
+use Rattle.flow_theory.specs.Rows.{starts_of, list_of}
 use Rattle.flow_theory.proofs.ListRows.{Indexable}
+use Rattle.flow.specs.declared.network.FlowNetwork.{FlowNetwork}
+use Rattle.flow.specs.Network.{with_caps}
+use Rattle.transport.specs.Network.{entries, stored, network_on}
+use Rattle.transport.proofs.Storing.{kept}
 use Rattle.flow_check.proofs.Relists.{listed}
 use Rattle.transport_theory.specs.Links.{links, heads, caps, prices}
 use Rattle.transport_theory.specs.Transport.{Shipment, shipped, plan, bills, transport}
@@ -19,7 +24,7 @@ use Rattle.transport_theory.proofs.Networks.{links_length, heads_length, caps_le
 use Rattle.transport_theory.proofs.PlanRows.{Planned}
 use Rattle.std.specs.Prelude.{Option, Some}
 use Rattle.std.specs.Option.{unwrap_or}
-use Rattle.transport_theory.proofs.TransportRows.{Carried, Loadable, Readied, Spelled, Transported}
+use Rattle.transport_theory.proofs.TransportRows.{Roomy, Carried, Loadable, Readied, Spelled, Transported}
 use Rattle.transport_theory.proofs.Writing.{Written, has_room, wrote, write}
 use Rattle.transport_theory.proofs.Sending.{listable, sendable, rows_shipped, Sent, sent, send_if, send}
 
@@ -72,9 +77,16 @@ module _ {a b costs : List Float} {H : List ℕ} {c p : List Float} {list rows c
   unfolding shipped
   run_is = rw (C.heads_is, C.caps_is, C.prices_is, add-one (m + n))
 
-  module _ {x : Option Float} {c' : List Float} {l' : List ℕ} (S : sent x c' l' ≡ send a b H c p list) where
+  -- they are as many as a network has room for, with a capacity and a cost each
+  pub storable : (length H ≤ 2176) × (length c ≡ length H) × (length p ≡ length H)
+  storable = let h = heads_size in let x = caps_size in let y = prices_size in let f = few in (omega arith, omega arith, omega arith)
+
+  module _ {x : Option Float} {c' : List Float} (st : List ℕ) {s' l' : List ℕ} (S : sent x c' s' l' ≡ send a b H c p st list) where
+    gone : sent x c' s' l' ≡ send_if true a b H c p st list
+    gone = S ∙ ap (λ (t : Bool). send_if t a b H c p st list) can
+
     cap_is : c' ≡ (shipped a b costs).cap
-    cap_is = ap (λ (r : Sent). r.caps) (S ∙ ap (λ (t : Bool). send_if t a b H c p list) can) ∙ ap (λ (r : Shipment). r.cap) run_is
+    cap_is = ap (λ (r : Sent). r.caps) gone ∙ ap (λ (r : Shipment). r.cap) run_is
 
     pub plannable : length c' ≡ length c → Readied a b costs c' rows columns masses
     plannable z =
@@ -98,7 +110,33 @@ module _ {a b costs : List Float} {H : List ℕ} {c p : List Float} {list rows c
     planned {y} {t} {rows'} {columns'} {masses'} P =
         subst (λ (d : List Float). Planned (plan n (2 * (m + n)) d (m * n) 0) (sum (bills (2 * (m + n)) d (take (m * n) costs) 0)) rows columns masses y t rows' columns' masses') cap_is P
 
+    -- the network that the links were stored in, with their node lists and the capacities that are kept
+    pub network_left : (N : FlowNetwork) → N.starts ≡ st → N.list ≡ list → {M L : FlowNetwork} → M ≡ stored N H c p (m + n + 2)
+        → L ≡ record { links = with_caps M.links c'; count = M.count; nodes = M.nodes; starts = s'; list = l' } → length c' ≡ length c → L ≡ network_on a b costs N
+    network_left N es el E K z =
+        let k = storable in
+        let q : length c' ≡ length H = omega arith in
+        let es' = sym es in
+        let el' = sym el in
+        K ∙ ap (λ (M : FlowNetwork). record { links = with_caps M.links c'; count = M.count; nodes = M.nodes; starts = s'; list = l' }) E
+        ∙ (λ i. record {
+          links = (kept H c p c' N.links k.1 k.2 q ∙ (λ j. over (entries (C.heads_is j) (cap_is j) (C.prices_is j)) N.links)) i;
+          count = length (C.heads_is i);
+          nodes = m + n + 2;
+          starts = (ap (λ (r : Sent). r.starts) gone ∙ (λ j. over (starts_of (C.heads_is j) (m + n + 2)) (es' j))) i;
+          list = (ap (λ (r : Sent). r.list) gone ∙ (λ j. over (list_of (C.heads_is j) (m + n + 2)) (el' j))) i;
+        })
+
 -- ---- the links are written
+
+-- rows of 2,176 places have room for them
+pub loadable : {a b costs : List Float} {h : List ℕ} {c p : List Float} {list rows columns : List ℕ} {masses : List Float} → Roomy a b costs rows columns masses
+    → length h ≡ 2176 → length c ≡ 2176 → length p ≡ 2176 → length list ≡ 2176 → Loadable a b costs h c p list rows columns masses
+loadable {a} {b} B eh ec ep el =
+    let f = cells_few (length a) (length b) B.few_a B.few_b in
+    let x = B.few_a in
+    let y = B.few_b in
+    record { base = B; heads_room = omega arith; caps_room = omega arith; prices_room = omega arith; list_room = omega arith }
 
 module _ {a b costs : List Float} {h : List ℕ} {c p : List Float} {list rows columns : List ℕ} {masses : List Float} (L : Loadable a b costs h c p list rows columns masses) where
   abbrev places : ℕ
@@ -109,9 +147,6 @@ module _ {a b costs : List Float} {h : List ℕ} {c p : List Float} {list rows c
 
   total : length (links a b costs) + length (links a b costs) ≡ places
   total = let k = links_length a b costs L.base.enough in omega arith
-
-  pub places_few : places ≤ 2176
-  places_few = let f = cells_few (length a) (length b) L.base.few_a L.base.few_b in let x = L.base.few_a in let y = L.base.few_b in omega arith
 
   module _ (r : Option ℕ) (h' : List ℕ) (c' p' : List Float) (W : wrote r h' c' p' ≡ write a b costs h c p) where
     laid : wrote r h' c' p' ≡ wrote (Some (length (heads (links a b costs)))) (over (heads (links a b costs)) h) (over (caps (links a b costs)) c) (over (prices (links a b costs)) p)

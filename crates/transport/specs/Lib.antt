@@ -1,3 +1,4 @@
 pub mod Outcome
 pub mod Lent
 pub mod Moving
+pub mod Network

@@ -4,4 +4,5 @@
 pub mod plan; // plan.rt: the plan
 mod whole; // whole.rt: links, rounds and plan
 mod check; // check.rt: refusals
+pub mod bench; // bench.rt: work space
 pub mod entry; // entry.rt: `transport`

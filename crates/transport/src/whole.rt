@@ -14,6 +14,7 @@ fn plan_links(
     of: &Masses,
     links: &Links,
     caps: &mut [f64],
+    starts: &mut [u32; 67],
     list: &mut [u32],
     plan: &mut PlanRows,
 ) -> Plan
@@ -21,13 +22,19 @@ fn plan_links(
     ensures transported { Moved of.now plan.old result plan.new }
     ensures same { same_columns plan.old plan.new }
 {
-    ship_rows(of, links, caps, list);
+    ship_rows(of, links, caps, starts, list);
     write_plan(of, caps, plan)
 }
 
 // The same over rows with room for the links.
 // Stays: there is room, so that `write_links` gives a number; `?` for `unwrap_or(0)` would make Options of the answers of three functions, none of them ever None.
-fn transport_in(of: &Masses, mut rows: LinkRows, list: &mut [u32], plan: &mut PlanRows) -> Plan
+fn transport_in(
+    of: &Masses,
+    mut rows: LinkRows,
+    starts: &mut [u32; 67],
+    list: &mut [u32],
+    plan: &mut PlanRows,
+) -> Plan
     requires { Loadable of.now rows list.old plan.old }
     ensures transported { Moved of.now plan.old result plan.new }
     ensures same { same_columns plan.old plan.new }
@@ -42,7 +49,7 @@ fn transport_in(of: &Masses, mut rows: LinkRows, list: &mut [u32], plan: &mut Pl
         heads: &heads[..places],
         prices: &prices[..places],
     };
-    plan_links(of, &links, &mut caps[..places], list, plan)
+    plan_links(of, &links, &mut caps[..places], starts, list, plan)
 }
 
 // With N places for the links and their reverses.
@@ -55,11 +62,12 @@ pub(crate) fn transport_with<const N: usize>(of: &Masses, plan: &mut PlanRows) -
     let mut heads = [0u32; N];
     let mut caps = [0.0f64; N];
     let mut prices = [0.0f64; N];
+    let mut starts = [0u32; 67];
     let mut list = [0u32; N];
     let rows = LinkRows {
         heads: &mut heads,
         caps: &mut caps,
         prices: &mut prices,
     };
-    transport_in(of, rows, &mut list, plan)
+    transport_in(of, rows, &mut starts, &mut list, plan)
 }

@@ -52,20 +52,25 @@ fn sizes_fit(of: &Masses, links: &Links, caps: &[f64]) -> bool
     of.few() && caps.len() == count && links.prices.len() == count
 }
 
-// The rounds of `transport` between two lists of masses on links in rows; gives what remains. The capacities are left as the rounds leave them, and the list has the links by node. Where the links do not fit, both stay as they were.
-pub fn ship_rows(of: &Masses, links: &Links, caps: &mut [f64], list: &mut [u32]) -> Option<f64>
-    ensures { sent result caps.new list.new ≡ send of.now.left.now of.now.right.now links.now.heads.now caps.old links.now.prices.now list.old }
+// The rounds of `transport` between two lists of masses on links in rows; gives what remains. The capacities are left as the rounds leave them, and starts and list have the links by node. Where the links do not fit, all three stay as they were.
+pub fn ship_rows(
+    of: &Masses,
+    links: &Links,
+    caps: &mut [f64],
+    starts: &mut [u32; 67],
+    list: &mut [u32],
+) -> Option<f64>
+    ensures { sent result caps.new starts.new list.new ≡ send of.now.left.now of.now.right.now links.now.heads.now caps.old links.now.prices.now starts.old list.old }
 {
     if !sizes_fit(of, links, caps) {
         return None;
     }
     let nodes = of.left.len() + of.right.len() + 2;
-    let mut starts = [0u32; 67];
-    check::node_lists(links.heads, nodes, &mut starts, list).ok()?;
+    check::node_lists(links.heads, nodes, starts, list).ok()?;
     let net = Network {
         heads: links.heads,
         costs: links.prices,
-        starts: &starts,
+        starts,
         list,
         nodes,
     };

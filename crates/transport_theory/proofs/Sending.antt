@@ -1,15 +1,9 @@
--- The rounds of `transport` on links that stand in rows.
-use Prim.Native.Nat.{ℕ, ◌+◌}
-use mathlib.Core.Bool.{Bool, true, false, ◌&&◌}
-use mathlib.Core.List.{List}
-use lib.Dec.{eqb, ltb, leb}
-use lib.ListN.{length}
-use lib.Ieee.{Float}
-use Rattle.std.specs.Prelude.{Option, Some, None}
+-- The rounds of `transport` on links that stand in rows. Words of contracts.
+use Rattle.std.specs.Prelude.{ℕ, ◌+◌, Bool, true, false, ◌&&◌, List, length, eqb, ltb, leb, Float, Option, Some, None}
 use Rattle.numbers.specs.Real.{sum}
 use Rattle.numbers.specs.Choice.{smaller}
 use Rattle.numbers.specs.Lists.{over, all}
-use Rattle.flow_theory.specs.Rows.{network, list_of}
+use Rattle.flow_theory.specs.Rows.{network, starts_of, list_of}
 use Rattle.flow_check.specs.Refusal
 use Rattle.transport_theory.specs.Lent.{few}
 use Rattle.transport_theory.specs.Transport.{Shipment, rounds, round_cap, crumbs}
@@ -32,19 +26,21 @@ rows_shipped a b H c p =
     let s = length a + length b in
     rounds (record { net = network H (s + 2) s (s + 1); cost = p }) (crumbs (sum a)) (round_cap (length a) (length b)) (record { cap = c; remaining = smaller (sum a) (sum b); rounds = 0 })
 
--- what remains if the rounds were made, the capacities left and the list
+-- what remains if the rounds were made, the capacities left, and the starts and the list of the nodes' links
 pub record Sent : Type 0 where
   pub remaining : Option Float
   pub caps : List Float
+  pub starts : List ℕ
   pub list : List ℕ
 
-abbrev pub sent : Option Float → List Float → List ℕ → Sent
-sent x c l = record { remaining = x; caps = c; list = l }
+abbrev pub sent : Option Float → List Float → List ℕ → List ℕ → Sent
+sent x c s l = record { remaining = x; caps = c; starts = s; list = l }
 
-abbrev pub send_if : Bool → List Float → List Float → List ℕ → List Float → List Float → List ℕ → Sent
-send_if true a b H c p l = sent (Some (rows_shipped a b H c p).remaining) (rows_shipped a b H c p).cap (over (list_of H (length a + length b + 2)) l)
-send_if false a b H c p l = sent None c l
+abbrev pub send_if : Bool → List Float → List Float → List ℕ → List Float → List Float → List ℕ → List ℕ → Sent
+send_if true a b H c p s l =
+    let n = length a + length b + 2 in let r = rows_shipped a b H c p in sent (Some r.remaining) r.cap (over (starts_of H n) s) (over (list_of H n) l)
+send_if false a b H c p s l = sent None c s l
 
 -- the rounds on links that fit; else nothing changes
-abbrev pub send : List Float → List Float → List ℕ → List Float → List Float → List ℕ → Sent
-send a b H c p l = send_if (sendable a b H c p (length l)) a b H c p l
+abbrev pub send : List Float → List Float → List ℕ → List Float → List Float → List ℕ → List ℕ → Sent
+send a b H c p s l = send_if (sendable a b H c p (length l)) a b H c p s l

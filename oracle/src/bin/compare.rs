@@ -1,8 +1,9 @@
 //! Runs the Rust and the static library on the same inputs and compares answers and lent memory.
 //!
-//! `compare [--seed N] [--scale K] [--soak SECONDS] [PART..]`: K times as many random inputs. With `--soak` the parts are run
-//! again and again with fresh seeds, on all cores. Exit status 1 where something differs or a floor is not reached (of all
-//! parts, without `--soak`), 2 on bad usage.
+//! `compare [--seed N] [--scale K] [--soak SECONDS] [--all] [PART..]`: K times as many random inputs. With `--soak` the parts
+//! are run again and again with fresh seeds, on all cores. Of each entry the first differences are made smallest and
+//! printed, with `--all` every one. Exit status 1 where something differs or a floor is not reached (of all parts, without
+//! `--soak`), 2 on bad usage.
 
 use std::collections::BTreeMap;
 use std::panic::{AssertUnwindSafe, catch_unwind, resume_unwind};
@@ -23,8 +24,9 @@ use oracle::sample;
 use oracle::shrink::least;
 use oracle::text::{Case, Field, Value, write_case};
 
-/// Differences printed of each entry.
+/// Differences printed of each entry, but with `--all`.
 const SHOWN: u64 = 3;
+
 #[derive(Default)]
 struct Entry {
     compared: u64,
@@ -59,6 +61,8 @@ fn add_counts(counts: &mut BTreeMap<u32, u64>, other: BTreeMap<u32, u64>) {
 #[derive(Default)]
 struct Tally {
     entries: BTreeMap<&'static str, Entry>,
+    /// Every difference is printed.
+    all: bool,
     /// The turn ends with the first input after this.
     end: Option<Instant>,
 }
@@ -104,7 +108,7 @@ impl Tally {
         }
         let differs = !alike(expected, got);
         entry.differ += u64::from(differs);
-        differs && entry.differ <= SHOWN
+        differs && (self.all || entry.differ <= SHOWN)
     }
 
     fn check<C: Ours + Leaves>(&mut self, case: &C) {
@@ -312,6 +316,7 @@ struct Options {
     seed: Option<u64>,
     scale: Option<usize>,
     soak: Option<u64>,
+    all: bool,
     parts: Vec<&'static Part>,
 }
 
@@ -320,6 +325,7 @@ fn options() -> Option<Options> {
         seed: None,
         scale: None,
         soak: None,
+        all: false,
         parts: Vec::new(),
     };
     let mut words = std::env::args().skip(1);
@@ -328,6 +334,7 @@ fn options() -> Option<Options> {
             "--seed" => options.seed = Some(words.next()?.parse().ok()?),
             "--scale" => options.scale = Some(words.next()?.parse().ok()?),
             "--soak" => options.soak = Some(words.next()?.parse().ok()?),
+            "--all" => options.all = true,
             name => options.parts.push(ALL.iter().find(|part| part.0 == name)?),
         }
     }
@@ -343,7 +350,7 @@ fn fresh() -> u64 {
 /// Runs turns until the time is over: each a part with a seed of its own.
 fn soak_turns(
     parts: &[&Part],
-    scale: usize,
+    (scale, all): (usize, bool),
     end: Instant,
     next: &Mutex<(usize, u64)>,
     sum: &Mutex<Tally>,
@@ -359,6 +366,7 @@ fn soak_turns(
             (parts[turn.0], turn.1)
         };
         let mut tally = Tally {
+            all,
             end: Some(end),
             ..Tally::default()
         };
@@ -389,7 +397,7 @@ fn soak(options: &Options, seconds: u64) -> Tally {
     let (next, sum) = (Mutex::new((0, seed)), Mutex::new(Tally::default()));
     std::thread::scope(|scope| {
         for _ in 0..cores {
-            scope.spawn(|| soak_turns(&parts, scale, end, &next, &sum));
+            scope.spawn(|| soak_turns(&parts, (scale, options.all), end, &next, &sum));
         }
     });
     sum.into_inner().expect("no turn panics")
@@ -399,7 +407,11 @@ fn soak(options: &Options, seconds: u64) -> Tally {
 fn once(options: &Options) -> Tally {
     let (seed, scale) = (options.seed.unwrap_or(1), options.scale.unwrap_or(1));
     println!("seed {seed}");
-    let (mut tally, mut rng) = (Tally::default(), Rng::new(seed));
+    let mut rng = Rng::new(seed);
+    let mut tally = Tally {
+        all: options.all,
+        ..Tally::default()
+    };
     let all: Vec<&Part> = ALL.iter().collect();
     let parts = match options.parts.is_empty() {
         true => &all,
@@ -416,7 +428,7 @@ fn main() -> ExitCode {
         let names: Vec<&str> = ALL.iter().map(|part| part.0).collect();
         let names = names.join(" ");
         eprintln!(
-            "usage: compare [--seed N] [--scale K] [--soak SECONDS] [PART..]\nparts: {names}"
+            "usage: compare [--seed N] [--scale K] [--soak SECONDS] [--all] [PART..]\nparts: {names}"
         );
         return ExitCode::from(2);
     };

@@ -17,7 +17,7 @@ const TURNS: usize = 5;
 /// Random cases of each kind.
 const RANDOM: usize = 90;
 /// The longest relation that is listed with all its bytes filled.
-const LISTED: usize = 600;
+const LISTED: usize = 512;
 
 /// The fans with each state in a class of its own, at these tolerances.
 fn fans(left: &[f64], right: &[f64], epsilon: f64, rho: f64) -> RelationArgs {

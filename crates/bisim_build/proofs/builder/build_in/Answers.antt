@@ -5,7 +5,7 @@ use Rattle.std.proofs.lemmas.List.{take-map}
 use Rattle.build_theory.specs.declared.keys.Triple.{Triple}
 use Rattle.bisim_core.specs.Data.{columns}
 use Rattle.build_theory.proofs.Plan.{err_is}
-use Rattle.bisim_edges.specs.Lent.{numbers}
+use Rattle.build_theory.proofs.Planning.{numbers}
 use Rattle.bisim_edges.proofs.Numbers.{numbers_length}
 use Rattle.bisim_build.specs.Build.{ends}
 use Rattle.bisim_build.proofs.Builds.{call_of, Planned, plan_refused, plan_passed}

@@ -1,7 +1,7 @@
 -- The offsets go over the front of their list.
 use Rattle.build_theory.proofs.Steps.{edges_in}
 use Rattle.build_theory.proofs.Offsets.{offsets_cut}
-use Rattle.bisim_edges.specs.Lent.{numbers}
+use Rattle.build_theory.proofs.Planning.{numbers}
 use Rattle.bisim_build.proofs.write.fill.Goals as goal
 
 pub returns-clause-offsets : goal.returns-clause-offsets

@@ -2,7 +2,7 @@
 use Rattle.std.proofs.Common.{rules, sym, subst, ◌≤◌, ◌<◌, ◌/◌, ℕ, length, get_or}
 use borrow.Author.Tests.{tests}
 use Rattle.std.proofs.lemmas.Iterator.{first_from_Range}
-use Rattle.bisim_edges.specs.Lent.{numbers}
+use Rattle.build_theory.proofs.Planning.{numbers}
 use Rattle.bisim_edges.proofs.Numbers.{numbers_length, past_end, numbers_at}
 use Rattle.bisim_build.proofs.Writes.{first}
 use Rattle.bisim_build.proofs.write.first_from.Goals as goal

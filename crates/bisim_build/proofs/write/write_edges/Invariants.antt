@@ -1,5 +1,5 @@
 -- The invariant: the first i entries of each column are those of the edges (`Writing`).
-use Rattle.bisim_edges.specs.Lent.{numbers}
+use Rattle.build_theory.proofs.Planning.{numbers}
 use Rattle.bisim_build.proofs.Writes.{Writing}
 use Rattle.bisim_build.proofs.write.write_edges.Given as goal
 

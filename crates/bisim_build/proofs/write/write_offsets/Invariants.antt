@@ -1,6 +1,6 @@
 -- The invariant: the first s offsets are written, and p edges have a source below s (`Offsetting`): the triples rise, so the next offset is found from p on.
 use Rattle.build_theory.proofs.Offsets.{Offsetting}
-use Rattle.bisim_edges.specs.Lent.{numbers}
+use Rattle.build_theory.proofs.Planning.{numbers}
 use Rattle.bisim_build.proofs.write.write_offsets.Given as goal
 
 abbrev pub invariant-loop-s : goal.invariant-loop-s

@@ -5,7 +5,7 @@ use lib.Seq.{length-take-le}
 use Rattle.numbers.proofs.Refuses.{number_positive}
 use Rattle.bisim_core.specs.Ids.{distinct}
 use Rattle.build_theory.proofs.Plan.{ending, err_is}
-use Rattle.bisim_edges.specs.Lent.{lists_in}
+use Rattle.build_theory.proofs.Planning.{lists_in}
 use Rattle.bisim_edges.proofs.Numbers.{numbers_length}
 use Rattle.bisim_edges.proofs.Plans.{asked_of, front_is, room_is, Checked, many_labels, arrangeable, made_checks}
 use Rattle.bisim_edges.proofs.planner.plan_in.Goals.{After-arranged}

@@ -1,10 +1,8 @@
 -- The edges make the entries; what is left to stay is one more, if it is above 1e-15.
 use mathlib.Core.Path.{ap}
 use Rattle.std.proofs.Common.{rules}
-use borrow.Author.Tests.{tests}
 use Prim.Native.Nat.{◌<◌}
 use native.Mathlib.Omega.{arith}
-use lib.Ieee.{binary64, div}
 use lib.ListN.{length}
 use Rattle.bisim_core.specs.Data.{columns_of}
 use Rattle.bisim_core.specs.Model.{row}
@@ -36,7 +34,7 @@ returns-clause-made c =
     let h = c.requires.room in
     let es = row (columns_of a.model.now) a.s in
     let X = c.add_edges.new.self in
-    let L = c.add_edges.ensures.added (has_row a.model.now a.s 0 c.requires.model.0 c.requires.model.1 (omega arith)) (omega arith, omega arith) (λ w. div binary64 w a.rate) (λ x y p. grind (arith, tests)) in
+    let L = c.add_edges.ensures.added (has_row a.model.now a.s 0 c.requires.model.0 c.requires.model.1 (omega arith)) (omega arith, omega arith) in
     let f = c.add_edges.ensures.few (has_row a.model.now a.s 0 c.requires.model.0 c.requires.model.1 (omega arith)) (omega arith, omega arith) in
     let i : X.len < length X.targets.now = let e = c.add_edges.ensures.lists.2 in omega arith in
     let j : X.len < length X.rates.now = let e = c.add_edges.ensures.lists.3 in omega arith in

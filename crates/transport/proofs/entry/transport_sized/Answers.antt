@@ -3,5 +3,5 @@ use mathlib.Core.Path.{sym}
 use Rattle.transport.proofs.Refusing.{sized_roomy}
 use Rattle.transport.proofs.entry.transport_sized.Goals as goal
 
-pub planned-requires : goal.planned-requires
-planned-requires c = sized_roomy c.args.of.now.left.now c.args.of.now.right.now c.args.of.now.costs.now c.args.plan.now.rows.now c.args.plan.now.columns.now c.args.plan.now.masses.now (sym c.in_ok-size_refusal.ensures)
+pub carry-requires : goal.carry-requires
+carry-requires c = sized_roomy c.args.of.now.left.now c.args.of.now.right.now c.args.of.now.costs.now c.args.plan.now.rows.now c.args.plan.now.columns.now c.args.plan.now.masses.now (sym c.in_ok-size_refusal.ensures)

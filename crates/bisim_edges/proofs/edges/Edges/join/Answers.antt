@@ -2,7 +2,7 @@
 use Rattle.std.proofs.Common.{◌≡◌, refl, sym, ap, ◌∙◌, ℕ, ◌+◌, ◌/◌, ◌%◌, ◌≤◌, ◌<◌, ◌∷◌, length, get_or, arith}
 use lib.Ieee.{binary64, add, nan}
 use borrow.Author.Tests.{eqb-true, eqb-false}
-use Rattle.bisim_edges.specs.Lent.{numbers}
+use Rattle.build_theory.proofs.Planning.{numbers}
 use Rattle.bisim_edges.proofs.Numbers.{numbers_length}
 use Rattle.bisim_edges.proofs.Joins.{behind, joining, room, goes_on, begins, all_joined}
 use Rattle.bisim_edges.proofs.edges.Edges.join.Goals.{then-eq, else-eq}

@@ -3,7 +3,7 @@
 use mathlib.Core.Path.{◌≡◌}
 use Prim.Native.Nat.{◌+◌}
 use mathlib.Core.List.{◌∷◌}
-use Rattle.bisim_edges.specs.Lent.{numbers}
+use Rattle.build_theory.proofs.Planning.{numbers}
 use Rattle.bisim_edges.proofs.Joins.{Joining}
 use Rattle.bisim_edges.proofs.edges.Edges.join.Given as goal
 

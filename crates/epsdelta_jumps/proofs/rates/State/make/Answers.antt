@@ -14,7 +14,7 @@ returns-clause-exit c =
     let a = c.args in
     let S = a.self.now in
     let X = c.add_edges.new.self in
-    let L = c.add_edges.ensures.added S.rowed (let r = c.requires.room in (omega arith, omega arith)) (λ w. w) (λ x y p. search rules) in
+    let L = c.add_edges.ensures.added S.rowed (let r = c.requires.room in (omega arith, omega arith)) in
     c.finish.ensures.0 ∙ exit_is S.off (row (columns_of S.model.now) S.s) X.len a.targets.now a.rates.now X.targets.now _ (laid_named refl (search rules) L) (search rules) (search rules)
 
 pub returns-clause-made : goal.returns-clause-made
@@ -23,5 +23,5 @@ returns-clause-made c =
     let a = c.args in
     let S = a.self.now in
     let X = c.add_edges.new.self in
-    let L = c.add_edges.ensures.added S.rowed (let r = c.requires.room in (omega arith, omega arith)) (λ w. w) (λ x y p. search rules) in
+    let L = c.add_edges.ensures.added S.rowed (let r = c.requires.room in (omega arith, omega arith)) in
     row_made S.off (row (columns_of S.model.now) S.s) X.len a.targets.now a.rates.now _ _ (laid_named (search rules) (search rules) L) (search rules) (search rules) _ c.finish.ensures.1

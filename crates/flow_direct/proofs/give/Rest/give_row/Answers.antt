@@ -1,4 +1,5 @@
 use mathlib.Core.Path.{refl, sym, ap, ◌∙◌}
+use mathlib.Core.Bool.{true≢false}
 use Rattle.flow_direct.specs.declared.give.Rest.{Rest}
 use Rattle.flow_routes.proofs.Coding.{given_on, shut_on, giving_full, giving_apart, giving_push, giving_turns}
 use Rattle.flow_direct.proofs.give.Rest.give_row.Goals as goal
@@ -19,6 +20,9 @@ loop-k-preserved c =
           ]) (ap (λ (r : Rest). r.lefts.now) w.self-is) (ap (λ (r : Rest). r.rights.now) w.self-is) (ap (λ (r : Rest). r.flows.now) w.self-is) w.total-is in
           ((ap (λ (r : Rest). r.test) w.self-is ∙ c.loop-k.invariant.0.0, Q), l, h)
     ]
+
+pub returns-then-not-remains : goal.returns-then-not-remains
+returns-then-not-remains c = (c.loop-k.invariant.2, (c.loop-k.invariant.0.0, giving_turns c.loop-k.invariant.0.1 (λ a. absurd (true≢false (sym a ∙ sym c.remains.ensures ∙ c.if-not-remains.true)))))
 
 pub returns : goal.returns
 returns c = (c.loop-k.invariant.2, (c.loop-k.invariant.0.0, giving_turns c.loop-k.invariant.0.1 (λ a. c.loop-k-test.false)))

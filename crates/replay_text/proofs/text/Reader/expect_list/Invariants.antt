@@ -1,5 +1,5 @@
 use Rattle.replay_text.specs.Reading.{Lasts}
-use Rattle.replay_text.proofs.text.Reader.expect_each.Given as goal
+use Rattle.replay_text.proofs.text.Reader.expect_list.Given as goal
 
 abbrev pub invariant-loop-x : goal.invariant-loop-x
 invariant-loop-x g l = Lasts l.initial.self l.self

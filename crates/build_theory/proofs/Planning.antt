@@ -1,10 +1,10 @@
--- What `plan` is lent: the lists that it fills.
+-- What `plan` is lent: the lists that it fills. Words of contracts.
 use Rattle.std.specs.Prelude.{◌≡◌, ℕ, Bool, List, map, Result}
 use Rattle.numbers.specs.declared.refusal.Refusal.{Refusal}
 use Rattle.numbers.specs.Refuse.{numbered}
 use Rattle.build_theory.specs.declared.keys.Triple.{Triple}
 use Rattle.build_theory.specs.declared.lent.Draft.{Draft}
-use Rattle.bisim_edges.specs.declared.planner.PlanLists.{PlanLists}
+use Rattle.build_theory.specs.declared.lent.PlanLists.{PlanLists}
 use Rattle.build_theory.specs.Lent.{transitions_of}
 use Rattle.build_theory.proofs.Plan.{Lists, lists, ending, planned}
 use Rattle.build_theory.proofs.Steps.{rank}
