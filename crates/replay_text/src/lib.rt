@@ -2,10 +2,10 @@
 #![tactic(auto)]
 
 pub mod answers; // answers.rt: answers in the text
-pub mod cases; // cases.rt: all cases of standard input
+pub mod cases; // cases.rt: a text, and how its cases stand in it
 pub mod columns; // columns.rt: a built model in the text
 pub mod hex; // hex.rt: bytes written in hexadecimal digits
 pub mod lists; // lists.rt: lists in the text
 pub mod tally; // tally.rt: how many agree, and how many differ
-pub mod text; // text.rt: the text of a case
+pub mod text; // text.rt: the words of a text
 pub mod values; // values.rt: values in the text

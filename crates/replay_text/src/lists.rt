@@ -2,7 +2,7 @@
 ghost use Rattle.std.specs.Prelude.{◌≡◌, ◌≤◌, length, take, drop};
 ghost use Rattle.std.specs.List.{list_all};
 ghost use Rattle.replay_text.specs.Reading.{Lasts};
-ghost use Rattle.replay_text.specs.Words.{first_word, past_word, values, behind as beyond, field_size, listed, past_list};
+ghost use Rattle.replay_text.specs.Words.{values, behind as beyond, field_size, past_field, listed, past_list};
 
 use crate::text::Reader;
 use crate::values::{Entry, Value};
@@ -43,7 +43,7 @@ impl Reader<'_> {
     // How many entries there are; more than there is room for is a fault, and 0.
     #[tactic(auto, unfolding(crate::specs::Words::field_size))]
     pub fn size_field(&mut self, room: usize) -> usize
-        ensures read { (result ≡ field_size room self.old.rest.now) × (self.new.rest.now ≡ past_word (past_word self.old.rest.now)) }
+        ensures read { (result ≡ field_size room self.old.rest.now) × (self.new.rest.now ≡ past_field self.old.rest.now) }
         ensures room { result ≤ room }
         ensures lasts { Lasts self.old self.new }
     {
@@ -53,7 +53,7 @@ impl Reader<'_> {
 
     // The entries of a list, one behind the other.
     pub(crate) fn read_each<T: Entry>(&mut self, list: &mut [T])
-        ensures read { (list.new ≡ values (λ t. T.said (first_word t)) past_word (length list.old) self.old.rest.now) × (self.new.rest.now ≡ beyond past_word (length list.old) self.old.rest.now) }
+        ensures read { (list.new ≡ values T.said T.past (length list.old) self.old.rest.now) × (self.new.rest.now ≡ beyond T.past (length list.old) self.old.rest.now) }
         ensures lasts { Lasts self.old self.new }
     {
         for entry in list.iter_mut() {
@@ -63,7 +63,7 @@ impl Reader<'_> {
 
     // A list of entries, which goes to the front of `out`: that front.
     pub fn list_field<'b, T: Entry>(&mut self, out: &'b mut [T]) -> &'b mut [T]
-        ensures read { (result.now ≡ listed T.said (length out.old) self.old.rest.now) × (self.new.rest.now ≡ past_list (length out.old) self.old.rest.now) }
+        ensures read { (result.now ≡ listed T.said T.past (length out.old) self.old.rest.now) × (self.new.rest.now ≡ past_list T.past (length out.old) self.old.rest.now) }
         ensures room { length result.now ≤ length out.old }
         ensures lasts { Lasts self.old self.new }
     {

@@ -1,6 +1,6 @@
 // The text of cases: words and numbers between single blanks and line feeds.
 ghost use Rattle.std.specs.Prelude.{◌≡◌, true, false, ◌<◌, ◌&&◌, not, cond, eqb, length, drop, IfSome, IfNone, Some};
-ghost use Rattle.replay_text.specs.Words.{in_word, digit_of, grown, digits, float_of, past, first_word, past_word, whole, whole_or_none, short, real};
+ghost use Rattle.replay_text.specs.Words.{in_word, digit_of, grown, digits, float_of, past, word_size, first_word, past_word, begins_absent, whole, past_whole, short, real, past_bits, past_real};
 ghost use Rattle.replay_text.specs.Reading.{Placed, Kept, Lasts, same};
 ghost use Rattle.replay_text.specs.Tally.{Ready, agrees as agreed, tallied, other_tallied, closed};
 
@@ -8,7 +8,10 @@ use crate::lists::front;
 use crate::tally::Counts;
 use crate::values::Value;
 
-// What is still to come of a case, and how it has gone so far.
+// Stands for an absent number, which is written `-`.
+pub(crate) const ABSENT: u64 = 0xffff_ffff_ffff_ffff;
+
+// What is still to come of a text, how its case has gone so far, and what has been counted.
 #[derive(Clone, Copy)]
 pub struct Reader<'a> {
     pub rest: &'a [u8],
@@ -45,18 +48,6 @@ fn with_digit(x: u64, b: u8, base: u64) -> Option<u64>
     x.checked_mul(base)?.checked_add(digit(b, base)?)
 }
 
-// The number that digits make; none where one is no digit, or the number has over 64 bits.
-// Stays: `u64::from_str_radix` takes a sign and capitals too, with which no number of a case is written, and a text in place of bytes.
-fn parsed(bytes: &[u8], base: u64) -> Option<u64>
-    ensures { result ≡ digits base bytes.now }
-{
-    let mut x = 0u64;
-    for b in bytes {
-        x = with_digit(x, *b, base)?;
-    }
-    Some(x)
-}
-
 // The bit of the sign, and the bits of infinity: what is above them, the sign apart, is a NaN's.
 const SIGN: u64 = 0x8000_0000_0000_0000;
 
@@ -81,11 +72,11 @@ pub fn alike(x: f64, y: f64) -> bool
 }
 
 impl<'a> Reader<'a> {
-    pub fn new(case: &'a [u8], counts: Counts) -> Reader<'a>
-        ensures { (result.rest.now ≡ case.now) × (result.faulty ≡ false) × (result.differs ≡ false) × (result.counts ≡ counts) }
+    pub fn new(text: &'a [u8], counts: Counts) -> Reader<'a>
+        ensures { (result.rest.now ≡ text.now) × (result.faulty ≡ false) × (result.differs ≡ false) × (result.counts ≡ counts) }
     {
         Reader {
-            rest: case,
+            rest: text,
             faulty: false,
             differs: false,
             counts,
@@ -142,9 +133,10 @@ impl<'a> Reader<'a> {
         self.advance();
     }
 
-    // A word of at most 32 bytes.
-    pub fn word(&mut self) -> &'a [u8]
-        ensures read { (result.now ≡ first_word self.old.rest.now) × (self.new.rest.now ≡ past_word self.old.rest.now) }
+    // The bytes of a word, at most 32: what ends it is still to come.
+    fn letters(&mut self) -> &'a [u8]
+        ensures read { (result.now ≡ first_word self.old.rest.now) × (self.new.rest.now ≡ drop (word_size self.old.rest.now) self.old.rest.now) }
+        ensures size { length result.now ≡ word_size self.old.rest.now }
         ensures lasts { Lasts self.old self.new }
     {
         let text = self.rest;
@@ -155,7 +147,16 @@ impl<'a> Reader<'a> {
             .unwrap_or(room.len());
         let (word, rest) = text.split_at(size);
         self.rest = rest;
-        self.ended(size);
+        word
+    }
+
+    // A word of at most 32 bytes.
+    pub fn word(&mut self) -> &'a [u8]
+        ensures read { (result.now ≡ first_word self.old.rest.now) × (self.new.rest.now ≡ past_word self.old.rest.now) }
+        ensures lasts { Lasts self.old self.new }
+    {
+        let word = self.letters();
+        self.ended(word.len());
         word
     }
 
@@ -181,47 +182,69 @@ impl<'a> Reader<'a> {
         }
     }
 
-    // A whole number, or `-` for none.
-    #[tactic(auto, unfolding(crate::specs::Words::whole_or_none))]
-    pub(crate) fn number_or_none(&mut self) -> Option<u64>
-        ensures read { (result ≡ whole_or_none (first_word self.old.rest.now)) × (self.new.rest.now ≡ past_word self.old.rest.now) }
+    // The number that the bytes of a word make. A byte that is no digit, or a number of over 64 bits, is a fault, and the number begins anew behind it.
+    // Stays: `u64::from_str_radix` takes a sign and capitals too, with which no number of a case is written, and a text in place of bytes.
+    fn digits(&mut self, word: &[u8], base: u64) -> u64
+        ensures read { (result ≡ digits base word.now) × (self.new.rest ≡ self.old.rest) }
         ensures lasts { Lasts self.old self.new }
     {
-        match self.word() {
-            b"-" => None,
-            word => Some(self.found(parsed(word, 10))),
+        let mut x = 0;
+        for b in word {
+            x = self.found(with_digit(x, *b, base));
         }
+        x
     }
 
-    // A whole number.
-    #[tactic(auto, unfolding(crate::specs::Words::whole))]
+    fn at_absent(&self) -> bool
+        ensures { result ≡ begins_absent self.now.rest.now }
+    {
+        self.rest.first() == Some(&b'-')
+    }
+
+    // A whole number, or `-`, which is passed alone.
+    #[tactic(auto, unfolding(crate::specs::Words::whole, crate::specs::Words::past_whole))]
     pub(crate) fn number(&mut self) -> u64
-        ensures read { (result ≡ whole (first_word self.old.rest.now)) × (self.new.rest.now ≡ past_word self.old.rest.now) }
+        ensures read { (result ≡ whole self.old.rest.now) × (self.new.rest.now ≡ past_whole self.old.rest.now) }
         ensures lasts { Lasts self.old self.new }
     {
-        let x = self.number_or_none();
-        self.found(x)
+        if self.at_absent() {
+            self.advance();
+            self.ended(1);
+            return ABSENT;
+        }
+        let word = self.word();
+        self.digits(word, 10)
+    }
+
+    // The digits of a bit pattern have ended, which are 16.
+    #[tactic(auto, unfolding(crate::specs::Words::past_bits))]
+    fn bits_ended(&mut self, size: usize)
+        ensures read { self.new.rest.now ≡ past_bits size self.old.rest.now }
+        ensures lasts { Lasts self.old self.new }
+    {
+        if size == 16 {
+            self.ended(16);
+        } else {
+            self.fault();
+        }
     }
 
     // The 16 hexadecimal digits of a bit pattern.
     #[tactic(auto, unfolding(crate::specs::Words::real))]
     pub(crate) fn real(&mut self) -> f64
-        ensures read { (result ≡ real (first_word self.old.rest.now)) × (self.new.rest.now ≡ past_word self.old.rest.now) }
+        ensures read { (result ≡ real self.old.rest.now) × (self.new.rest.now ≡ past_real self.old.rest.now) }
         ensures lasts { Lasts self.old self.new }
     {
-        let word = self.word();
-        let bits = if word.len() == 16 {
-            parsed(word, 16)
-        } else {
-            None
-        };
-        of_bits(self.found(bits))
+        let word = self.letters();
+        let bits = self.digits(word, 16);
+        self.bits_ended(word.len());
+        of_bits(bits)
     }
 
     // A number of 32 bits: anything else is a fault.
     #[tactic(auto, unfolding(crate::specs::Words::short))]
     pub(crate) fn short(&mut self) -> u32
-        ensures read { (result ≡ short (first_word self.old.rest.now)) × (self.new.rest.now ≡ past_word self.old.rest.now) }
+        ensures read { (result ≡ short self.old.rest.now) × (self.new.rest.now ≡ past_whole self.old.rest.now) }
         ensures lasts { Lasts self.old self.new }
     {
         let x = self.number();
@@ -230,7 +253,7 @@ impl<'a> Reader<'a> {
 
     // A field is a name, which need not be looked at, and what follows it.
     pub fn number_field(&mut self) -> u64
-        ensures read { (result ≡ whole (first_word (past_word self.old.rest.now))) × (self.new.rest.now ≡ past_word (past_word self.old.rest.now)) }
+        ensures read { (result ≡ whole (past_word self.old.rest.now)) × (self.new.rest.now ≡ past_whole (past_word self.old.rest.now)) }
         ensures lasts { Lasts self.old self.new }
     {
         self.name();
@@ -238,7 +261,7 @@ impl<'a> Reader<'a> {
     }
 
     pub fn short_field(&mut self) -> u32
-        ensures read { (result ≡ short (first_word (past_word self.old.rest.now))) × (self.new.rest.now ≡ past_word (past_word self.old.rest.now)) }
+        ensures read { (result ≡ short (past_word self.old.rest.now)) × (self.new.rest.now ≡ past_whole (past_word self.old.rest.now)) }
         ensures lasts { Lasts self.old self.new }
     {
         self.name();
@@ -246,7 +269,7 @@ impl<'a> Reader<'a> {
     }
 
     pub fn real_field(&mut self) -> f64
-        ensures read { (result ≡ real (first_word (past_word self.old.rest.now))) × (self.new.rest.now ≡ past_word (past_word self.old.rest.now)) }
+        ensures read { (result ≡ real (past_word self.old.rest.now)) × (self.new.rest.now ≡ past_real (past_word self.old.rest.now)) }
         ensures lasts { Lasts self.old self.new }
     {
         self.name();
@@ -286,12 +309,12 @@ impl<'a> Reader<'a> {
         self.settle();
     }
 
-    // The counts once a case has ended: where it is as laid out so far, more text is one difference.
+    // The counts once a case has ended: where it is as laid out so far, more text in its line is one difference.
     pub fn end(&self) -> Counts
         ensures { result ≡ closed self.now }
     {
         let mut counts = self.counts;
-        if !self.faulty && !self.at_end() {
+        if !self.faulty && self.within_line() {
             counts.count_other();
         }
         counts

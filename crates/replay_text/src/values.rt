@@ -2,7 +2,7 @@
 ghost use Rattle.std.specs.Prelude.{◌≡◌, ℕ, List, Some, false};
 ghost use Rattle.numbers.specs.Real.{nought};
 ghost use Rattle.replay_text.specs.Reading.{Lasts};
-ghost use Rattle.replay_text.specs.Words.{first_word, past_word, short, byte, real};
+ghost use Rattle.replay_text.specs.Words.{past_whole, short, byte, real, past_real};
 
 use crate::text;
 use crate::text::Reader;
@@ -25,12 +25,14 @@ pub trait Value: Sized {
 
 // A value that lists are made of.
 pub trait Entry: Value + Copy {
-    // The one that a word says.
+    // The one that a text begins with, and what stands behind it.
     ghost said: { List ℕ → Self };
+
+    ghost past: { List ℕ → List ℕ };
 
     // One from the text.
     fn read(r: &mut Reader) -> Self
-        ensures read { (result ≡ said (first_word r.old.rest.now)) × (r.new.rest.now ≡ past_word r.old.rest.now) }
+        ensures read { (result ≡ said r.old.rest.now) × (r.new.rest.now ≡ past r.old.rest.now) }
         ensures lasts { Lasts r.old r.new };
 }
 
@@ -54,8 +56,8 @@ impl Value for u64 {
     }
 
     fn expect(self, r: &mut Reader) {
-        let stored = r.number_or_none();
-        r.compared(stored == Some(self));
+        let stored = r.number();
+        r.compared(stored == self);
     }
 }
 
@@ -156,10 +158,7 @@ impl<T: Value> Value for Option<T> {
     fn expect(self, r: &mut Reader) {
         match self {
             Some(x) => x.expect(r),
-            None => {
-                let stored = r.number_or_none();
-                r.compared(stored.is_none());
-            }
+            None => text::ABSENT.expect(r),
         }
     }
 }
@@ -194,23 +193,30 @@ impl<A: Value, B: Value, C: Value> Value for (A, B, C) {
 impl Entry for u32 {
     ghost said = { short };
 
+    ghost past = { past_whole };
+
     fn read(r: &mut Reader) -> u32 {
         r.short()
     }
 }
 
+// A number of over 8 bits is 0.
 impl Entry for u8 {
     ghost said = { byte };
+
+    ghost past = { past_whole };
 
     #[tactic(auto, unfolding(crate::specs::Words::byte))]
     fn read(r: &mut Reader) -> u8 {
         let x = r.short();
-        r.found(u8::try_from(x).ok())
+        u8::try_from(x).unwrap_or(0)
     }
 }
 
 impl Entry for f64 {
     ghost said = { real };
+
+    ghost past = { past_real };
 
     fn read(r: &mut Reader) -> f64 {
         r.real()

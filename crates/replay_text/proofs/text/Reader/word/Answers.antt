@@ -1,22 +1,9 @@
-use Rattle.std.proofs.Common.{rules, tests, ap, ◌∙◌, ℕ, not, take, drop}
-use native.Mathlib.Omega.{arith}
-use Rattle.std.proofs.lemmas.Iterator.{YieldsList-from_slice}
-use Rattle.std.proofs.lemmas.Iterator.Search.{position_from_yields_List}
-use Rattle.replay_text.specs.Words.{in_word, past}
-use Rattle.replay_text.proofs.Words.{word_found, word_within}
+use Rattle.std.proofs.Common.{ap, ◌∙◌, ℕ}
+use Rattle.replay_text.specs.Words.{past, word_size}
 use Rattle.replay_text.proofs.text.Reader.word.Goals as goal
-
-pub split_at-requires : goal.split_at-requires
-split_at-requires c =
-    let t = c.args.self.now.rest.now in
-    let e = word_found t _ _ _ c.front-room.ensures c.unwrap_or-size.ensures (position_from_yields_List (λ b. not (in_word b)) _ _ _ c.position.ensures.ran (YieldsList-from_slice (take 32 t) cc) (λ x b q k. search (rules, tests))) in
-    let h = word_within t in
-    omega (arith, e, h)
 
 pub returns-clause-read : goal.returns-clause-read
 returns-clause-read c =
     let t = c.args.self.now.rest.now in
-    let e = word_found t _ _ _ c.front-room.ensures c.unwrap_or-size.ensures (position_from_yields_List (λ b. not (in_word b)) _ _ _ c.position.ensures.ran (YieldsList-from_slice (take 32 t) cc) (λ x b q k. search (rules, tests))) in (
-      c.split_at.ensures.front ∙ ap (λ (n : ℕ). take n t) e,
-      c.ended.ensures.read ∙ ap (past c.unwrap_or-size.result) c.split_at.ensures.back ∙ ap (λ (n : ℕ). past n (drop n t)) e,
-    )
+    let read = c.letters-word.ensures.read in
+    (read.0, c.ended.ensures.read ∙ ap (λ (n : ℕ). past n c.letters-word.new.self.rest.now) c.letters-word.ensures.size ∙ ap (past (word_size t)) read.1)
