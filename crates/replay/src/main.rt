@@ -9,7 +9,7 @@ mod models; // models.rt: the kind `model`
 mod reals; // reals.rt: the kind `real`
 
 use entries::Entry;
-use replay_text::cases::Cases;
+use replay_text::cases;
 use replay_text::tally::Counts;
 use replay_text::text::Reader;
 use std::io;
@@ -52,13 +52,15 @@ fn print_all(rt: &impl Print, counts: &Counts) {
 }
 
 fn main(rt: HostRuntime) -> io::Result<()> {
-    let cases = Cases::read(&mut rt.reader(), rt.alloc())?;
-    let mut counts = Counts::new();
-    for k in 0..cases.count() {
-        let mut r = Reader::new(cases.case(k), counts);
+    let text = cases::read(&mut rt.reader(), rt.alloc())?;
+    let mut r = Reader::new(&text, Counts::new());
+    for _ in 0..cases::MOST {
+        if r.at_end() {
+            break;
+        }
         run_kind(&mut r);
-        counts = r.end();
+        r.next_case();
     }
-    print_all(&rt, &counts);
+    print_all(&rt, &r.counts);
     Ok(())
 }

@@ -16,12 +16,13 @@ pub struct Side {
 }
 
 impl Side {
+    // The lists of whole numbers have room for 400 entries together, weights and observations for 200.
     pub fn read(r: &mut Reader) -> Side {
         let mut model = Model::new();
         let mut observations = Column::new();
-        model.read(r);
+        let room = model.read_within(400, 200, r);
         let state = StateId(r.short_field());
-        observations.fill(r);
+        observations.fill_within(room, r);
         let rooms = asked::read_chain_rooms(r);
         Side {
             model,

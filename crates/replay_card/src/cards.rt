@@ -2,7 +2,6 @@
 use card::report;
 use replay_text::lists;
 use replay_text::text::Reader;
-use replay_text::values::Entry;
 
 // The text is as stored, and the bytes after it are as they were.
 fn expect_store(r: &mut Reader, out: &[u8], written: usize, byte: u8) {
@@ -13,8 +12,7 @@ fn expect_store(r: &mut Reader, out: &[u8], written: usize, byte: u8) {
 pub fn run(r: &mut Reader, card: &mut [u8], out: &mut [u8]) {
     let card = r.hex_field(card);
     let room = r.size_field(out.len());
-    r.name();
-    let byte = u8::read(r);
+    let byte = (r.short_field() % 256) as u8;
     let out = lists::front_mut(out, room);
     out.fill(byte);
     let answer = report(card, out);

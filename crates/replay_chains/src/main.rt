@@ -8,31 +8,34 @@ mod rates; // rates.rt: the kind `rate`
 mod scaled; // scaled.rt: the kind `normalise`
 
 use entries::Entry;
-use replay_text::cases::Cases;
+use replay_text::cases;
 use replay_text::tally::Counts;
 use replay_text::text::Reader;
 use std::io;
 
+// A kind is told by its first eight letters.
 fn run_kind(r: &mut Reader) {
     match r.kind() {
         b"rate" => rates::run(r),
-        b"uniformise" => made::run(r),
-        b"normalise" => scaled::run(r),
+        b"uniformi" => made::run(r),
+        b"normalis" => scaled::run(r),
         _ => r.unknown(),
     }
 }
 
 fn main(rt: HostRuntime) -> io::Result<()> {
-    let cases = Cases::read(&mut rt.reader(), rt.alloc())?;
-    let mut counts = Counts::new();
-    for k in 0..cases.count() {
-        let mut r = Reader::new(cases.case(k), counts);
+    let text = cases::read(&mut rt.reader(), rt.alloc())?;
+    let mut r = Reader::new(&text, Counts::new());
+    for _ in 0..cases::MOST {
+        if r.at_end() {
+            break;
+        }
         run_kind(&mut r);
-        counts = r.end();
+        r.next_case();
     }
-    counts.print(&rt, "rate common_rate", Entry::CommonRate as usize);
-    counts.print(&rt, "uniformise uniformise", Entry::Uniformise as usize);
-    counts.print(&rt, "normalise normalise", Entry::Normalise as usize);
-    counts.print_end(&rt);
+    r.counts.print(&rt, "rate common_rate", Entry::CommonRate as usize);
+    r.counts.print(&rt, "uniformise uniformise", Entry::Uniformise as usize);
+    r.counts.print(&rt, "normalise normalise", Entry::Normalise as usize);
+    r.counts.print_end(&rt);
     Ok(())
 }

@@ -8,8 +8,8 @@ use replay_text::text::Reader;
 pub fn run(r: &mut Reader) {
     let mut left = Store::new();
     let mut right = Store::new();
-    let mut left = left.read(r);
-    let mut right = right.read(r);
+    let mut left = left.read_apart(r);
+    let mut right = right.read_apart(r);
     let answer = normalise(&mut left, &mut right);
     r.expect_answer(answer);
     r.expect_list(left.observations);

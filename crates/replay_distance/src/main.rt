@@ -4,24 +4,26 @@
 
 mod runs; // runs.rt: the kind `distance`
 
-use replay_text::cases::Cases;
+use replay_text::cases;
 use replay_text::tally::Counts;
 use replay_text::text::Reader;
 use std::io;
 
 // Stays: one function for the four programs of one kind would take what runs a case as a closure, and so ask of its callers that it can be called.
 fn main(rt: HostRuntime) -> io::Result<()> {
-    let cases = Cases::read(&mut rt.reader(), rt.alloc())?;
-    let mut counts = Counts::new();
-    for k in 0..cases.count() {
-        let mut r = Reader::new(cases.case(k), counts);
+    let text = cases::read(&mut rt.reader(), rt.alloc())?;
+    let mut r = Reader::new(&text, Counts::new());
+    for _ in 0..cases::MOST {
+        if r.at_end() {
+            break;
+        }
         if r.is_kind(b"distance") {
             runs::run(&mut r);
             r.count(0);
         }
-        counts = r.end();
+        r.next_case();
     }
-    counts.print(&rt, "distance distance", 0);
-    counts.print_end(&rt);
+    r.counts.print(&rt, "distance distance", 0);
+    r.counts.print_end(&rt);
     Ok(())
 }

@@ -28,7 +28,7 @@ pub struct Rooms {
     pub records: usize,
 }
 
-// How many entries of each list are lent for a chain.
+// How many entries of each list are lent for a chain: the first four of six counts.
 #[derive(Clone, Copy, Debug)]
 pub struct ChainRooms {
     pub offsets: usize,
@@ -37,21 +37,19 @@ pub struct ChainRooms {
     pub seen: usize,
 }
 
-// N counts; a list of another length is a fault.
-fn counts<const N: usize>(r: &mut Reader) -> [u32; N]
+// Up to six counts, and zeros behind them.
+fn counts(r: &mut Reader) -> [usize; 6]
     ensures { Lasts r.old r.new }
 {
-    let mut counts = [0u32; N];
-    if r.list_field(&mut counts).len() != N {
-        r.fault();
-    }
-    counts
+    let mut counts = [0u32; 6];
+    r.list_field(&mut counts);
+    counts.map(|n| n as usize)
 }
 
 pub fn read_rooms(r: &mut Reader) -> Rooms
     ensures { Lasts r.old r.new }
 {
-    let [lefts, rights, codes, places, masses, records] = counts::<6>(r).map(|n| n as usize);
+    let [lefts, rights, codes, places, masses, records] = counts(r);
     Rooms {
         lefts,
         rights,
@@ -65,7 +63,7 @@ pub fn read_rooms(r: &mut Reader) -> Rooms
 pub fn read_chain_rooms(r: &mut Reader) -> ChainRooms
     ensures { Lasts r.old r.new }
 {
-    let [offsets, targets, probs, seen] = counts::<4>(r).map(|n| n as usize);
+    let [offsets, targets, probs, seen, ..] = counts(r);
     ChainRooms {
         offsets,
         targets,

@@ -1,5 +1,5 @@
 // A chain in the text, with its observations.
-ghost use Rattle.std.specs.Prelude.{◌≡◌, min, replicate};
+ghost use Rattle.std.specs.Prelude.{◌≡◌, ◌+◌, ◌≤◌, length, min, replicate};
 ghost use Rattle.numbers.specs.Real.{nought};
 ghost use Rattle.replay_text.specs.Reading.{Lasts};
 ghost use Rattle.replay_measures.specs.Marks.{mark};
@@ -10,6 +10,16 @@ use bisim_core::ids::StateId;
 use chain_theory::{ChainMut, ChainShape, ChainStore};
 use replay_text::lists::{front, front_mut};
 use replay_text::text::Reader;
+
+fn read_shape(r: &mut Reader) -> ChainShape
+    ensures { Lasts r.old r.new }
+{
+    ChainShape {
+        states: r.number_field() as usize,
+        entries: r.number_field() as usize,
+        initial: StateId(r.short_field()),
+    }
+}
 
 // Room for the lists of a chain.
 #[derive(Drop)]
@@ -34,8 +44,35 @@ impl Store {
         }
     }
 
+    // The lists of whole numbers have room for 200 entries together, and so have the others.
     pub fn read<'a>(&'a mut self, r: &mut Reader) -> ChainMut<'a>
-        ensures { Lasts r.old r.new }
+        ensures room { (length result.offsets.now + length result.targets.now ≤ 200) × (length result.probs.now + length result.observations.now ≤ 200) }
+        ensures lasts { Lasts r.old r.new }
+    {
+        let Store {
+            offsets,
+            targets,
+            probs,
+            seen,
+        } = self;
+        let shape = read_shape(r);
+        let offsets = r.list_field(offsets);
+        let targets = r.list_field(front_mut(targets, 200 - offsets.len()));
+        let probs = r.list_field(probs);
+        let observations = r.list_field(front_mut(seen, 200 - probs.len()));
+        ChainMut {
+            shape,
+            offsets,
+            targets,
+            probs,
+            observations,
+        }
+    }
+
+    // The same with room for 100 entries of each list.
+    pub fn read_apart<'a>(&'a mut self, r: &mut Reader) -> ChainMut<'a>
+        ensures room { (length result.offsets.now ≤ 100) × (length result.targets.now ≤ 100) × (length result.probs.now ≤ 100) × (length result.observations.now ≤ 100) }
+        ensures lasts { Lasts r.old r.new }
     {
         let Store {
             offsets,
@@ -44,15 +81,11 @@ impl Store {
             seen,
         } = self;
         ChainMut {
-            shape: ChainShape {
-                states: r.number_field() as usize,
-                entries: r.number_field() as usize,
-                initial: StateId(r.short_field()),
-            },
-            offsets: r.list_field(offsets),
-            targets: r.list_field(targets),
-            probs: r.list_field(probs),
-            observations: r.list_field(seen),
+            shape: read_shape(r),
+            offsets: r.list_field(&mut offsets[..100]),
+            targets: r.list_field(&mut targets[..100]),
+            probs: r.list_field(&mut probs[..100]),
+            observations: r.list_field(&mut seen[..100]),
         }
     }
 

@@ -96,7 +96,7 @@ impl<'a> Reader<'a> {
         ensures kept { Kept self.old self.new }
     {
         self.past_lines();
-        self.advance();
+        self.rest = behind(self.rest, 1);
     }
 
     // Counts what a case ends with, and goes on to the next, which has no faults and no differences so far.
