@@ -5,14 +5,19 @@
 mod models; // models.rt: the kind `bisim_distance`
 mod side; // side.rt: a model in the text
 
+use replay_measures::scratch::Lists;
 use replay_text::cases;
 use replay_text::tally::Counts;
 use replay_text::text::Reader;
+use side::Side;
 use std::io;
 
 // Stays: one function for the four programs of one kind would take what runs a case as a closure, and so ask of its callers that it can be called.
 fn main(rt: HostRuntime) -> io::Result<()> {
     let text = cases::read(&mut rt.reader(), rt.alloc())?;
+    let mut left = Side::new();
+    let mut right = Side::new();
+    let mut lists = Lists::new();
     let mut r = Reader::new(&text, Counts::new());
     for _ in 0..cases::MOST {
         if r.at_end() {
@@ -20,7 +25,7 @@ fn main(rt: HostRuntime) -> io::Result<()> {
         }
         // A kind is told by its first eight letters.
         if r.is_kind(b"bisim_di") {
-            models::run(&mut r);
+            models::run(&mut r, &mut left, &mut right, &mut lists);
             r.count(0);
         }
         r.next_case();

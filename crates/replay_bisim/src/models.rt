@@ -7,14 +7,13 @@ use replay_measures::{answer, asked, scratch};
 use replay_text::text::Reader;
 
 // The models, the goal, and how much is lent; the answer, and what the lists that are lent hold then.
-pub fn run(r: &mut Reader) {
-    let left = Side::read(r);
-    let right = Side::read(r);
+pub fn run(r: &mut Reader, left: &mut Side, right: &mut Side, lists: &mut Lists) {
+    left.read(r);
+    right.read(r);
     let goal = asked::read(r);
     let rooms = asked::read_rooms(r);
     let mut left_chain = Store::new();
     let mut right_chain = Store::new();
-    let mut lists = Lists::new();
     let told = measure(
         &left.observed(),
         &mut left_chain.lend(left.rooms),

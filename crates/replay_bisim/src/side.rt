@@ -16,20 +16,27 @@ pub struct Side {
 }
 
 impl Side {
-    // The lists of whole numbers have room for 400 entries together, weights and observations for 200.
-    pub fn read(r: &mut Reader) -> Side {
-        let mut model = Model::new();
-        let mut observations = Column::new();
-        let room = model.read_within(400, 200, r);
-        let state = StateId(r.short_field());
-        observations.fill_within(room, r);
-        let rooms = asked::read_chain_rooms(r);
+    // Nothing is read yet.
+    pub fn new() -> Side {
         Side {
-            model,
-            state,
-            observations,
-            rooms,
+            model: Model::new(),
+            state: StateId(0),
+            observations: Column::new(),
+            rooms: ChainRooms {
+                offsets: 0,
+                targets: 0,
+                probs: 0,
+                seen: 0,
+            },
         }
+    }
+
+    // The lists of whole numbers have room for 400 entries together, weights and observations for 200.
+    pub fn read(&mut self, r: &mut Reader) {
+        let room = self.model.read_within(400, 200, r);
+        self.state = StateId(r.short_field());
+        self.observations.fill_within(room, r);
+        self.rooms = asked::read_chain_rooms(r);
     }
 
     // What is asked of it.

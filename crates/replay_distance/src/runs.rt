@@ -7,14 +7,13 @@ use replay_measures::{answer, asked, scratch};
 use replay_text::text::Reader;
 
 // The chains, the goal, and how much is lent; the answer, and what each list holds then.
-pub fn run(r: &mut Reader) {
+pub fn run(r: &mut Reader, lists: &mut Lists) {
     let mut left = Store::new();
     let mut right = Store::new();
     let left = left.read(r);
     let right = right.read(r);
     let goal = asked::read(r);
     let rooms = asked::read_rooms(r);
-    let mut lists = Lists::new();
     let of = Question {
         left: left.chain(),
         right: right.chain(),

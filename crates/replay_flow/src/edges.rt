@@ -8,18 +8,29 @@ use flow::network::{FlowNetwork, Link};
 use flow_check::Edge;
 use replay_text::lists::front;
 use replay_text::text::Reader;
+use replay_text::values::Value;
 
 // Two places more than n, where there is room.
 fn two_more(n: usize) -> usize {
     n.min(2174) + 2
 }
 
-// The first n links: each field in a list of its own.
-// Stays: `map` is of an array, so that the list of a field is made of the whole and cut afterwards; of a slice it would be a loop for each field.
-fn expect_links(r: &mut Reader, links: [Link; 2176], n: usize) {
-    r.expect_list(front(&links.map(|link| link.head), n));
-    r.expect_list(front(&links.map(|link| link.cap), n));
-    r.expect_list(front(&links.map(|link| link.cost), n));
+// A field of each link, in a list of its own.
+pub(crate) fn expect_field<T: Value, F: Fn(&Link) -> T>(r: &mut Reader, links: &[Link], field: F)
+    requires { F.IsAlwaysCallable field }
+{
+    r.name();
+    r.expect(links.len());
+    for link in links {
+        r.expect(field(link));
+    }
+}
+
+// The links: each field in a list of its own.
+fn expect_links(r: &mut Reader, links: &[Link]) {
+    expect_field(r, links, |link| link.head);
+    expect_field(r, links, |link| link.cap);
+    expect_field(r, links, |link| link.cost);
 }
 
 // The network with the link asked for, and its reverse, after its links; none where an end has over 32 bits, or there is no room.
@@ -61,7 +72,7 @@ fn same_else(l: Listed, x: Edge, made: Left<()>) -> bool {
 
 fn compare(r: &mut Reader, l: Listed, x: Edge, made: Left<()>) {
     r.expect_answer(made.answer.map(|()| made.net.count));
-    expect_links(r, made.net.links, two_more(l.links));
+    expect_links(r, front(&made.net.links, two_more(l.links)));
     r.expect_list(front(&made.net.starts, l.starts));
     r.expect_list(front(&made.net.list, two_more(l.list)));
     r.compared(same_else(l, x, made));

@@ -1,4 +1,5 @@
 // The kind `flow`: the maximum flow on a network.
+use crate::edges::expect_field;
 use crate::entries::Entry;
 use crate::kept::Untouched;
 use crate::{kept, lent, nets};
@@ -30,7 +31,7 @@ pub fn run(r: &mut Reader) {
     };
     let ran = lent::max_flow(l.net, ends);
     r.expect_answer(ran.answer.map(|f| (f.flow, f.phases, f.pushes)));
-    r.expect_list(front(&ran.net.links.map(|link| link.cap), l.links));
+    expect_field(r, front(&ran.net.links, l.links), |link| link.cap);
     r.compared(same_else(&l.net, &ran.net, l.links));
     r.count(Entry::MaxFlow as usize);
 }

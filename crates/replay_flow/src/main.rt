@@ -35,8 +35,10 @@ fn main(rt: HostRuntime) -> io::Result<()> {
         run_kind(&mut r);
         r.next_case();
     }
-    r.counts.print(&rt, "flow max_flow", Entry::MaxFlow as usize);
-    r.counts.print(&rt, "edge add_edge", Entry::AddEdge as usize);
+    r.counts
+        .print(&rt, "flow max_flow", Entry::MaxFlow as usize);
+    r.counts
+        .print(&rt, "edge add_edge", Entry::AddEdge as usize);
     r.counts.print(&rt, "nodes new", Entry::New as usize);
     r.counts.print_end(&rt);
     Ok(())
