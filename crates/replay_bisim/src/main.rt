@@ -30,7 +30,8 @@ fn main(rt: HostRuntime) -> io::Result<()> {
         }
         r.next_case();
     }
-    r.counts.print(&rt, "bisim_distance bisim_distance", 0);
-    r.counts.print_end(&rt);
+    let counts = r.counts;
+    counts.print(&rt, "bisim_distance bisim_distance", 0);
+    counts.print_end(&rt);
     Ok(())
 }

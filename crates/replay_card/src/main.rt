@@ -25,7 +25,8 @@ fn main(rt: HostRuntime) -> io::Result<()> {
         }
         r.next_case();
     }
-    r.counts.print(&rt, "card report", 0);
-    r.counts.print_end(&rt);
+    let counts = r.counts;
+    counts.print(&rt, "card report", 0);
+    counts.print_end(&rt);
     Ok(())
 }

@@ -33,9 +33,10 @@ fn main(rt: HostRuntime) -> io::Result<()> {
         run_kind(&mut r);
         r.next_case();
     }
-    r.counts.print(&rt, "rate common_rate", Entry::CommonRate as usize);
-    r.counts.print(&rt, "uniformise uniformise", Entry::Uniformise as usize);
-    r.counts.print(&rt, "normalise normalise", Entry::Normalise as usize);
-    r.counts.print_end(&rt);
+    let counts = r.counts;
+    counts.print(&rt, "rate common_rate", Entry::CommonRate as usize);
+    counts.print(&rt, "uniformise uniformise", Entry::Uniformise as usize);
+    counts.print(&rt, "normalise normalise", Entry::Normalise as usize);
+    counts.print_end(&rt);
     Ok(())
 }

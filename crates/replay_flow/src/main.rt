@@ -35,11 +35,10 @@ fn main(rt: HostRuntime) -> io::Result<()> {
         run_kind(&mut r);
         r.next_case();
     }
-    r.counts
-        .print(&rt, "flow max_flow", Entry::MaxFlow as usize);
-    r.counts
-        .print(&rt, "edge add_edge", Entry::AddEdge as usize);
-    r.counts.print(&rt, "nodes new", Entry::New as usize);
-    r.counts.print_end(&rt);
+    let counts = r.counts;
+    counts.print(&rt, "flow max_flow", Entry::MaxFlow as usize);
+    counts.print(&rt, "edge add_edge", Entry::AddEdge as usize);
+    counts.print(&rt, "nodes new", Entry::New as usize);
+    counts.print_end(&rt);
     Ok(())
 }

@@ -24,7 +24,8 @@ fn main(rt: HostRuntime) -> io::Result<()> {
         }
         r.next_case();
     }
-    r.counts.print(&rt, "transport transport", 0);
-    r.counts.print_end(&rt);
+    let counts = r.counts;
+    counts.print(&rt, "transport transport", 0);
+    counts.print_end(&rt);
     Ok(())
 }
