@@ -163,13 +163,21 @@ module _ (labels : List ℕ) (count : ℕ) where
       step false false true = refl
       step false false false = refl
 
+  module _ (id : ℕ) where
+    resolve_refused : (n : ℕ) → resolve_refusal labels count id ≡ suc n → Err (suc n) ≡ resolve labels count id
+    unfolding resolve
+    resolve_refused n e = sym (ap (λ (r : ℕ). answered r (get_or labels id 0)) e)
+
+    pub resolve_3 : 256 < count → Err 3 ≡ resolve labels count id
+    resolve_3 h = resolve_refused 2 (check_hit _ _ _ (lt-ltb 256 count h))
+
+    pub no_such_id : count ≤ 256 → count ≤ id → Err 4 ≡ resolve labels count id
+    no_such_id small h = resolve_refused 3 (check_skip 3 _ _ _ (le-ltb 256 count small) (check_hit _ _ _ (sym (hit _ _ (sym (le-leb count id h))))))
+
   module _ (id : ℕ) (z : 0 ≡ get_refusal labels count) where
     passed : (b : Bool) → leb count id ≡ b → answered (check 4 b 0) (get_or labels id 0) ≡ resolve labels count id
     unfolding resolve
     passed b e = ap (λ (r : ℕ). answered r (get_or labels id 0)) (ap (λ (c : Bool). check 4 c 0) (sym e) ∙ ap (λ (n : ℕ). first n (check 4 (leb count id) 0)) z ∙ sym (resolve_is id))
-
-    pub no_such_id : count ≤ id → Err 4 ≡ resolve labels count id
-    no_such_id h = passed true (le-leb count id h)
 
     pub resolved : id < count → Ok (get_or labels id 0) ≡ resolve labels count id
     resolved h = passed false (lt-leb count id h)

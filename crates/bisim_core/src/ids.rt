@@ -1,8 +1,8 @@
 // Ids of states and labels, and label values interned by first appearance.
-ghost use Rattle.std.specs.Prelude.{◌≡◌, ◌&&◌, ◌||◌, not, take, eqb, ltb, is_some};
+ghost use Rattle.std.specs.Prelude.{◌≡◌, ◌&&◌, ◌||◌, not, take, eqb, ltb};
 ghost use Rattle.numbers.specs.Refuse.{code, numbered};
 ghost use Rattle.bisim_core.specs.Ids;
-ghost use Rattle.bisim_core.specs.Ids.{ends};
+ghost use Rattle.bisim_core.specs.Ids.{ends, listed};
 
 use numbers::refusal::Refusal;
 use numbers::seek;
@@ -32,19 +32,19 @@ pub(crate) fn single(labels: &[u32]) -> bool
         .all(|(i, x)| seek(labels, *x) == Some(i))
 }
 
-// Over 256 values, once one that is not known is added.
-fn overfull(count: usize, known: Option<usize>) -> bool
-    ensures { result ≡ (ltb 256 count || (eqb count 256 && not (is_some known))) }
-{
-    count > 256 || (count == 256 && known.is_none())
-}
-
 impl Interner<'_> {
     // Where the value stands among those in use.
     fn place(&self, value: u32) -> Option<usize>
         ensures { result ≡ Ids.place value (take self.now.count self.now.labels.now) }
     {
         seek(&self.labels[..self.count.min(self.labels.len())], value)
+    }
+
+    // Over 256 values, once this one is added if it is not known: the list is read only where 256 are in use.
+    fn overfull(&self, value: u32) -> bool
+        ensures { result ≡ (ltb 256 self.now.count || (eqb self.now.count 256 && not (listed value (take self.now.count self.now.labels.now)))) }
+    {
+        self.count > 256 || (self.count == 256 && self.place(value).is_none())
     }
 
     // Too few entries for the count, or a value listed twice.
@@ -75,15 +75,18 @@ impl Interner<'_> {
         Ok(self.place(value).map(|at| LabelId(at as u32)))
     }
 
-    // The label value of an id.
+    // The label value of an id. The list is read last, since that takes longest.
     pub fn resolve(&self, id: LabelId) -> Result<u32, Refusal>
         ensures { numbered result ≡ Ids.resolve self.now.labels.now self.now.count id.0 }
     {
-        self.check()?;
+        if self.count > 256 {
+            return Err(Refusal::ModelSize);
+        }
         let at = id.0 as usize;
         if at >= self.count {
             return Err(Refusal::OutOfRange);
         }
+        self.check()?;
         Ok(self.labels[at])
     }
 }
@@ -94,14 +97,13 @@ pub fn intern(labels: &mut [u32], count: usize, value: u32) -> Result<(LabelId, 
     ensures { ends (numbered result) labels.new ≡ Ids.interning labels.old count value }
 {
     let known = Interner { labels, count };
-    let place = known.place(value);
-    if overfull(count, place) {
+    if known.overfull(value) {
         return Err(Refusal::ModelSize);
     }
     if known.mislisted() {
         return Err(Refusal::OutOfRange);
     }
-    match place {
+    match known.place(value) {
         Some(at) => Ok((LabelId(at as u32), count)),
         None => {
             if labels.len() <= count {

@@ -188,10 +188,10 @@ module _ (look : Look) (C D : ChainColumns) (codes : ℕ) (v : List Float) (x y 
       let q : best_if (reads && rows) whole p m ≡ bested z n js ms = sym (e ∙ pair_is) in
       subst (λ (r : Bested). Worked (best_at look C D codes v x y) r.value r.cells r.places r.masses) q (work_if (reads && rows) whole p m few_shares)
 
--- of a task's pair k, by what `best_pair` answers in work lists of 1,024 entries
-pub worked_in : (T : Given) (v : List Float) (k : ℕ) → k < length v → length v ≤ length T.pairs.lefts.now → length v ≤ length T.pairs.rights.now → (p : List ℕ) (m : List Float) → length p ≡ 1024 → length m ≡ 1024
+-- of pair k, one of the first n of a task, by what `best_pair` answers in work lists of 1,024 entries
+pub worked_in : (T : Given) (v : List Float) (k : ℕ) {n : ℕ} → k < n → n ≤ length T.pairs.lefts.now → n ≤ length T.pairs.rights.now → (p : List ℕ) (m : List Float) → length p ≡ 1024 → length m ≡ 1024
     → (b : Chosen) {js : List ℕ} {ms : List Float} → (HasPair T k → bested b.value b.cells js ms ≡ best_pair_of T k v p m) → Worked (best_in T v k) b.value b.cells js ms
-worked_in T v k h hl hr p m zp zm b {js} {ms} d =
+worked_in T v k {n} h hl hr p m zp zm b {js} {ms} d =
     worked (look_up T.pairs.codes.now) (of_chain T.left) (of_chain T.right) (length T.pairs.codes.now) v (get_or T.pairs.lefts.now k 0) (get_or T.pairs.rights.now k 0) p m zp zm b.value b.cells js ms (d (omega arith, omega arith))
 
 -- as many places as masses, few of them
@@ -245,21 +245,21 @@ module _ {best : ℕ → Best} {v : List Float} {γ : Float} {cost : List Float}
             ∙ ap (λ (j : ℕ). better_from best v γ cost s j k x t l p m) (let e : suc (n - (k + 1)) ≡ n - k = omega arith in e) ∙ B.comes;
       }
 
--- ---- the check of the counts: so many values, for a task's pairs and what is lent
+-- ---- the check of the counts: n pairs and m values, for a task's pairs and what is lent
 
-module _ (T : Given) (s : List ℕ) (S : StoreMut) (n : ℕ) where
+module _ (T : Given) (s : List ℕ) (S : StoreMut) (n m : ℕ) where
   abbrev enough : Bool
-  enough = counted n (length T.pairs.lefts.now) (length T.pairs.rights.now) n (length T.cost.now) (length s) (length S.lengths.now)
+  enough = counted n (length T.pairs.lefts.now) (length T.pairs.rights.now) m (length T.cost.now) (length s) (length S.lengths.now)
 
   module _ (b : Bool) (e : b ≡ enough) where
-    pub counts_known : not b ≡ false → (n ≤ length T.pairs.lefts.now) × (n ≤ length T.pairs.rights.now) × (n ≤ length T.cost.now) × (n ≤ length s) × (n ≤ length S.lengths.now)
+    pub counts_known : not b ≡ false → (n ≤ length T.pairs.lefts.now) × (n ≤ length T.pairs.rights.now) × (n ≤ m) × (n ≤ length T.cost.now) × (n ≤ length s) × (n ≤ length S.lengths.now)
     counts_known h =
         let (a₁, r₁) = and_t (leb n (length T.pairs.lefts.now)) _ (sym e ∙ not-false b h) in
         let (a₂, r₂) = and_t (leb n (length T.pairs.rights.now)) _ r₁ in
-        let (a₃, r₃) = and_t (leb n n) _ r₂ in
+        let (a₃, r₃) = and_t (leb n m) _ r₂ in
         let (a₄, r₄) = and_t (leb n (length T.cost.now)) _ r₃ in
         let (a₅, a₆) = and_t (leb n (length s)) _ r₄ in
-        (leb-true n _ a₁, leb-true n _ a₂, leb-true n _ a₄, leb-true n _ a₅, leb-true n _ a₆)
+        (leb-true n _ a₁, leb-true n _ a₂, leb-true n _ a₃, leb-true n _ a₄, leb-true n _ a₅, leb-true n _ a₆)
 
     pub uncounted : not b ≡ true → (r : Bettered) → bettered nought false S.lengths.now S.places.now S.masses.now ≡ better_if enough r S.lengths.now S.places.now S.masses.now
     uncounted h r = ap (λ (t : Bool). better_if t r S.lengths.now S.places.now S.masses.now) (sym (not-true b h) ∙ e)

@@ -1,20 +1,32 @@
--- The loops of `sweeps` over rows: one pair is one `update` of the definition, one sweep one `swept`.
-use mathlib.Core.Path.{◌≡◌, refl, sym, ap, ◌∙◌}
+-- The loops of `sweeps` over rows: one share is one item of the sum, one pair is one `update` of the definition, one sweep one `swept`.
+use mathlib.Core.Path.{◌≡◌, refl, sym, subst, ap, ◌∙◌}
 use Prim.Native.Nat.{ℕ, suc, ◌+◌, ◌-◌, ◌≤◌, ◌<◌}
 use mathlib.Core.Bool.{true, false}
 use mathlib.Core.List.{List}
+use mathlib.Core.Logic.{inl}
+use native.Mathlib.Numerals.{add-one}
 use native.Mathlib.Omega.{arith}
-use lib.ListN.{length, get_or, set, drop, length-set}
-use lib.Seq.{slice}
+use lib.ListN.{length, get_or, set, drop, drop_of_length-le, length-set}
+use lib.Seq.{slice, length-slice, drop-cons}
 use lib.Ieee.{Float, nan, binary64, add, mul, le}
 use Rattle.numbers.specs.Choice.{larger, apart}
 use Rattle.distance_theory.specs.Couplings.{Share, Metric, expected, shares_of}
 use Rattle.distance_theory.specs.Rounds.{Values, backup, update, sweep, swept, sweeps}
 use Rattle.distance_theory.proofs.Turns.{coupling_at, no_item, sweep_next}
 use Rattle.distance_theory.proofs.Lengths.{sweeps_on, sweeps_end}
-use Rattle.distance_theory.proofs.Held.{coupling, policy_in, Holds, policy_length, policy_at}
+use Rattle.distance_theory.proofs.Held.{coupling, policy_in, Leads, part_is, part_leads, Holds, policy_length, policy_at}
+use Rattle.distance_theory.proofs.Summing.{Adding, adding_on, adding_ends}
 use Rattle.distance_theory.proofs.ValueRows.{Swept}
 use Rattle.distance_words.proofs.Valuing.{priced}
+
+-- ---- the shares of a coupling
+
+module _ {v : List Float} {P : List ℕ} {M : List Float} {x : Float} {i : ℕ} (I : Adding v P M x (drop i P) (drop i M)) where
+  pub share_on : i < length P → i < length M → Adding v P M (add binary64 x (mul binary64 (get_or M i nan) (get_or v (get_or P i 0) nan))) (drop (i + 1) P) (drop (i + 1) M)
+  share_on h k = rw (add-one i) (adding_on I (drop-cons P i 0 h) (drop-cons M i nan k) refl)
+
+  pub shares_end : length P ≤ i → x ≡ expected v (shares_of P M)
+  shares_end h = adding_ends I (inl (drop_of_length-le P h))
 
 -- ---- the pairs of a sweep
 
@@ -40,6 +52,14 @@ module _ {S L P : List ℕ} {M c : List Float} {γ : Float} {v₀ : List Float} 
 
     pub pair_coupled : Holds S L P M (length v₀) → k < length v → (k < length S) × (k < length L) × (get_or S k 0 + get_or L k 0 ≤ length P) × (get_or S k 0 + get_or L k 0 ≤ length M)
     pair_coupled H l = let h = pair_in_lem l in let e = H.each k h in let a = H.in_starts in let b = H.in_lengths in (omega arith, omega arith, e.in_places, e.in_masses)
+
+    -- its places are those of pairs, and there is a mass for each
+    pub pair_leads : Holds S L P M (length v₀) → k < length v → {ps : List ℕ} {ms : List Float} → (let a = get_or S k 0 in let b = a + get_or L k 0 in (ps ≡ slice a b P) × (ms ≡ slice a b M)) → Leads (length v) ps × (length ps ≡ length ms)
+    pair_leads H l (ep, em) =
+        let e = H.each k (pair_in_lem l) in
+        let a = get_or S k 0 in
+        let b = a + get_or L k 0 in
+        (rw I.size (subst (Leads (length v₀)) (part_is a b P (omega arith) ∙ sym ep) (part_leads e)), ap length ep ∙ length-slice a b P e.in_places ∙ sym (ap length em ∙ length-slice a b M e.in_masses))
 
     pub sweeping_on : k < length v → {y z e : Float} {ps : List ℕ} {ms : List Float} → (let a = get_or S k 0 in let b = a + get_or L k 0 in (ps ≡ slice a b P) × (ms ≡ slice a b M)) → y ≡ expected v (shares_of ps ms) → z ≡ apart (add binary64 (get_or c k nan) (mul binary64 γ y)) (get_or v k nan) → e ≡ larger d z
         → Sweeping S L P M c γ v₀ (set v k (add binary64 (get_or c k nan) (mul binary64 γ y))) e (k + 1)

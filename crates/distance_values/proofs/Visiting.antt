@@ -2,14 +2,16 @@
 use mathlib.Core.Path.{◌≡◌, refl, sym, subst, ap, ap₂, ◌∙◌}
 use Prim.Native.Nat.{ℕ, zero, suc, ◌+◌, ◌-◌, ◌≤◌, ◌<◌}
 use mathlib.Core.Bool.{Bool, true, false, not}
-use mathlib.Core.List.{List, [], ◌∷◌}
+use mathlib.Core.List.{List, [], ◌∷◌, ◌++◌, append-nil}
 use mathlib.Core.Logic.{◌⊎◌}
 use native.Mathlib.Omega.{arith}
-use lib.ListN.{length, get_or, set, take, drop, replicate, length-set, length-replicate}
-use lib.Seq.{slice, take-set-lt}
+use lib.ListN.{length, get_or, set, take, drop, replicate, length-set, length-replicate, get_or-replicate}
+use lib.Seq.{slice, length-take-le, get_or-append-add, get_or-drop, drop-length, take-set-lt}
 use lib.Ieee.{Float, nan, binary64, add, sub, mul, lt, eq, ne}
-use Rattle.numbers.specs.Real.{nought, one, eps, is_zero, sum}
+use Rattle.numbers.specs.Real.{nought, one, eps, is_zero, sum_from, sum}
+use Rattle.numbers.proofs.Over.{over, over_length, over_next, over_done}
 use Rattle.numbers.proofs.Parts.{take_replicate}
+use Rattle.numbers.proofs.Sums.{sum_next, sum_end}
 use Rattle.distance_theory.specs.Pairs.{most}
 use Rattle.distance_theory.specs.Couplings.{Share, shares_of}
 use Rattle.distance_theory.specs.Contributions.{Visits, pour, Stay, stay, stay_all, onward, visits, depart}
@@ -97,6 +99,72 @@ module _ {S L P : List ℕ} {M : List Float} {γ : Float} {c x₀ s₀ : List Fl
         let n = policy_length S L P M (length c) in
         let e = sym (no_item (λ (ps : List (List Share)). stay_all γ c k ps (staying s x)) (policy_in S L P M (length c)) k (omega arith)) ∙ I.same in
         record { spent_is = ap (λ (w : Stay). w.spent) e; next_is = ap (λ (w : Stay). w.next) e }
+
+-- ---- the next masses become the present ones
+
+-- what stands past the entries that are written
+over_at : (l d : List Float) (i : ℕ) → i ≤ length l → get_or (over l i d) i nan ≡ get_or d i nan
+over_at l d i h =
+    let n = length-take-le i l h in
+    let z : i ≡ length (take i l) + 0 = omega arith in
+    let o : i + 0 ≡ i = omega arith in
+    ap (λ (j : ℕ). get_or (over l i d) j nan) z ∙ get_or-append-add (take i l) (drop i d) 0 nan ∙ get_or-drop i d 0 nan ∙ ap (λ (j : ℕ). get_or d j nan) o
+
+-- a list over all of another
+over_whole : (l d out : List Float) (i : ℕ) → out ≡ over l i d → i ≡ length l → length l ≡ length d → out ≡ l
+over_whole l d out i e n m = over_done l d out i e n ∙ ap (λ (r : List Float). l ++ r) (ap (λ (j : ℕ). drop j d) m ∙ drop-length d) ∙ append-nil l
+
+-- the first k entries are 0
+module _ (l : List Float) (k : ℕ) {x : List Float} (e : x ≡ over (replicate (length l) nought) k l) where
+  pub blank_size : k ≤ length l → length x ≡ length l
+  blank_size h = let n = length-replicate (length l) nought in ap length e ∙ over_length (replicate (length l) nought) l k (omega arith) h
+
+  pub blank_on : k < length l → set x k nought ≡ over (replicate (length l) nought) (k + 1) l
+  blank_on h =
+      let n = length-replicate (length l) nought in
+      over_next (replicate (length l) nought) l x k nan nought e (sym (get_or-replicate (length l) k nought nan h)) (omega arith) h
+
+  pub blank_ends : k ≡ length l → x ≡ replicate (length l) nought
+  blank_ends h = let n = length-replicate (length l) nought in over_whole (replicate (length l) nought) l x k e (omega arith) n
+
+-- the first k entries are moved, and added up
+pub record Moving (c₀ x₀ c x : List Float) (t : Float) (k : ℕ) : Type 0 where
+  pub ends : k ≤ length c₀
+  pub current_is : c ≡ over x₀ k c₀
+  pub next_is : x ≡ over (replicate (length x₀) nought) k x₀
+  pub total_is : sum_from t (drop k x₀) ≡ sum x₀
+
+module _ {c₀ x₀ : List Float} (size : length x₀ ≡ length c₀) where
+  pub moving_starts : Moving c₀ x₀ c₀ x₀ nought 0
+  unfolding sum
+  moving_starts = record { ends = omega arith; current_is = refl; next_is = refl; total_is = refl }
+
+  module _ {c x : List Float} {t : Float} {k : ℕ} (I : Moving c₀ x₀ c x t k) where
+    pub current_size : length c ≡ length c₀
+    current_size = let e = I.ends in ap length I.current_is ∙ over_length x₀ c₀ k (omega arith) e
+
+    pub next_size : length x ≡ length x₀
+    next_size = let e = I.ends in blank_size x₀ k I.next_is (omega arith)
+
+    pub moving_on : k < length c₀ → Moving c₀ x₀ (set c k (get_or x k nan)) (set x k nought) (add binary64 t (get_or x k nan)) (k + 1)
+    moving_on more =
+        let n = length-replicate (length x₀) nought in
+        let y : get_or x k nan ≡ get_or x₀ k nan = ap (λ (l : List Float). get_or l k nan) I.next_is ∙ over_at (replicate (length x₀) nought) x₀ k (omega arith) in
+        record {
+          ends = omega arith;
+          current_is = over_next x₀ c₀ c k nan (get_or x k nan) I.current_is y (omega arith) more;
+          next_is = blank_on x₀ k I.next_is (omega arith);
+          total_is = ap (λ (z : Float). sum_from (add binary64 t z) (drop (k + 1) x₀)) y ∙ sum_next t x₀ k (omega arith) ∙ I.total_is;
+        }
+
+    pub moving_ends : length c₀ ≤ k → Advanced x₀ t c x
+    moving_ends done =
+        let e = I.ends in
+        record {
+          mass_is = sum_end t x₀ k (omega arith) ∙ I.total_is;
+          current_is = over_whole x₀ c₀ c k I.current_is (omega arith) size;
+          next_is = blank_ends x₀ k I.next_is (omega arith);
+        }
 
 -- ---- the rounds
 

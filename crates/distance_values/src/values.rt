@@ -1,13 +1,16 @@
 // Gauss-Seidel sweeps over the pairs, up to one that moves no value by more than tol.
 ghost use Rattle.std.specs.Prelude.{◌≡◌, ◌≤◌, length};
+ghost use Rattle.distance_theory.specs.Couplings;
+ghost use Rattle.distance_theory.specs.Couplings.{shares_of};
 ghost use Rattle.distance_theory.specs.Rounds;
 ghost use Rattle.numbers.specs.Refuse.{code};
-ghost use Rattle.distance_theory.proofs.Held.{policy_of, StoreHolds};
+ghost use Rattle.distance_theory.proofs.Held.{policy_of, Leads, StoreHolds};
 ghost use Rattle.distance_theory.proofs.ValueRows.{Swept};
 ghost use Rattle.distance_words.proofs.Valuing.{priced, valued, evaluated_in};
 
 use crate::store::{coupling, held};
 use crate::visits::Policy;
+use distance_theory::lent::Shares;
 use numbers::refusal::Refusal;
 use numbers::{apart, larger};
 
@@ -16,6 +19,20 @@ use numbers::{apart, larger};
 pub struct Costed<'a> {
     pub policy: Policy<'a>,
     pub cost: &'a [f64],
+}
+
+// Σ mass × value, of shares that lead to values.
+// Stays: here each place is known to be there. `Shares::expected` of distance_theory is over any list and asks that of each share: with it a run that is mostly sweeps takes 45 to 50 % more instructions.
+fn expected(shares: &Shares, values: &[f64]) -> f64
+    requires leads { Leads (length values.now) shares.now.places.now }
+    requires alike { length shares.now.places.now ≡ length shares.now.masses.now }
+    ensures { result ≡ Couplings.expected values.now (shares_of shares.now.places.now shares.now.masses.now) }
+{
+    let mut total = 0.0;
+    for (i, place) in shares.places.iter().enumerate() {
+        total += shares.masses[i] * values[*place as usize];
+    }
+    total
 }
 
 // A sweep: each pair in turn gets cost + γ × what its coupling expects. Gives by how much a value has moved at most.
@@ -28,7 +45,7 @@ fn sweep(of: &Costed, value: &mut [f64]) -> f64
     let Policy { store, gamma } = policy;
     let mut delta = 0.0;
     for k in 0..value.len() {
-        let x = cost[k] + gamma * coupling(&store, k).expected(value);
+        let x = cost[k] + gamma * expected(&coupling(&store, k), value);
         delta = larger(delta, apart(x, value[k]));
         value[k] = x;
     }

@@ -12,7 +12,7 @@ ghost use Rattle.distance_words.proofs.Valuing.{occupied_as, visited_in};
 use crate::store::{coupling, held};
 use distance_theory::lent::{Shares, Store};
 use numbers::refusal::Refusal;
-use numbers::{EPS, ONE, Real};
+use numbers::{EPS, ONE};
 
 // What a round reads: the coupling of each pair, and the discount.
 #[derive(Clone, Copy, Debug)]
@@ -48,13 +48,19 @@ fn stay_all(of: &Policy, current: &[f64], next: &mut [f64], spent: &mut [f64])
 }
 
 // The next masses become the present ones, and there are no next ones yet; gives their sum.
+// Stays: one pass over both lists. A round may be of a few pairs, and there `copy_from_slice`, `fill` and `Real::sum` are three passes and two calls of the C library: with them replay_distance takes 64 % more instructions on its list.
 fn advance(current: &mut [f64], next: &mut [f64]) -> f64
     requires { length next.old ≡ length current.old }
     ensures { Advanced next.old result current.new next.new }
 {
-    current.copy_from_slice(next);
-    next.fill(0.0);
-    Real::sum(current).value()
+    let mut total = 0.0;
+    for (k, mass) in next.iter_mut().enumerate() {
+        let x = *mass;
+        total += x;
+        current[k] = x;
+        *mass = 0.0;
+    }
+    total
 }
 
 // Rounds while the mass is above 1e-12, at most `limit`; gives the mass that is left.

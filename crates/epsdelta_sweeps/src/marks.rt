@@ -26,19 +26,15 @@ fn entry(of: &Classed, s: usize, t: usize) -> bool
     s < of.classes.len() && marked(of, s.min(t), s.max(t))
 }
 
-// True only if row s has eight entries from column t on, and the states of all of them have another class than s.
+// True only if the states of the eight entries of row s from column t on all have another class than s.
 fn apart(of: &Classed, s: usize, t: usize) -> bool
-    requires { t < length of.now.classes.now }
+    requires { (s < length of.now.classes.now) × (t + 8 ≤ length of.now.classes.now) }
     ensures { result ≡ true → Byte of.now (s * length of.now.classes.now + t) 0 }
 {
-    let states = of.classes.len();
-    if states <= s || states - t < 8 {
-        return false;
-    }
     !of.classes[t..t + 8].contains(&of.classes[s])
 }
 
-// The byte of the eight entries from `first` on, the last of them first.
+// The byte of the eight entries from `first` on, in whatever rows, the last of them first.
 fn byte_of(of: &Classed, first: usize) -> u8
     requires { Reached of.now first }
     ensures { Byte of.now first result }
@@ -51,17 +47,33 @@ fn byte_of(of: &Classed, first: usize) -> u8
     byte
 }
 
-// The same, without a look at each entry where no class is shared.
+// The byte of the eight entries of row s from column t on, without a division for each.
+fn byte_in_row(of: &Classed, s: usize, t: usize) -> u8
+    requires { t + 8 ≤ length of.now.classes.now }
+    ensures { Byte of.now (s * length of.now.classes.now + t) result }
+{
+    let mut byte = 0;
+    for i in (t..t + 8).rev() {
+        byte = 2 * byte + u8::from(entry(of, s, i));
+    }
+    byte
+}
+
+// The same as `byte_of`, without a look at each entry where no class is shared.
 fn byte_at(of: &Classed, first: usize) -> u8
     requires { Reached of.now first }
     ensures { Byte of.now first result }
 {
-    let s = first / of.classes.len();
-    let t = first % of.classes.len();
+    let states = of.classes.len();
+    let s = first / states;
+    let t = first % states;
+    if states <= s || states - t < 8 {
+        return byte_of(of, first);
+    }
     if apart(of, s, t) {
         return 0;
     }
-    byte_of(of, first)
+    byte_in_row(of, s, t)
 }
 
 // Writes the marks of all pairs, both orders; spare bits are zero.

@@ -92,6 +92,10 @@ bare n = record { links = replicate 2176 (record { head = 0; cap = nought; cost 
 abbrev pub made : ℕ → Result FlowNetwork ℕ
 made n = cond (leb n 66) (Ok (bare n)) (Err 15)
 
+-- the same network, or one of no nodes in place of the refusal
+abbrev pub made_or_empty : ℕ → FlowNetwork
+made_or_empty n = cond (leb n 66) (bare n) (bare 0)
+
 -- ---- adding a link
 
 -- how making a network in place of another or adding a link ends: the number of the refusal, 0 if there is none, and the network that it leaves

@@ -1,6 +1,6 @@
 // Networks of links, and the flow run on one that is lent.
 ghost use Rattle.flow.specs.Network as nets;
-ghost use Rattle.flow.specs.Network.{heads_of, caps_of, costs_of, with_caps, with_links, flow_through, flown, flow_in, ClaimedOn, seen, seen_in, bare, made, fits_on, grown, leaves, added};
+ghost use Rattle.flow.specs.Network.{heads_of, caps_of, costs_of, with_caps, with_links, flow_through, flown, flow_in, ClaimedOn, seen, seen_in, bare, made, made_or_empty, fits_on, grown, leaves, added};
 ghost use Rattle.flow_theory.proofs.ListRows.{Indexable};
 ghost use Rattle.numbers.specs.Lists.{over};
 ghost use Rattle.numbers.specs.Refuse.{numbered, code};
@@ -157,6 +157,16 @@ impl FlowNetwork {
         let mut net = FlowNetwork::empty();
         net.nodes = nodes;
         Ok(net)
+    }
+
+    // The network that `new` makes, or one of no nodes where that refuses.
+    pub fn new_or_empty(nodes: usize) -> FlowNetwork
+        ensures { result ≡ made_or_empty nodes }
+    {
+        match FlowNetwork::new(nodes) {
+            Ok(network) => network,
+            Err(_) => FlowNetwork::empty(),
+        }
     }
 
     // Adds a link, and its reverse of capacity 0 and the cost negated; a refusal leaves the network as it is.

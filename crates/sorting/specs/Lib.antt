@@ -1,1 +1,2 @@
 pub mod SortedIf
+pub mod Digits

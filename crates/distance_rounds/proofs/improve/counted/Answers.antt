@@ -1,10 +1,8 @@
--- `long` of the five lengths; that the values are as many as they are goes without a test.
-use mathlib.Core.Path.{sym, ap, ◌∙◌}
+-- `long` of the six lengths.
+use mathlib.Core.Path.{ap, ◌∙◌}
 use mathlib.Core.Bool.{Bool, ◌&&◌}
-use native.Mathlib.Omega.{arith}
 use lib.Dec.{leb}
 use lib.ListN.{length}
-use borrow.Author.Tests.{le-leb}
 use Rattle.std.proofs.Math.Bool.{and-true}
 use Rattle.numbers.specs.Lists.{all}
 use Rattle.distance_rounds.proofs.improve.counted.Goals as goal
@@ -12,9 +10,8 @@ use Rattle.distance_rounds.proofs.improve.counted.Goals as goal
 pub returns : goal.returns
 unfolding all
 returns c =
-    let n = length c.args.values.now in
+    let n = c.args.n in
     let T = c.args.task.now in
     let S = c.args.store.now in
     c.long.ensures
-    ∙ ap (λ (b : Bool). leb n (length T.pairs.lefts.now) && (leb n (length T.pairs.rights.now) && (leb n (length T.cost.now) && (leb n (length c.args.starts.now) && b)))) (and-true (leb n (length S.lengths.now)))
-    ∙ ap (λ (b : Bool). leb n (length T.pairs.lefts.now) && (leb n (length T.pairs.rights.now) && (b && (leb n (length T.cost.now) && (leb n (length c.args.starts.now) && leb n (length S.lengths.now)))))) (sym (le-leb n n (omega arith)))
+    ∙ ap (λ (b : Bool). leb n (length T.pairs.lefts.now) && (leb n (length T.pairs.rights.now) && (leb n (length c.args.values.now) && (leb n (length T.cost.now) && (leb n (length c.args.starts.now) && b))))) (and-true (leb n (length S.lengths.now)))
