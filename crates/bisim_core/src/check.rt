@@ -12,6 +12,7 @@ use crate::ids::single;
 use crate::wlts::{Shape, Wlts, starts_outside};
 use numbers::bounds::Bounds;
 use numbers::{GREATEST_JOINED, LEAST_WEIGHT};
+use std::ops::Range;
 
 // ---- check 3
 
@@ -43,12 +44,20 @@ fn steady(model: &Wlts) -> bool
     offsets[0] == 0 && offsets[states] as usize == model.shape.edges && offsets.is_sorted()
 }
 
+// Which edges are those of state s, as `Wlts::row` finds them: here both offsets are there.
+fn edges_of(model: &Wlts, s: usize) -> Range<usize>
+    requires { s + 1 < length model.now.offsets.now }
+    ensures { (result.start ≡ begins (columns_of model.now) s) × (result.end ≡ begins (columns_of model.now) (s + 1)) }
+{
+    model.offsets[s] as usize..model.offsets[s + 1] as usize
+}
+
 // The edges of state s rise strictly: by label id, then target.
 fn row_rises(model: &Wlts, s: usize) -> bool
     requires { (s + 1 < length model.now.offsets.now) × (begins (columns_of model.now) s ≤ begins (columns_of model.now) (s + 1)) × (begins (columns_of model.now) (s + 1) ≤ length model.now.edge_labels.now) × (begins (columns_of model.now) (s + 1) ≤ length model.now.edge_targets.now) }
     ensures { result ≡ rises (row (columns_of model.now) s) }
 {
-    let edges = model.row(s);
+    let edges = edges_of(model, s);
     let labels = &model.edge_labels[edges.start..edges.end];
     let targets = &model.edge_targets[edges];
     labels.iter().zip(targets).is_sorted_by(|a, b| a < b)
@@ -120,7 +129,7 @@ fn count_others(model: &Wlts, s: usize, marks: &mut [u32]) -> usize
     let mark = s as u32 + 1;
     marks[s] = mark;
     let mut count = 0;
-    for target in &model.edge_targets[model.row(s)] {
+    for target in &model.edge_targets[edges_of(model, s)] {
         let t = *target as usize;
         if marks[t] != mark {
             marks[t] = mark;

@@ -22,14 +22,18 @@ pub struct Interner<'a> {
     pub count: usize,
 }
 
-// No value is listed twice: each is found where it stands.
+// Whether x is in a list. Every number is looked at, so that several can be compared at a time.
+fn listed(labels: &[u32], x: u32) -> bool
+    ensures { result ≡ Ids.listed x labels.now }
+{
+    labels.iter().fold(false, |found, y| found | (*y == x))
+}
+
+// No value is listed twice: none is among those before it.
 pub(crate) fn single(labels: &[u32]) -> bool
     ensures { result ≡ Ids.single labels.now }
 {
-    labels
-        .iter()
-        .enumerate()
-        .all(|(i, x)| seek(labels, *x) == Some(i))
+    (0..labels.len()).all(|i| !listed(&labels[..i], labels[i]))
 }
 
 impl Interner<'_> {

@@ -18,7 +18,7 @@ loop-target-init c =
 
 pub bounds-marks-t : goal.bounds-marks-t
 bounds-marks-t c =
-    let (l, e) = part_at c.args.model.now.edge_targets.now _ _ _ _ _ c.row.ensures.0 c.row.ensures.1 c.loop-target-test.true in
+    let (l, e) = part_at c.args.model.now.edge_targets.now _ _ _ _ _ c.edges_of.ensures.0 c.edges_of.ensures.1 c.loop-target-test.true in
     let p = c.requires.5 _ l in
     let z = c.loop-target.auto.marks ∙ length-set c.args.marks.now c.args.s (c.args.s + 1) in
     omega arith
@@ -29,7 +29,7 @@ loop-target-preserved c =
     let s = c.args.s in
     let I = c.loop-target.invariant.1 in
     let marks = c.loop-target.marks in
-    let (l, e) = part_at M.edge_targets _ _ _ _ _ c.row.ensures.0 c.row.ensures.1 c.loop-target-test.true in
+    let (l, e) = part_at M.edge_targets _ _ _ _ _ c.edges_of.ensures.0 c.edges_of.ensures.1 c.loop-target-test.true in
     let p = c.requires.5 _ l in
     let size = c.loop-target.auto.marks ∙ length-set c.args.marks.now s (s + 1) in
     let z : begins M s + c.loop-target.target-index + 1 ≡ begins M s + (c.loop-target.target-index + 1) = omega arith in (
@@ -46,5 +46,5 @@ shape_of-marks c = let a = c.args in c.loop-target.invariant.1.size ∙ length-s
 pub returns : goal.returns
 returns c =
     let M = columns_of c.args.model.now in
-    let end = part_length M.edge_targets _ _ _ _ c.loop-target.target-index c.row.ensures.0 c.row.ensures.1 c.requires.2 c.loop-target-test.false in
+    let end = part_length M.edge_targets _ _ _ _ c.loop-target.target-index c.edges_of.ensures.0 c.edges_of.ensures.1 c.requires.2 c.loop-target-test.false in
     (all_counted c.loop-target.invariant.1 end M.labels M.offsets M.edge_labels M.edge_weights ∙ ap (λ l. length (distinct (others c.args.s l))) (row_is M c.args.s _ _ refl refl), c.loop-target.invariant.1.low)

@@ -72,8 +72,8 @@ paired M s (suc n) i h j =
 pub returns : goal.returns
 returns c =
     let M = columns_of c.args.model.now in
-    let from = c.row-edges.result.start in
-    let n = c.row-edges.result.end - from in
+    let from = c.edges_of-edges.result.start in
+    let n = c.edges_of-edges.result.end - from in
     answer _ _ (λ p. (p.0.now, p.1.now)) _ (λ x y b q h. search (rules, tests)) _ _ _ c.is_sorted_by.ensures.ran
     (YieldsList-from_zip (YieldsList-from_slice (take n (drop from M.edge_labels)) cc) (YieldsList-from_slice (take n (drop from M.edge_targets)) cc))
-    ∙ ap ascend (paired M c.args.s n from (omega arith) (omega arith)) ∙ ascends _ ∙ ap rises (row_is M c.args.s from _ c.row-edges.ensures.0 c.row-edges.ensures.1)
+    ∙ ap ascend (paired M c.args.s n from (omega arith) (omega arith)) ∙ ascends _ ∙ ap rises (row_is M c.args.s from _ c.edges_of-edges.ensures.0 c.edges_of-edges.ensures.1)

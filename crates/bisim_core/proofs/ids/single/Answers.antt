@@ -1,28 +1,28 @@
-use Rattle.std.proofs.Common.{◌≡◌, rules, refl, sym, ap, ap₂, ◌∙◌, ℕ, ◌+◌, ◌<◌, Bool, true, false, ◌&&◌, cond, Some, None, List, [], ◌∷◌, length, get_or, eqb, ltb, suc, arith}
-use Rattle.std.specs.Option.{option_eq}
-use Rattle.std.specs.List.{list_all, enumerate_from, range_with_len}
-use borrow.Author.Tests.{tests, ne_eqb, ltb-false}
-use Rattle.std.proofs.lemmas.Iterator.{YieldsList-from_slice}
-use Rattle.std.proofs.lemmas.Iterator.Consumers.{YieldsList-from_enumerate}
+use Rattle.std.proofs.Common.{◌≡◌, rules, refl, sym, ◌∙◌, ℕ, zero, suc, ◌<◌, Bool, true, false, List, [], ◌∷◌, length, get_or, take, not, eqb, ltb, arith}
+use Prim.Native.Nat.compare
+use borrow.Author.Tests.{tests, eq-eqb, lt-ltb, ne_eqb}
+use Rattle.std.proofs.lemmas.Iterator.{YieldsList-from_range}
 use Rattle.std.proofs.lemmas.Iterator.Search.{all_from_yields_List}
-use Rattle.numbers.specs.Search.{seek, place}
+use Rattle.numbers.specs.Search.{seek, here}
+use Rattle.numbers.proofs.Alls.{every_same}
 use Rattle.numbers.proofs.Loops.{every_of_range}
+use Rattle.numbers.proofs.Seeks.{seek_here}
+use Rattle.bisim_core.specs.Ids.{listed}
 use Rattle.bisim_core.proofs.ids.single.Goals as goal
 
-found_at : (x i : ℕ) (l : List ℕ) → i < length l → option_eq eqb (place x l) (Some i) ≡ eqb (seek x l) i
-found_at x i l h = step (ltb (seek x l) (length l)) refl
+-- what stands at i is found there, or among those before it
+found_at : (x i : ℕ) (l : List ℕ) → i < length l → get_or l i 0 ≡ x → not (listed x (take i l)) ≡ eqb (seek x l) i
+unfolding seek
+found_at x i [] h e = absurd (omega arith)
+found_at x zero (y ∷ l) h e = sym (eq-eqb _ _ (seek_here x y l e))
+found_at x (suc i) (y ∷ l) h e = step (eqb y x) (found_at x i l (omega arith) e)
   where
-    step : (b : Bool) → ltb (seek x l) (length l) ≡ b → option_eq eqb (cond b (Some (seek x l)) None) (Some i) ≡ eqb (seek x l) i
-    step true e = refl
-    step false e = sym (ne_eqb _ _ (λ q. let g = ltb-false _ _ e in omega arith))
-
--- of each entry beside its place, what t says of the place
-placed : (u : ℕ × ℕ → Bool) (t : ℕ → Bool) (n : ℕ) (l : List ℕ) → ((i k : ℕ) → i ≡ n + k → k < length l → u (i, get_or l k 0) ≡ t i) → list_all u (enumerate_from n l) ≡ list_all t (range_with_len n (length l))
-placed u t n [] e = refl
-placed u t n (x ∷ l) e = ap₂ (λ a b. a && b) (e n 0 (omega arith) (omega arith)) (placed u t (n + 1) l (λ i k q h. e i (suc k) (omega arith) (omega arith)))
+    step : (b : Bool) → not (listed x (take i l)) ≡ eqb (seek x l) i → not (ltb (here b (seek x (take i l))) (length (take (suc i) (y ∷ l)))) ≡ eqb (here b (seek x l)) (suc i)
+    step true f = rw (lt-ltb 0 (suc (length (take i l))) (omega arith), ne_eqb 0 (suc i) (λ q. omega arith))
+    step false f = rw (compare.suc-suc (suc (seek x (take i l))) (length (take i l)), compare.suc-suc (seek x l) i) f
 
 pub returns : goal.returns
 returns c =
     let l = c.args.labels.now in
-    all_from_yields_List (λ p. option_eq eqb (place p.1 l) (Some p.0)) _ _ _ c.all.ensures.ran (YieldsList-from_enumerate (YieldsList-from_slice l cc) cc) (λ x b q k. search (rules, tests))
-    ∙ placed _ _ 0 l (λ i k q h. ap (λ (j : ℕ). option_eq eqb (place (get_or l j 0) l) (Some i)) (let e : k ≡ i = omega arith in e) ∙ found_at (get_or l i 0) i l (omega arith)) ∙ every_of_range _ _
+    all_from_yields_List (λ i. not (listed (get_or l i 0) (take i l))) _ _ _ c.all.ensures.ran (YieldsList-from_range 0 (length l) (length l) refl (omega arith)) (λ x b q k. search (rules, tests))
+    ∙ every_of_range _ _ ∙ every_same _ _ (length l) (λ i h. found_at _ i l h refl)
