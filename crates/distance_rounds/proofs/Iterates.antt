@@ -10,13 +10,16 @@ use lib.ListN.{length, take, drop, drop_of_length-le, take-append-drop}
 use lib.Seq.{take_all, length-take-le}
 use lib.Ieee.{Float, inf, le}
 use borrow.Author.Tests.{le-leb, lt-leb}
-use Rattle.distance_theory.specs.Rounds.{sweeps}
+use Rattle.chain_theory.specs.Lent.{of_chain}
+use Rattle.distance_theory.specs.Rounds.{many, sweeps}
+use Rattle.distance_theory.specs.declared.lent.StoreMut.{StoreMut}
+use Rattle.distance_theory.specs.declared.lent.Task.{Task as Given}
 use Rattle.distance_theory.proofs.Held.{policy_in}
 use Rattle.distance_theory.proofs.Lengths.{sweeps_length}
 use Rattle.distance_words.proofs.Readable.{held}
 use Rattle.distance_words.proofs.Valuing.{Valued, valued, priced, evaluable, evaluated_if, evaluated}
-use Rattle.distance_words.proofs.Improving.{Bettered, bettered}
-use Rattle.distance_words.proofs.Iterating.{Task, Iterated, iterated, values_of, bettered_of, ended, iterate_from}
+use Rattle.distance_words.proofs.Improving.{Bettered, bettered, improve, improve_in}
+use Rattle.distance_words.proofs.Iterating.{Task, Iterated, iterated, task_of, valued_in, values_of, bettered_of, ended, iterate_from}
 
 pub record Iterates (T : Task) (k : ℕ) (v₀ : List Float) (l₀ p₀ : List ℕ) (m₀ : List Float) (x : Float) (n : ℕ) (v : List Float) (l p : List ℕ) (m : List Float) : Type 0 where
   pub left : n ≤ k
@@ -61,6 +64,16 @@ module _ (k : ℕ) (S L P : List ℕ) (M c : List Float) (γ tol : Float) (v : L
         whole false = ap (valued 18) (take-append-drop n v)
 
 -- ---- round after round
+
+-- what the calls of a round answer, by the task, where there are as many pairs as values
+pub values_in : (G : Given) (s : List ℕ) (Z : StoreMut) (aim fine : Float) (v : List Float) {n r : ℕ} {u : List Float} → valued r u ≡ valued_in G s Z fine v → length v ≡ n
+    → u ≡ values_of (task_of G n s aim fine) v Z.lengths.now Z.places.now Z.masses.now
+values_in G s Z aim fine v e en = ap (λ (w : Valued). w.value) (e ∙ ap (evaluated many s Z.lengths.now Z.places.now Z.masses.now G.cost.now G.gamma fine v) en)
+
+pub betters_in : (G : Given) (s : List ℕ) (Z : StoreMut) (aim fine : Float) (v : List Float) {n : ℕ} {b : Bettered} → b ≡ improve_in G v s Z → length v ≡ n
+    → b ≡ bettered_of (task_of G n s aim fine) v Z.lengths.now Z.places.now Z.masses.now
+betters_in G s Z aim fine v e en =
+    e ∙ ap (λ (n : ℕ). improve n G.pairs.lefts.now G.pairs.rights.now G.pairs.codes.now (of_chain G.left) (of_chain G.right) v G.cost.now G.gamma s Z.lengths.now Z.places.now Z.masses.now) en
 
 module _ {T : Task} {k : ℕ} {v₀ : List Float} {l₀ p₀ : List ℕ} {m₀ : List Float} {x : Float} {n : ℕ} {v : List Float} {l p : List ℕ} {m : List Float} (I : Iterates T k v₀ l₀ p₀ m₀ x n v l p m) where
   pub iterates_end : k ≤ n → iterated x k v l p m ≡ iterate_from T k (inf false) 0 v₀ l₀ p₀ m₀

@@ -12,11 +12,11 @@ fn run_lent(r: &mut Reader, draft: &Draft) {
     let mut edge_targets = [0u32; 2112];
     let mut edge_weights = [0.0f64; 2112];
     let mut store = Store {
-        label_values: r.list_field(&mut label_values),
-        offsets: r.list_field(&mut offsets),
-        edge_labels: r.list_field(&mut edge_labels),
-        edge_targets: r.list_field(&mut edge_targets),
-        edge_weights: r.list_field(&mut edge_weights),
+        label_values: r.next_list_field(&mut label_values),
+        offsets: r.next_list_field(&mut offsets),
+        edge_labels: r.next_list_field(&mut edge_labels),
+        edge_targets: r.next_list_field(&mut edge_targets),
+        edge_weights: r.next_list_field(&mut edge_weights),
     };
     let answer = build(draft, &mut store);
     r.expect_answer(answer.map(|shape| (shape.edges, shape.labels)));
@@ -33,13 +33,13 @@ pub fn run(r: &mut Reader) {
     let mut targets = [0u32; 2112];
     let mut weights = [0.0f64; 2112];
     let draft = Draft {
-        states: r.number_field() as usize,
-        initial: r.initial_field(),
-        given: r.number_field() as usize,
-        sources: r.list_field(&mut sources),
-        labels: r.list_field(&mut labels),
-        targets: r.list_field(&mut targets),
-        weights: r.list_field(&mut weights),
+        states: r.next_number_field() as usize,
+        initial: r.next_initial_field(),
+        given: r.next_number_field() as usize,
+        sources: r.next_list_field(&mut sources),
+        labels: r.next_list_field(&mut labels),
+        targets: r.next_list_field(&mut targets),
+        weights: r.next_list_field(&mut weights),
     };
     run_lent(r, &draft);
     r.count(Entry::Build as usize);

@@ -6,9 +6,9 @@ use replay_text::text::Reader;
 // The answer, and the list as `intern` leaves it.
 pub fn run_intern(r: &mut Reader) {
     let mut store = [0u32; 2112];
-    let labels = r.list_field(&mut store);
-    let count = r.number_field() as usize;
-    let value = r.short_field();
+    let labels = r.next_list_field(&mut store);
+    let count = r.next_number_field() as usize;
+    let value = r.next_short_field();
     r.expect_answer(intern(labels, count, value));
     r.expect_list(labels);
     r.count(Entry::Intern as usize);
@@ -16,10 +16,10 @@ pub fn run_intern(r: &mut Reader) {
 
 pub fn run_label(r: &mut Reader) {
     let mut store = [0u32; 2112];
-    let labels = r.list_field(&mut store);
-    let count = r.number_field() as usize;
-    let value = r.short_field();
-    let id = LabelId(r.short_field());
+    let labels = r.next_list_field(&mut store);
+    let count = r.next_number_field() as usize;
+    let value = r.next_short_field();
+    let id = LabelId(r.next_short_field());
     let interner = Interner { labels, count };
     let found = interner.get(value);
     let resolved = interner.resolve(id);

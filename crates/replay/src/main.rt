@@ -15,7 +15,7 @@ use replay_text::text::Reader;
 use std::io;
 
 fn run_kind(r: &mut Reader) {
-    match r.kind() {
+    match r.next_kind() {
         b"real" => reals::run(r),
         b"intern" => labels::run_intern(r),
         b"label" => labels::run_label(r),

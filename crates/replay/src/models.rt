@@ -38,11 +38,11 @@ fn check_readers(r: &mut Reader, x: Asked, model: &Wlts) {
 
 pub fn run(r: &mut Reader) {
     let mut model = Model::new();
-    model.read(r);
+    model.read_next(r);
     let x = Asked {
-        state: StateId(r.short_field()),
-        id: LabelId(r.short_field()),
-        value: r.short_field(),
+        state: StateId(r.next_short_field()),
+        id: LabelId(r.next_short_field()),
+        value: r.next_short_field(),
     };
     let lent = model.lent();
     check_counts(r, &lent);

@@ -5,8 +5,8 @@ use replay_text::text::Reader;
 
 pub fn run(r: &mut Reader) {
     let mut store = [0.0f64; 2112];
-    let x = Real(r.real_field());
-    let xs = r.list_field(&mut store);
+    let x = Real(r.next_real_field());
+    let xs = r.next_list_field(&mut store);
     r.check(Entry::IsValid as usize, Ok(x.is_valid()));
     r.check(Entry::IsZero as usize, Ok(x.is_zero()));
     r.check(Entry::Sum as usize, Ok(Real::sum(xs).0));

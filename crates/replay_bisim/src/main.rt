@@ -24,7 +24,7 @@ fn main(rt: HostRuntime) -> io::Result<()> {
             break;
         }
         // A kind is told by its first eight letters.
-        if r.is_kind(b"bisim_di") {
+        if r.is_next_kind(b"bisim_di") {
             models::run(&mut r, &mut left, &mut right, &mut lists);
             r.count(0);
         }

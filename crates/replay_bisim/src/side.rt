@@ -34,7 +34,7 @@ impl Side {
     // The lists of whole numbers have room for 400 entries together, weights and observations for 200.
     pub fn read(&mut self, r: &mut Reader) {
         let room = self.model.read_within(400, 200, r);
-        self.state = StateId(r.short_field());
+        self.state = StateId(r.next_short_field());
         self.observations.fill_within(room, r);
         self.rooms = asked::read_chain_rooms(r);
     }

@@ -10,9 +10,9 @@ fn expect_store(r: &mut Reader, out: &[u8], written: usize, byte: u8) {
 }
 
 pub fn run(r: &mut Reader, card: &mut [u8], out: &mut [u8]) {
-    let card = r.hex_field(card);
-    let room = r.size_field(out.len());
-    let byte = (r.short_field() % 256) as u8;
+    let card = r.next_hex_field(card);
+    let room = r.next_size_field(out.len());
+    let byte = (r.next_short_field() % 256) as u8;
     let out = lists::front_mut(out, room);
     out.fill(byte);
     let answer = report(card, out);

@@ -19,7 +19,7 @@ fn main(rt: HostRuntime) -> io::Result<()> {
         if r.at_end() {
             break;
         }
-        if r.is_kind(b"card") {
+        if r.is_next_kind(b"card") {
             cards::run(&mut r, &mut card, &mut out);
             r.count(0);
         }

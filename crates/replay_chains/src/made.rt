@@ -13,10 +13,10 @@ fn run_lent(r: &mut Reader, model: &Wlts, rate: f64, observations: &[f64]) {
     let mut probs = [0.0f64; 100];
     let mut seen = [0.0f64; 100];
     let mut store = ChainStore {
-        offsets: r.list_field(&mut offsets),
-        targets: r.list_field(&mut targets),
-        probs: r.list_field(&mut probs),
-        observations: r.list_field(&mut seen),
+        offsets: r.next_list_field(&mut offsets),
+        targets: r.next_list_field(&mut targets),
+        probs: r.next_list_field(&mut probs),
+        observations: r.next_list_field(&mut seen),
     };
     let answer = uniformise(model, rate, observations, &mut store);
     r.expect_answer(answer.map(|chain| chain.entries));
@@ -29,9 +29,9 @@ fn run_lent(r: &mut Reader, model: &Wlts, rate: f64, observations: &[f64]) {
 pub fn run(r: &mut Reader) {
     let mut model = Model::new();
     let mut observations = [0.0f64; 100];
-    model.read(r);
-    let rate = r.real_field();
-    let observations = r.list_field(&mut observations);
+    model.read_next(r);
+    let rate = r.next_real_field();
+    let observations = r.next_list_field(&mut observations);
     run_lent(r, &model.lent(), rate, observations);
     r.count(Entry::Uniformise as usize);
 }

@@ -15,7 +15,7 @@ use std::io;
 
 // A kind is told by its first eight letters.
 fn run_kind(r: &mut Reader) {
-    match r.kind() {
+    match r.next_kind() {
         b"rate" => rates::run(r),
         b"uniformi" => made::run(r),
         b"normalis" => scaled::run(r),

@@ -7,8 +7,8 @@ use replay_text::text::Reader;
 pub fn run(r: &mut Reader) {
     let mut left = Model::new();
     let mut right = Model::new();
-    left.read(r);
-    right.read(r);
+    left.read_next(r);
+    right.read_next(r);
     let answer = common_rate(&left.lent(), &right.lent());
     r.check(Entry::CommonRate as usize, answer);
 }

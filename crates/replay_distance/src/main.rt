@@ -19,7 +19,7 @@ fn main(rt: HostRuntime) -> io::Result<()> {
         if r.at_end() {
             break;
         }
-        if r.is_kind(b"distance") {
+        if r.is_next_kind(b"distance") {
             runs::run(&mut r, &mut lists);
             r.count(0);
         }

@@ -10,8 +10,8 @@ use replay_text::text::Reader;
 pub fn run(r: &mut Reader, lists: &mut Lists) {
     let mut left = Store::new();
     let mut right = Store::new();
-    let left = left.read(r);
-    let right = right.read(r);
+    let left = left.read_together(r);
+    let right = right.read_together(r);
     let goal = asked::read(r);
     let rooms = asked::read_rooms(r);
     let of = Question {

@@ -81,10 +81,10 @@ fn compare(r: &mut Reader, l: Listed, x: Edge, made: Left<()>) {
 pub fn run(r: &mut Reader) {
     let l = nets::read(r);
     let x = Edge {
-        from: r.number_field() as usize,
-        to: r.number_field() as usize,
-        cap: r.real_field(),
-        cost: r.real_field(),
+        from: r.next_number_field() as usize,
+        to: r.next_number_field() as usize,
+        cap: r.next_real_field(),
+        cost: r.next_real_field(),
     };
     let made = lent::add_edge(l.net, x);
     compare(r, l, x, made);

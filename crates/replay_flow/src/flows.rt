@@ -26,8 +26,8 @@ fn same_else(before: &FlowNetwork, after: &FlowNetwork, n: usize) -> bool {
 pub fn run(r: &mut Reader) {
     let l = nets::read(r);
     let ends = Ends {
-        source: r.number_field() as usize,
-        sink: r.number_field() as usize,
+        source: r.next_number_field() as usize,
+        sink: r.next_number_field() as usize,
     };
     let ran = lent::max_flow(l.net, ends);
     r.expect_answer(ran.answer.map(|f| (f.flow, f.phases, f.pushes)));

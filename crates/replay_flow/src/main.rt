@@ -17,7 +17,7 @@ use replay_text::text::Reader;
 use std::io;
 
 fn run_kind(r: &mut Reader) {
-    match r.kind() {
+    match r.next_kind() {
         b"flow" => flows::run(r),
         b"edge" => edges::run(r),
         b"nodes" => nodes::run(r),

@@ -51,9 +51,9 @@ impl Rows {
 
     // The rows of a case, and how many links they list.
     fn read(&mut self, r: &mut Reader) -> usize {
-        let links = r.list_field(&mut self.heads).len();
-        r.list_field(&mut self.caps);
-        r.list_field(&mut self.costs);
+        let links = r.next_list_field(&mut self.heads).len();
+        r.next_list_field(&mut self.caps);
+        r.next_list_field(&mut self.costs);
         links
     }
 
@@ -73,14 +73,14 @@ impl Rows {
 }
 
 pub fn read(r: &mut Reader) -> Listed {
-    let nodes = r.number_field() as usize;
-    let count = r.number_field() as usize;
+    let nodes = r.next_number_field() as usize;
+    let count = r.next_number_field() as usize;
     let mut rows = Rows::new();
     let n = rows.read(r);
     let mut starts = [0u32; 67];
     let mut list = [0u32; 2176];
-    let s = r.list_field(&mut starts).len();
-    let o = r.list_field(&mut list).len();
+    let s = r.next_list_field(&mut starts).len();
+    let o = r.next_list_field(&mut list).len();
     let links = rows.pack();
     Listed {
         net: FlowNetwork {

@@ -21,7 +21,7 @@ fn is_blank(net: &FlowNetwork) -> bool {
 }
 
 pub fn run(r: &mut Reader) {
-    let nodes = r.number_field() as usize;
+    let nodes = r.next_number_field() as usize;
     let made = FlowNetwork::new(nodes);
     r.expect_answer(made.map(|net| net.nodes));
     if let Ok(net) = made {

@@ -8,11 +8,11 @@ pub fn read(r: &mut Reader) -> Goal
     ensures { Lasts r.old r.new }
 {
     Goal {
-        gamma: r.real_field(),
+        gamma: r.next_real_field(),
         options: MetricOptions {
-            tolerance: r.real_field(),
-            max_rounds: r.number_field() as usize,
-            top: r.number_field() as usize,
+            tolerance: r.next_real_field(),
+            max_rounds: r.next_number_field() as usize,
+            top: r.next_number_field() as usize,
         },
     }
 }
@@ -42,7 +42,7 @@ fn counts(r: &mut Reader) -> [usize; 6]
     ensures { Lasts r.old r.new }
 {
     let mut counts = [0u32; 6];
-    r.list_field(&mut counts);
+    r.next_list_field(&mut counts);
     counts.map(|n| n as usize)
 }
 

@@ -15,9 +15,9 @@ fn read_shape(r: &mut Reader) -> ChainShape
     ensures { Lasts r.old r.new }
 {
     ChainShape {
-        states: r.number_field() as usize,
-        entries: r.number_field() as usize,
-        initial: StateId(r.short_field()),
+        states: r.next_number_field() as usize,
+        entries: r.next_number_field() as usize,
+        initial: StateId(r.next_short_field()),
     }
 }
 
@@ -44,8 +44,31 @@ impl Store {
         }
     }
 
-    // The lists of whole numbers have room for 200 entries together, and so have the others.
+    // Each list has room for 200 entries, and each value is a whole word.
     pub fn read<'a>(&'a mut self, r: &mut Reader) -> ChainMut<'a>
+        ensures { Lasts r.old r.new }
+    {
+        let Store {
+            offsets,
+            targets,
+            probs,
+            seen,
+        } = self;
+        ChainMut {
+            shape: ChainShape {
+                states: r.number_field() as usize,
+                entries: r.number_field() as usize,
+                initial: StateId(r.short_field()),
+            },
+            offsets: r.list_field(offsets),
+            targets: r.list_field(targets),
+            probs: r.list_field(probs),
+            observations: r.list_field(seen),
+        }
+    }
+
+    // The same where a value need not be a whole word, with room for 200 entries of the lists of whole numbers together, and of the others.
+    pub fn read_together<'a>(&'a mut self, r: &mut Reader) -> ChainMut<'a>
         ensures room { (length result.offsets.now + length result.targets.now ≤ 200) × (length result.probs.now + length result.observations.now ≤ 200) }
         ensures lasts { Lasts r.old r.new }
     {
@@ -56,10 +79,10 @@ impl Store {
             seen,
         } = self;
         let shape = read_shape(r);
-        let offsets = r.list_field(offsets);
-        let targets = r.list_field(front_mut(targets, 200 - offsets.len()));
-        let probs = r.list_field(probs);
-        let observations = r.list_field(front_mut(seen, 200 - probs.len()));
+        let offsets = r.next_list_field(offsets);
+        let targets = r.next_list_field(front_mut(targets, 200 - offsets.len()));
+        let probs = r.next_list_field(probs);
+        let observations = r.next_list_field(front_mut(seen, 200 - probs.len()));
         ChainMut {
             shape,
             offsets,
@@ -69,7 +92,7 @@ impl Store {
         }
     }
 
-    // The same with room for 100 entries of each list.
+    // As `read_together`, with room for 100 entries of each list.
     pub fn read_apart<'a>(&'a mut self, r: &mut Reader) -> ChainMut<'a>
         ensures room { (length result.offsets.now ≤ 100) × (length result.targets.now ≤ 100) × (length result.probs.now ≤ 100) × (length result.observations.now ≤ 100) }
         ensures lasts { Lasts r.old r.new }
@@ -82,10 +105,10 @@ impl Store {
         } = self;
         ChainMut {
             shape: read_shape(r),
-            offsets: r.list_field(&mut offsets[..100]),
-            targets: r.list_field(&mut targets[..100]),
-            probs: r.list_field(&mut probs[..100]),
-            observations: r.list_field(&mut seen[..100]),
+            offsets: r.next_list_field(&mut offsets[..100]),
+            targets: r.next_list_field(&mut targets[..100]),
+            probs: r.next_list_field(&mut probs[..100]),
+            observations: r.next_list_field(&mut seen[..100]),
         }
     }
 

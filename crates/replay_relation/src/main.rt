@@ -13,7 +13,7 @@ use replay_text::text::Reader;
 use std::io;
 
 fn run_kind(r: &mut Reader, bytes: &mut [u8]) {
-    match r.kind() {
+    match r.next_kind() {
         b"relation" => relations::run(r, bytes),
         b"related" => relations::run_related(r, bytes),
         _ => r.unknown(),

@@ -47,16 +47,16 @@ fn run_lent(r: &mut Reader, bytes: &mut [u8], left: Wlts, right: Wlts) {
     let sides = Sides {
         left: Side {
             model: left,
-            classes: r.list_field(&mut left_classes),
+            classes: r.next_list_field(&mut left_classes),
         },
         right: Side {
             model: right,
-            classes: r.list_field(&mut right_classes),
+            classes: r.next_list_field(&mut right_classes),
         },
     };
     let tolerances = Tolerances {
-        epsilon: r.real_field(),
-        rho: r.real_field(),
+        epsilon: r.next_real_field(),
+        rho: r.next_real_field(),
     };
     let l = store::read(r, &mut listed, bytes.len());
     let x = Asked {
@@ -80,19 +80,19 @@ fn run_lent(r: &mut Reader, bytes: &mut [u8], left: Wlts, right: Wlts) {
 pub fn run(r: &mut Reader, bytes: &mut [u8]) {
     let mut left = Model::new();
     let mut right = Model::new();
-    left.read(r);
-    right.read(r);
+    left.read_next(r);
+    right.read_next(r);
     run_lent(r, bytes, left.lent(), right.lent());
 }
 
 // Whether the bytes, as they are handed in, hold s with t.
 pub fn run_related(r: &mut Reader, bytes: &mut [u8]) {
     let mut listed = [0u8; 512];
-    let left = r.number_field() as usize;
-    let right = r.number_field() as usize;
+    let left = r.next_number_field() as usize;
+    let right = r.next_number_field() as usize;
     let l = store::read(r, &mut listed, bytes.len());
-    let s = StateId(r.short_field());
-    let t = StateId(r.short_field());
+    let s = StateId(r.next_short_field());
+    let t = StateId(r.next_short_field());
     let lent = lists::front_mut(bytes, l.room);
     store::fill(lent, l.listed);
     r.expect_answer(related(left, right, lent, s, t));

@@ -12,8 +12,8 @@ pub struct Lent<'a> {
 // The bytes listed, to the front of `listed`; at most `most` are lent.
 pub fn read<'a>(r: &mut Reader, listed: &'a mut [u8], most: usize) -> Lent<'a> {
     Lent {
-        room: r.size_field(most),
-        listed: r.list_field(listed),
+        room: r.next_size_field(most),
+        listed: r.next_list_field(listed),
     }
 }
 

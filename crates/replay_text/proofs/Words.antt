@@ -1,5 +1,5 @@
 -- A word as it is found, and digits, one by one.
-use Rattle.std.proofs.Common.{◌≡◌, refl, ap, sym, ◌∙◌, ℕ, zero, suc, set, min, ◌++◌, ◌+◌, ◌-◌, ◌<◌, ◌≤◌, get_or, List, length, take, drop, Option, Some, None, unwrap_or, cond, not, ltb}
+use Rattle.std.proofs.Common.{◌≡◌, refl, ap, sym, ◌∙◌, ℕ, zero, suc, set, min, ◌++◌, ◌+◌, ◌-◌, ◌<◌, ◌≤◌, get_or, List, [], ◌∷◌, length, take, drop, Option, Some, None, unwrap_or, cond, not, ltb}
 use Rattle.std.proofs.lemmas.List.{drop_more, length-take, append-nil}
 use lib.ListN.{drop_of_length-le}
 use lib.Seq.{take-length, drop-length, take-append_seam}
@@ -9,23 +9,37 @@ use Rattle.std.specs.Prelude.{IfSome, IfNone}
 use Rattle.std.specs.List.{position_or_len}
 use Rattle.std.proofs.lemmas.List.Sums.{prefix_len-le-length}
 use native.Mathlib.Omega.{arith}
-use Rattle.replay_text.specs.Words.{in_word, word_size, digit_of, grown, digits_from}
-use Rattle.replay_text.specs.Words.{values, behind, past_whole, short, field_size, listed, past_list, room_left, within_at, list_within}
+use Rattle.replay_text.specs.Words.{in_word, word_size, digit_of, grown, digits_from, next_digits_from}
+use Rattle.replay_text.specs.Words.{values, behind, past_whole, next_short, next_field_size, next_listed, past_next_list, room_left, within_at, list_within}
 use Rattle.numbers.proofs.Over.{over, over_next}
 use Rattle.replay_text.proofs.Cuts.{placed}
 
-pub digits_next : (base x y : ℕ) (o : Option ℕ) (l : List ℕ) (i : ℕ) → i < length l → o ≡ grown base (Some x) (digit_of base (get_or l i 0)) → IfSome o (λ z. y ≡ z) → IfNone o (y ≡ 0) → digits_from base y (drop (i + 1) l) ≡ digits_from base x (drop i l)
+pub digits_stop : (base : ℕ) (l : List ℕ) → digits_from base None l ≡ None
 unfolding digits_from
-digits_next base x y o l i h e some none =
-    ap (λ (z : ℕ). digits_from base z (drop (i + 1) l)) (found o some none ∙ ap (λ (p : Option ℕ). unwrap_or p 0) e) ∙ sym (ap (digits_from base x) (drop_more l i 0 h))
+digits_stop base [] = refl
+digits_stop base (b ∷ l) = digits_stop base l
+
+pub digits_next : (base : ℕ) (x y : Option ℕ) (l : List ℕ) (i : ℕ) → i < length l → y ≡ grown base x (digit_of base (get_or l i 0)) → digits_from base y (drop (i + 1) l) ≡ digits_from base x (drop i l)
+unfolding digits_from
+digits_next base x y l i h e = ap (λ (o : Option ℕ). digits_from base o (drop (i + 1) l)) e ∙ sym (ap (digits_from base x) (drop_more l i 0 h))
+
+pub digits_end : (base : ℕ) (x : Option ℕ) (l : List ℕ) (i : ℕ) → length l ≤ i → digits_from base x (drop i l) ≡ x
+unfolding digits_from
+digits_end base x l i h = ap (digits_from base x) (drop_of_length-le l h)
+
+-- the same where a number begins anew behind what is no digit
+pub next_digits_on : (base x y : ℕ) (o : Option ℕ) (l : List ℕ) (i : ℕ) → i < length l → o ≡ grown base (Some x) (digit_of base (get_or l i 0)) → IfSome o (λ z. y ≡ z) → IfNone o (y ≡ 0) → next_digits_from base y (drop (i + 1) l) ≡ next_digits_from base x (drop i l)
+unfolding next_digits_from
+next_digits_on base x y o l i h e some none =
+    ap (λ (z : ℕ). next_digits_from base z (drop (i + 1) l)) (found o some none ∙ ap (λ (p : Option ℕ). unwrap_or p 0) e) ∙ sym (ap (next_digits_from base x) (drop_more l i 0 h))
   where
     found : (p : Option ℕ) → IfSome p (λ z. y ≡ z) → IfNone p (y ≡ 0) → y ≡ unwrap_or p 0
     found (Some z) f g = f
     found None f g = g
 
-pub digits_end : (base x : ℕ) (l : List ℕ) (i : ℕ) → length l ≤ i → digits_from base x (drop i l) ≡ x
-unfolding digits_from
-digits_end base x l i h = ap (digits_from base x) (drop_of_length-le l h)
+pub next_digits_end : (base x : ℕ) (l : List ℕ) (i : ℕ) → length l ≤ i → next_digits_from base x (drop i l) ≡ x
+unfolding next_digits_from
+next_digits_end base x l i h = ap (next_digits_from base x) (drop_of_length-le l h)
 
 -- what `position` of the first byte that is in no word leads to
 module _ (t : List ℕ) where
@@ -79,12 +93,12 @@ pub first_within : (room : ℕ) (t u : List ℕ) → u ≡ t → (room ≡ room_
 unfolding room_left within_at
 first_within room t u e = (refl, e)
 
-pub next_within : (k room left last : ℕ) (t u v : List ℕ) → left ≡ room_left k room t → u ≡ within_at k room t → last ≡ left - field_size (min left 2112) u → v ≡ past_list past_whole (min left 2112) u
+pub next_within : (k room left last : ℕ) (t u v : List ℕ) → left ≡ room_left k room t → u ≡ within_at k room t → last ≡ left - next_field_size (min left 2112) u → v ≡ past_next_list past_whole (min left 2112) u
     → (last ≡ room_left (suc k) room t) × (v ≡ within_at (suc k) room t)
 unfolding room_left within_at
 next_within zero room left last t u v e f l p =
-    (l ∙ ap (λ (m : ℕ). m - field_size (min m 2112) u) e ∙ ap (λ (w : List ℕ). room - field_size (min room 2112) w) f, p ∙ ap (λ (m : ℕ). past_list past_whole (min m 2112) u) e ∙ ap (past_list past_whole (min room 2112)) f)
-next_within (suc k) room left last t u v e f l p = next_within k (room - field_size (min room 2112) t) left last (past_list past_whole (min room 2112) t) u v e f l p
+    (l ∙ ap (λ (m : ℕ). m - next_field_size (min m 2112) u) e ∙ ap (λ (w : List ℕ). room - next_field_size (min room 2112) w) f, p ∙ ap (λ (m : ℕ). past_next_list past_whole (min m 2112) u) e ∙ ap (past_next_list past_whole (min room 2112)) f)
+next_within (suc k) room left last t u v e f l p = next_within k (room - next_field_size (min room 2112) t) left last (past_next_list past_whole (min room 2112) t) u v e f l p
 
-pub same_within : (k room left : ℕ) (t u : List ℕ) → left ≡ room_left k room t → u ≡ within_at k room t → listed short past_whole (min left 2112) u ≡ list_within k room t
-same_within k room left t u e f = ap (λ (m : ℕ). listed short past_whole (min m 2112) u) e ∙ ap (listed short past_whole (min (room_left k room t) 2112)) f
+pub same_within : (k room left : ℕ) (t u : List ℕ) → left ≡ room_left k room t → u ≡ within_at k room t → next_listed next_short past_whole (min left 2112) u ≡ list_within k room t
+same_within k room left t u e f = ap (λ (m : ℕ). next_listed next_short past_whole (min m 2112) u) e ∙ ap (next_listed next_short past_whole (min (room_left k room t) 2112)) f

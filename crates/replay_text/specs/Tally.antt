@@ -1,5 +1,5 @@
 -- How answers are counted.
-use Rattle.std.specs.Prelude.{ℕ, ◌+◌, ◌-◌, ◌^◌, min, ◌≡◌, Bool, true, false, cond, ◌&&◌, not, ltb, get_or, set, replicate}
+use Rattle.std.specs.Prelude.{ℕ, ◌+◌, ◌-◌, ◌^◌, min, ◌≡◌, Bool, true, false, cond, ◌&&◌, not, eqb, ltb, length, get_or, set, replicate}
 use Rattle.replay_text.specs.Cases.{in_line}
 use Rattle.replay_text.specs.declared.text.Reader.{Reader}
 use Rattle.replay_text.specs.declared.tally.Tally.{Tally}
@@ -45,6 +45,10 @@ Ready r s = (s.faulty ≡ r.faulty) × (s.differs ≡ false)
 abbrev pub Counted : Reader → Reader → Type 0
 Counted r s = (r.faulty ≡ true → s.faulty ≡ true) × (s.differs ≡ false)
 
--- the counts once a case has ended: where it is as laid out so far, more text in its line is one difference
+-- the counts once a case has ended: where it is as laid out so far, more text is one difference
 abbrev pub closed : Reader → Counts
-closed r = cond (not r.faulty && in_line r.rest.now) (other_tallied r.counts) r.counts
+closed r = cond (not r.faulty && not (eqb (length r.rest.now) 0)) (other_tallied r.counts) r.counts
+
+-- where other cases stand behind it, more text in its line is one
+abbrev pub closed_in_line : Reader → Counts
+closed_in_line r = cond (not r.faulty && in_line r.rest.now) (other_tallied r.counts) r.counts

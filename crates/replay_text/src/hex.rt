@@ -1,7 +1,7 @@
 // Bytes in the text, written with two hexadecimal digits for each: a name, a count of bytes, and one word of digits; no word where there are none.
 ghost use Rattle.std.specs.Prelude.{◌≡◌, ◌≤◌, ◌<◌, length};
 ghost use Rattle.replay_text.specs.Reading.{Lasts};
-ghost use Rattle.replay_text.specs.Words.{hex, past_hex, pair, past_pair, closed, bytes, past_bytes};
+ghost use Rattle.replay_text.specs.Words.{hex, past_hex, pair, past_pair, closed, bytes, past_bytes, next_bytes, past_next_bytes};
 
 use crate::lists;
 use crate::text::{Reader, digit};
@@ -44,13 +44,28 @@ impl Reader<'_> {
         }
     }
 
-    // Bytes, which go to the front of `out`: that front.
+    // Bytes, which go to the front of `out`: that front. How many there are is a whole word.
     pub fn hex_field<'b>(&mut self, out: &'b mut [u8]) -> &'b mut [u8]
         ensures read { (result.now ≡ bytes (length out.old) self.old.rest.now) × (self.new.rest.now ≡ past_bytes (length out.old) self.old.rest.now) }
         ensures room { length result.now ≤ length out.old }
         ensures lasts { Lasts self.old self.new }
     {
         let n = self.size_field(out.len());
+        let list = lists::front_mut(out, n);
+        for entry in list.iter_mut() {
+            *entry = self.pair();
+        }
+        self.closed(n);
+        list
+    }
+
+    // The same where it need not be.
+    pub fn next_hex_field<'b>(&mut self, out: &'b mut [u8]) -> &'b mut [u8]
+        ensures read { (result.now ≡ next_bytes (length out.old) self.old.rest.now) × (self.new.rest.now ≡ past_next_bytes (length out.old) self.old.rest.now) }
+        ensures room { length result.now ≤ length out.old }
+        ensures lasts { Lasts self.old self.new }
+    {
+        let n = self.next_size_field(out.len());
         let list = lists::front_mut(out, n);
         for byte in list.iter_mut() {
             *byte = self.pair();

@@ -1,8 +1,8 @@
 // The text of cases: words and numbers between single blanks and line feeds.
 ghost use Rattle.std.specs.Prelude.{◌≡◌, true, false, ◌<◌, ◌&&◌, not, cond, eqb, length, drop, IfSome, IfNone, Some};
-ghost use Rattle.replay_text.specs.Words.{in_word, digit_of, grown, digits, float_of, past, word_size, first_word, past_word, begins_absent, whole, past_whole, short, real, past_bits, past_real};
+ghost use Rattle.replay_text.specs.Words.{in_word, digit_of, grown, next_digits, float_of, past, word_size, first_word, past_word, begins_absent, next_whole, past_whole, next_short, next_real, past_bits, past_real};
 ghost use Rattle.replay_text.specs.Reading.{Placed, Kept, Lasts, same};
-ghost use Rattle.replay_text.specs.Tally.{Ready, agrees as agreed, tallied, other_tallied, closed};
+ghost use Rattle.replay_text.specs.Tally.{Ready, agrees as agreed, tallied, other_tallied, closed_in_line};
 
 use crate::lists::front;
 use crate::tally::Counts;
@@ -42,7 +42,7 @@ pub(crate) fn digit(b: u8, base: u64) -> Option<u64>
 }
 
 // A number with a digit more; none where it is no digit, or the number has over 64 bits.
-fn with_digit(x: u64, b: u8, base: u64) -> Option<u64>
+pub(crate) fn with_digit(x: u64, b: u8, base: u64) -> Option<u64>
     ensures { result ≡ grown base (Some x) (digit_of base b) }
 {
     x.checked_mul(base)?.checked_add(digit(b, base)?)
@@ -55,7 +55,7 @@ const INFINITY: u64 = 0x7ff0_0000_0000_0000;
 
 // The number that has these bits.
 #[tactic(auto, unfolding(crate::specs::Words::float_of))]
-fn of_bits(bits: u64) -> f64
+pub(crate) fn of_bits(bits: u64) -> f64
     ensures { result ≡ float_of bits }
 {
     if bits % SIGN > INFINITY {
@@ -182,10 +182,12 @@ impl<'a> Reader<'a> {
         }
     }
 
+    // ---- a value is what a text goes on with, as far as it can be read
+
     // The number that the bytes of a word make. A byte that is no digit, or a number of over 64 bits, is a fault, and the number begins anew behind it.
     // Stays: `u64::from_str_radix` takes a sign and capitals too, with which no number of a case is written, and a text in place of bytes.
     fn digits(&mut self, word: &[u8], base: u64) -> u64
-        ensures read { (result ≡ digits base word.now) × (self.new.rest ≡ self.old.rest) }
+        ensures read { (result ≡ next_digits base word.now) × (self.new.rest ≡ self.old.rest) }
         ensures lasts { Lasts self.old self.new }
     {
         let mut x = 0;
@@ -202,9 +204,9 @@ impl<'a> Reader<'a> {
     }
 
     // A whole number, or `-`, which is passed alone.
-    #[tactic(auto, unfolding(crate::specs::Words::whole, crate::specs::Words::past_whole))]
-    pub(crate) fn number(&mut self) -> u64
-        ensures read { (result ≡ whole self.old.rest.now) × (self.new.rest.now ≡ past_whole self.old.rest.now) }
+    #[tactic(auto, unfolding(crate::specs::Words::next_whole, crate::specs::Words::past_whole))]
+    pub(crate) fn next_number(&mut self) -> u64
+        ensures read { (result ≡ next_whole self.old.rest.now) × (self.new.rest.now ≡ past_whole self.old.rest.now) }
         ensures lasts { Lasts self.old self.new }
     {
         if self.at_absent() {
@@ -230,9 +232,9 @@ impl<'a> Reader<'a> {
     }
 
     // The 16 hexadecimal digits of a bit pattern.
-    #[tactic(auto, unfolding(crate::specs::Words::real))]
-    pub(crate) fn real(&mut self) -> f64
-        ensures read { (result ≡ real self.old.rest.now) × (self.new.rest.now ≡ past_real self.old.rest.now) }
+    #[tactic(auto, unfolding(crate::specs::Words::next_real))]
+    pub(crate) fn next_real(&mut self) -> f64
+        ensures read { (result ≡ next_real self.old.rest.now) × (self.new.rest.now ≡ past_real self.old.rest.now) }
         ensures lasts { Lasts self.old self.new }
     {
         let word = self.letters();
@@ -242,38 +244,39 @@ impl<'a> Reader<'a> {
     }
 
     // A number of 32 bits: anything else is a fault.
-    #[tactic(auto, unfolding(crate::specs::Words::short))]
-    pub(crate) fn short(&mut self) -> u32
-        ensures read { (result ≡ short self.old.rest.now) × (self.new.rest.now ≡ past_whole self.old.rest.now) }
+    #[tactic(auto, unfolding(crate::specs::Words::next_short))]
+    pub(crate) fn next_short(&mut self) -> u32
+        ensures read { (result ≡ next_short self.old.rest.now) × (self.new.rest.now ≡ past_whole self.old.rest.now) }
         ensures lasts { Lasts self.old self.new }
     {
-        let x = self.number();
+        let x = self.next_number();
         self.found(u32::try_from(x).ok())
     }
 
-    // A field is a name, which need not be looked at, and what follows it.
-    pub fn number_field(&mut self) -> u64
-        ensures read { (result ≡ whole (past_word self.old.rest.now)) × (self.new.rest.now ≡ past_whole (past_word self.old.rest.now)) }
+    // ---- fields: a name, which need not be looked at, and what follows it
+
+    pub fn next_number_field(&mut self) -> u64
+        ensures read { (result ≡ next_whole (past_word self.old.rest.now)) × (self.new.rest.now ≡ past_whole (past_word self.old.rest.now)) }
         ensures lasts { Lasts self.old self.new }
     {
         self.name();
-        self.number()
+        self.next_number()
     }
 
-    pub fn short_field(&mut self) -> u32
-        ensures read { (result ≡ short (past_word self.old.rest.now)) × (self.new.rest.now ≡ past_whole (past_word self.old.rest.now)) }
+    pub fn next_short_field(&mut self) -> u32
+        ensures read { (result ≡ next_short (past_word self.old.rest.now)) × (self.new.rest.now ≡ past_whole (past_word self.old.rest.now)) }
         ensures lasts { Lasts self.old self.new }
     {
         self.name();
-        self.short()
+        self.next_short()
     }
 
-    pub fn real_field(&mut self) -> f64
-        ensures read { (result ≡ real (past_word self.old.rest.now)) × (self.new.rest.now ≡ past_real (past_word self.old.rest.now)) }
+    pub fn next_real_field(&mut self) -> f64
+        ensures read { (result ≡ next_real (past_word self.old.rest.now)) × (self.new.rest.now ≡ past_real (past_word self.old.rest.now)) }
         ensures lasts { Lasts self.old self.new }
     {
         self.name();
-        self.real()
+        self.next_real()
     }
 
     // ---- what is stored is compared with what came
@@ -309,9 +312,9 @@ impl<'a> Reader<'a> {
         self.settle();
     }
 
-    // The counts once a case has ended: where it is as laid out so far, more text in its line is one difference.
-    pub fn end(&self) -> Counts
-        ensures { result ≡ closed self.now }
+    // The counts once a case has ended behind which others stand: where it is as laid out so far, more text in its line is one difference.
+    pub fn end_in_line(&self) -> Counts
+        ensures { result ≡ closed_in_line self.now }
     {
         let mut counts = self.counts;
         if !self.faulty && self.within_line() {

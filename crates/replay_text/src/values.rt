@@ -2,7 +2,7 @@
 ghost use Rattle.std.specs.Prelude.{◌≡◌, ℕ, List, Some, false};
 ghost use Rattle.numbers.specs.Real.{nought};
 ghost use Rattle.replay_text.specs.Reading.{Lasts};
-ghost use Rattle.replay_text.specs.Words.{past_whole, short, byte, real, past_real};
+ghost use Rattle.replay_text.specs.Words.{first_word, past_word, short, byte, real, next_short, next_byte, next_real, past_whole, past_real};
 
 use crate::text;
 use crate::text::Reader;
@@ -25,13 +25,24 @@ pub trait Value: Sized {
 
 // A value that lists are made of.
 pub trait Entry: Value + Copy {
+    // The one that a word says.
+    ghost said: { List ℕ → Self };
+
+    // One from the text.
+    fn read(r: &mut Reader) -> Self
+        ensures read { (result ≡ said (first_word r.old.rest.now)) × (r.new.rest.now ≡ past_word r.old.rest.now) }
+        ensures lasts { Lasts r.old r.new };
+}
+
+// The same where a value need not be a whole word.
+pub trait NextEntry: Value + Copy {
     // The one that a text begins with, and what stands behind it.
     ghost said: { List ℕ → Self };
 
     ghost past: { List ℕ → List ℕ };
 
     // One from the text.
-    fn read(r: &mut Reader) -> Self
+    fn read_next(r: &mut Reader) -> Self
         ensures read { (result ≡ said r.old.rest.now) × (r.new.rest.now ≡ past r.old.rest.now) }
         ensures lasts { Lasts r.old r.new };
 }
@@ -56,7 +67,7 @@ impl Value for u64 {
     }
 
     fn expect(self, r: &mut Reader) {
-        let stored = r.number();
+        let stored = r.next_number();
         r.compared(stored == self);
     }
 }
@@ -118,7 +129,7 @@ impl Value for f64 {
     }
 
     fn expect(self, r: &mut Reader) {
-        let stored = r.real();
+        let stored = r.next_real();
         r.compared(text::alike(stored, self));
     }
 }
@@ -193,32 +204,58 @@ impl<A: Value, B: Value, C: Value> Value for (A, B, C) {
 impl Entry for u32 {
     ghost said = { short };
 
-    ghost past = { past_whole };
-
     fn read(r: &mut Reader) -> u32 {
         r.short()
     }
 }
 
-// A number of over 8 bits is 0.
 impl Entry for u8 {
     ghost said = { byte };
-
-    ghost past = { past_whole };
 
     #[tactic(auto, unfolding(crate::specs::Words::byte))]
     fn read(r: &mut Reader) -> u8 {
         let x = r.short();
-        u8::try_from(x).unwrap_or(0)
+        r.found(u8::try_from(x).ok())
     }
 }
 
 impl Entry for f64 {
     ghost said = { real };
 
-    ghost past = { past_real };
-
     fn read(r: &mut Reader) -> f64 {
         r.real()
+    }
+}
+
+impl NextEntry for u32 {
+    ghost said = { next_short };
+
+    ghost past = { past_whole };
+
+    fn read_next(r: &mut Reader) -> u32 {
+        r.next_short()
+    }
+}
+
+// A number of over 8 bits is 0.
+impl NextEntry for u8 {
+    ghost said = { next_byte };
+
+    ghost past = { past_whole };
+
+    #[tactic(auto, unfolding(crate::specs::Words::next_byte))]
+    fn read_next(r: &mut Reader) -> u8 {
+        let x = r.next_short();
+        u8::try_from(x).unwrap_or(0)
+    }
+}
+
+impl NextEntry for f64 {
+    ghost said = { next_real };
+
+    ghost past = { past_real };
+
+    fn read_next(r: &mut Reader) -> f64 {
+        r.next_real()
     }
 }

@@ -18,7 +18,7 @@ fn main(rt: HostRuntime) -> io::Result<()> {
             break;
         }
         // A kind is told by its first eight letters.
-        if r.is_kind(b"transpor") {
+        if r.is_next_kind(b"transpor") {
             plans::run(&mut r);
             r.count(0);
         }

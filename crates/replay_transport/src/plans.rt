@@ -10,9 +10,9 @@ fn planned(r: &mut Reader, of: &Masses) {
     let mut columns = [0u32; 1100];
     let mut masses = [0.0f64; 1100];
     let mut plan = PlanRows {
-        rows: r.list_field(&mut rows),
-        columns: r.list_field(&mut columns),
-        masses: r.list_field(&mut masses),
+        rows: r.next_list_field(&mut rows),
+        columns: r.next_list_field(&mut columns),
+        masses: r.next_list_field(&mut masses),
     };
     let answer = entry::transport(of, &mut plan);
     r.expect_answer(answer.map(|p| (p.total, p.cells)));
@@ -26,9 +26,9 @@ pub fn run(r: &mut Reader) {
     let mut right = [0.0f64; 100];
     let mut costs = [0.0f64; 1100];
     let of = Masses {
-        left: r.list_field(&mut left),
-        right: r.list_field(&mut right),
-        costs: r.list_field(&mut costs),
+        left: r.next_list_field(&mut left),
+        right: r.next_list_field(&mut right),
+        costs: r.next_list_field(&mut costs),
     };
     planned(r, &of);
 }
